@@ -344,8 +344,8 @@ def many_waiting() -> None:
     source = reading.Source("ob0_frame")
     crate = mutants.Crate("ob0_frame", edits.edits_of("ob0_frame", source), source)
     edit, other = (next(it for it in crate.chosen if word in it.name) for word in ("goes_on_after_bad_head", "takes_a_longer_head"))
-    waits = "fn ob0_frame::framer::Framer::feed: not proved; it calls `ob0_frame::head::stage_of`, which is not proved"
-    refused_stage = "fn ob0_frame::head::stage_of: no proof: `search` did not prove it"
+    waits = "fn ob0_frame::framer::Framer::feed: not proved; it calls `ob0_frame::head::message_stage`, which is not proved"
+    refused_stage = "fn ob0_frame::head::message_stage: no proof: `search` did not prove it"
 
     def taken(goal: str, how: int = mutants.AMONG, chosen: Tuple[edits.Edit, ...] = (edit, other)) -> Tuple[Optional[str], List[int]]:
         crate.running = 1
@@ -364,7 +364,7 @@ def many_waiting() -> None:
 def groups() -> None:
     source = reading.Source("ob0_frame")
     crate = mutants.Crate("ob0_frame", edits.edits_of("ob0_frame", source), source)
-    holds("head::stage_of" in crate.below["framer::Framer::feed"], "what a function stands on")
+    holds("head::message_stage" in crate.below["framer::Framer::feed"], "what a function stands on")
     for is_apart in (False, True):
         found = crate.groups(crate.chosen, is_apart)
         same(sorted(it.path for group in found for it in group), sorted(it.path for it in crate.chosen), "each once")
@@ -387,7 +387,7 @@ def asked_for_all() -> None:
 
     os.makedirs(build.ROOMS, exist_ok=True)
     said = mutants.check("ob0_frame", [edit], Named(os.path.join(build.ROOMS, "libraries-of-a-test")), mutants.OF_RUN)
-    same((asked, said.text), ([["head::stage_of"], []], "logic=not-proved\n"), "what is asked for")
+    same((asked, said.text), ([["head::message_stage"], []], "logic=not-proved\n"), "what is asked for")
 
 
 @test("mutants: the libraries are those of which `rt ci` says that they are proved")

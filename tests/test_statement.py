@@ -198,7 +198,7 @@ def tie_is_there() -> None:
     for it in ("pub fn serve<", "record ServedExchange ", "record HoldsOfExchange ", "record AppliesAnswer ", "May :", "Exchanges :"):
         holds(it in first, f"docs/STATEMENT.md hasn't {it!r}")
     rest = "\n".join(text for _, text in [*fenced("agda", second()), *fenced("rust", second())])
-    for it in ("MayServe :", "pub fn play_in(", "record Plays ", "PlaysBefore :", "record ConnectionStep ", "record Served ", "Serves :", "record Headline "):
+    for it in ("MayServe :", "pub fn play_in(", "record Plays ", "PlaysPrefix :", "record ConnectionStep ", "record Served ", "Serves :", "record Headline "):
         holds(it in rest, f"the second page hasn't {it!r}")
 
 
@@ -296,7 +296,7 @@ def closed_page() -> None:
     counted = Counted()
     rows_of = re.findall(r"^\| `([^`|]+)` \| .* \| `(\w+)` of `(\w+)` \|$", second(), re.M)
     closed = {counted.home(crate, file, name.split(".")[-1]) for name, file, crate in rows_of}
-    roots = [("ob0_world", "Worlds", name) for name in ("Plays", "PlaysBefore")]
+    roots = [("ob0_world", "Worlds", name) for name in ("Plays", "PlaysPrefix")]
     roots += [("ob0_session", "Serving", "Serves"), ("ob0_world_determined", "Exchanged", "EveryExchangeIsServed")]
     needed = counted.needed(roots, closed)
     holds(len(needed) > 600, f"hardly any definition is needed: {len(needed)}")

@@ -3,15 +3,15 @@ use Rattle.std.proofs.Common.{◌≡◌, ◌≤◌, ◌+◌, ◌-◌, ℕ, List,
 use Rattle.std.proofs.lemmas.List.{drop-drop, length-map, take-take}
 use Rattle.ob0_scan.specs.declared.lexeme.Token.{Token}
 use Rattle.ob0_scan.specs.declared.tokens.SameTokens.{SameTokens}
-use Rattle.ob0_scan.specs.Reused.{kinds, valueless, words_in}
+use Rattle.ob0_scan.specs.Reused.{kinds, kind_without_value, words_of_tokens}
 use Rattle.ob0_scan.specs.SameKinds.{HasSameTokens, HasSameWords}
-use Rattle.ob0_scan.specs.Scanned.{IsScan, Scanned}
+use Rattle.ob0_scan.specs.TextWithTokens.{IsScan, TextWithTokens}
 use Rattle.ob0_tree.specs.declared.tree.ModuleTree.{ModuleTree}
-use Rattle.ob0_scope_table.specs.BodyPlaces.{body_place, tree_in}
+use Rattle.ob0_scope_table.specs.BodyPlaces.{body_place_around, module_tree_of}
 use Rattle.ob0_scope_table.specs.declared.one_body.BodyPlace.{BodyPlace}
 use Rattle.ob0_scope_table.specs.declared.resolved.Bindings.{Bindings}
 use Rattle.ob0_types.specs.declared.checked.ModuleTypes.{ModuleTypes}
-use Rattle.ob0_analysis.specs.LastModule.{HadModule, IsStillSame, WasLast}
+use Rattle.ob0_analysis.specs.LastModule.{IsEarlierModule, WidensDifference, IsLastModuleOf}
 use Rattle.ob0_analysis.specs.declared.last_module.LastModule.{LastModule}
 
 less_front : {A : Type 0} (n m : ℕ) (xs ys : List A) → n ≤ m → take m xs ≡ take m ys → take n xs ≡ take n ys
@@ -22,7 +22,7 @@ less_back i j d n m xs ys p q e =
     ap (λ k. drop k xs) (sym p) ∙ (sym (drop-drop d i xs) ∙ (ap (drop d) e ∙ (drop-drop d j ys ∙ ap (λ k. drop k ys) q)))
 
 count_kinds : (ts : List Token) → length (kinds ts) ≡ length ts
-count_kinds ts = length-map ts (λ (t : Token). valueless t.kind)
+count_kinds ts = length-map ts (λ (t : Token). kind_without_value t.kind)
 
 -- Both texts have the same number of tokens after the range of differences.
 as_many : (s : SameTokens) (old new : List Token) → HasSameTokens s old new → length new + s.old_suffix ≡ length old + s.new_suffix
@@ -31,7 +31,7 @@ as_many s old new h =
     sym (length-drop s.new_suffix (kinds new)) ∙ (ap length h.back ∙ length-drop s.old_suffix (kinds old)) in
     omega (arith, left, count_kinds new, count_kinds old, h.new_inside, h.old_inside)
 
-module _ (s wider : SameTokens) (still : IsStillSame s wider) where
+module _ (s wider : SameTokens) (still : WidensDifference s wider) where
   abbrev more : ℕ
   more = wider.old_suffix - s.old_suffix
 
@@ -51,7 +51,7 @@ module _ (s wider : SameTokens) (still : IsStillSame s wider) where
     back = less_back s.new_suffix s.old_suffix more wider.new_suffix wider.old_suffix (kinds new) (kinds old) here there h.back;
   }
 
-  words_still : (old new : Scanned) → HasSameWords s old new → HasSameWords wider old new
+  words_still : (old new : TextWithTokens) → HasSameWords s old new → HasSameWords wider old new
   words_still old new h = record {
     front = less_front wider.prefix s.prefix _ _ still.front h.front;
     back = less_back s.new_suffix s.old_suffix more wider.new_suffix wider.old_suffix _ _ here there h.back;
@@ -73,17 +73,17 @@ joined s t old mid new p q h k = record {
   back = k.back ∙ (ap (λ n. drop n (kinds mid)) q ∙ h.back);
 }
 
-joined_words : (s t : SameTokens) (old mid new : Scanned) → t.prefix ≡ s.prefix → t.old_suffix ≡ s.new_suffix → HasSameWords s old mid → HasSameWords t mid new → HasSameWords (record { prefix = s.prefix; old_suffix = s.old_suffix; new_suffix = t.new_suffix }) old new
+joined_words : (s t : SameTokens) (old mid new : TextWithTokens) → t.prefix ≡ s.prefix → t.old_suffix ≡ s.new_suffix → HasSameWords s old mid → HasSameWords t mid new → HasSameWords (record { prefix = s.prefix; old_suffix = s.old_suffix; new_suffix = t.new_suffix }) old new
 joined_words s t old mid new p q h k = record {
-  front = ap (λ n. take n (words_in new.text new.tokens)) (sym p) ∙ (k.front ∙ (ap (λ n. take n (words_in mid.text mid.tokens)) p ∙ h.front));
-  back = k.back ∙ (ap (λ n. drop n (words_in mid.text mid.tokens)) q ∙ h.back);
+  front = ap (λ n. take n (words_of_tokens new.text new.tokens)) (sym p) ∙ (k.front ∙ (ap (λ n. take n (words_of_tokens mid.text mid.tokens)) p ∙ h.front));
+  back = k.back ∙ (ap (λ n. drop n (words_of_tokens mid.text mid.tokens)) q ∙ h.back);
 }
 
 -- ---- the last module
 
 -- The module of the previous text is the last module if the range of differences is widened within one of its bodies.
-pub is_last : (new : Scanned) (tree : ModuleTree) (b : Bindings) (types : ModuleTypes) (s wider : SameTokens) (place : BodyPlace) → HadModule new tree b types s → IsStillSame s wider → wider.new_suffix ≤ length new.tokens
-    → body_place wider.prefix wider.old_suffix (tree_in tree) ≡ Some place → WasLast new (record { bindings = b; types = types; same = wider; place = place })
+pub is_last : (new : TextWithTokens) (tree : ModuleTree) (b : Bindings) (types : ModuleTypes) (s wider : SameTokens) (place : BodyPlace) → IsEarlierModule new tree b types s → WidensDifference s wider → wider.new_suffix ≤ length new.tokens
+    → body_place_around wider.prefix wider.old_suffix (module_tree_of tree) ≡ Some place → IsLastModuleOf new (record { bindings = b; types = types; same = wider; place = place })
 is_last new tree b types s wider place h still inside placed = record {
   tree = tree;
   had = record {
@@ -100,8 +100,8 @@ is_last new tree b types s wider place h still inside placed = record {
 }
 
 -- The last module is still the last module after a further change.
-pub last_stays : (mid new : Scanned) (last : LastModule) (change wider : SameTokens) → WasLast mid last → HasSameTokens change mid.tokens new.tokens → HasSameWords change mid new → IsScan new → IsStillSame change wider → wider.prefix ≡ last.same.prefix → wider.old_suffix ≡ last.same.new_suffix
-    → WasLast new (record { bindings = last.bindings; types = last.types; same = record { prefix = last.same.prefix; old_suffix = last.same.old_suffix; new_suffix = wider.new_suffix }; place = last.place })
+pub last_stays : (mid new : TextWithTokens) (last : LastModule) (change wider : SameTokens) → IsLastModuleOf mid last → HasSameTokens change mid.tokens new.tokens → HasSameWords change mid new → IsScan new → WidensDifference change wider → wider.prefix ≡ last.same.prefix → wider.old_suffix ≡ last.same.new_suffix
+    → IsLastModuleOf new (record { bindings = last.bindings; types = last.types; same = record { prefix = last.same.prefix; old_suffix = last.same.old_suffix; new_suffix = wider.new_suffix }; place = last.place })
 last_stays mid new last change wider w tokens words scan still p q =
     let inside : wider.old_suffix ≤ length mid.tokens = omega (arith, q, w.had.same.new_inside) in
     record {

@@ -5,15 +5,15 @@ use Rattle.std.proofs.lemmas.List.{drop-drop, drop_at, map-append, take-take, ta
 use Rattle.std.proofs.lemmas.Bool.{le-ltb}
 use Rattle.ob0_scan.specs.declared.lexeme.TokenKind.{TokenKind}
 use Rattle.ob0_scan.specs.declared.lexeme.TokenKind.TheVariants as kind
-use Rattle.ob0_scan.specs.declared.lexeme.Reserved.TheVariants as reserved
+use Rattle.ob0_scan.specs.declared.lexeme.ReservedWord.TheVariants as reserved
 use Rattle.ob0_scan.specs.declared.tokens.RescanInPlace.{RescanInPlace}
 use Rattle.ob0_scan.specs.declared.tokens.SameTokens.{SameTokens}
-use Rattle.ob0_scan.specs.Reused.{kinds, words_in}
+use Rattle.ob0_scan.specs.Reused.{kinds, words_of_tokens}
 use Rattle.ob0_scan.specs.SameKinds.{HasSameTokens, HasSameWords}
-use Rattle.ob0_scan.specs.Scanned.{IsScan, Scanned, Word}
-use Rattle.ob0_tree.specs.Lexeme.{EndOfText, Mark, Name, Number, Terminal, relabelled}
-use Rattle.ob0_tree.specs.Order.{names_only}
-use Rattle.ob0_tree.specs.Parsed.{IsParsed, Parsed, parsed_by, tree_of}
+use Rattle.ob0_scan.specs.TextWithTokens.{IsScan, TextWithTokens, Word}
+use Rattle.ob0_tree.specs.Lexeme.{EndOfText, Mark, Name, Number, Terminal, mapped_terminal}
+use Rattle.ob0_tree.specs.Order.{names_without_roles}
+use Rattle.ob0_tree.specs.ParsedModule.{IsParsed, ParsedModule, parsed_module, tree_of}
 use Rattle.ob0_tree.specs.declared.tree.ModuleTree.{ModuleTree}
 use Rattle.ob0_tree.specs.Tree.{Tree, begins, body, identifiers, item, mapped, maybe, module_text, none, one, spell}
 use Rattle.ob0_tree.specs.declared.tree.Role.{Role}
@@ -22,19 +22,19 @@ use Rattle.ob0_tree.proofs.Leaves.{leaves_spelled, lexeme_names}
 use Rattle.ob0_tree.proofs.Mapped.{spell_mapped}
 use Rattle.ob0_parse_descent.proofs.Unique.{same}
 use Rattle.ob0_scope.specs.NewBody.{WasBoundElsewhere}
-use Rattle.ob0_scope_table.specs.Bindings.{resolution_by}
-use Rattle.ob0_scope_table.specs.BodyPlaces.{body_place, tree_in}
-use Rattle.ob0_tree.specs.FirstIdentifier.{first_of}
-use Rattle.ob0_scope_table.specs.BodyReplaced.{IsBodyReplaced, Way, body_at, closing_at, moved, way_to, without}
-use Rattle.ob0_scope_table.specs.OneBody.{is_out}
+use Rattle.ob0_scope_table.specs.Bindings.{resolution_with}
+use Rattle.ob0_scope_table.specs.BodyPlaces.{body_place_around, module_tree_of}
+use Rattle.ob0_tree.specs.FirstIdentifier.{first_token_of}
+use Rattle.ob0_scope_table.specs.BodyReplaced.{IsBodyReplaced, WayToBody, body_at, closing_name_in_module, moved_token_index, way_in_module, module_without_body}
+use Rattle.ob0_scope_table.specs.OneBody.{is_outside}
 use Rattle.ob0_scope_table.proofs.BodyPlaces.{body_place_read}
 use Rattle.ob0_scope_table.proofs.Moved.{moved_above, moved_below, out_cases}
 use Rattle.ob0_scope_table.specs.declared.one_body.BodyPlace.{BodyPlace}
 use Rattle.ob0_scope_table.specs.declared.resolved.Bindings.{Bindings}
-use Rattle.ob0_types.specs.NewBody.{WereTypesElsewhere}
+use Rattle.ob0_types.specs.NewBody.{WereTypesBeforeNewBody}
 use Rattle.ob0_types.specs.declared.checked.ModuleTypes.{ModuleTypes}
 use Rattle.ob0_analysis.specs.Before.{IsModuleBefore}
-use Rattle.ob0_analysis.specs.LastModule.{HadModule, WasLast}
+use Rattle.ob0_analysis.specs.LastModule.{IsEarlierModule, IsLastModuleOf}
 use Rattle.ob0_analysis.specs.NewBody.{IsSameBody}
 use Rattle.ob0_analysis.specs.declared.last_module.LastModule.{LastModule}
 use Rattle.ob0_analysis.specs.declared.fault_places.FaultPlaces.{FaultPlaces}
@@ -60,11 +60,11 @@ up_to_name (EndOfText ∷ xs) n ns e = let h = up_to_name xs n ns e in record { 
 of_some : {a b : ℕ} → Some a ≡ Some b → a ≡ b
 of_some e = cc
 
-up_to_first : (ids : List (Role × ℕ)) (xs : List (Terminal ℕ)) (n : ℕ) → names_only ids ≡ lexeme_names xs → first_of ids ≡ Some n → UpTo xs n
+up_to_first : (ids : List (Role × ℕ)) (xs : List (Terminal ℕ)) (n : ℕ) → names_without_roles ids ≡ lexeme_names xs → first_token_of ids ≡ Some n → UpTo xs n
 up_to_first [] xs n names e = absurd (cc (e))
 up_to_first (x ∷ ids) xs n names e =
     let same_name : x.1 ≡ n = of_some e in
-    up_to_name xs n (names_only ids) (sym names ∙ ap (λ m. m ∷ names_only ids) same_name)
+    up_to_name xs n (names_without_roles ids) (sym names ∙ ap (λ m. m ∷ names_without_roles ids) same_name)
 
 -- Holds if the statements are BEGIN, then tokens other than BEGIN, then the first identifier, then the remaining
 -- tokens.
@@ -76,7 +76,7 @@ record Opened (statements : Tree ℕ (maybe body)) (n : ℕ) : Type 0 where
   pub spelled : spell statements ≡ begin_mark ∷ (front ++ (Name n ∷ back))
   pub plain : NoBegin front
 
-opened : (statements : Tree ℕ (maybe body)) (n : ℕ) → first_of (identifiers role.Declaring statements) ≡ Some n → Opened statements n
+opened : (statements : Tree ℕ (maybe body)) (n : ℕ) → first_token_of (identifiers role.Declaring statements) ≡ Some n → Opened statements n
 opened none n e = absurd (cc (e))
 opened (one (begins s)) n e =
     let h = up_to_first (identifiers role.Declaring s) (spell s) n (leaves_spelled role.Declaring s) e in
@@ -97,11 +97,11 @@ up_to_last f b u n v z = ap (λ l. f ++ (b ∷ l)) (append_assoc u (n ∷ v) z) 
 up_to_end : {A : Type 0} (f x : List A) (e c : A) (z : List A) → f ++ (x ++ (e ∷ c ∷ z)) ≡ ((f ++ x) ++ (e ∷ [])) ++ (c ∷ z)
 up_to_end f x e c z = sym (append_assoc f x (e ∷ c ∷ z)) ∙ sym (append_assoc (f ++ x) (e ∷ []) (c ∷ z))
 
-record Halves (m : Parsed) (way : Way) (first closing : ℕ) : Type 0 where
+record Halves (m : ParsedModule) (way : WayToBody) (first closing : ℕ) : Type 0 where
   pub front : List (Terminal ℕ)
   pub inside : List (Terminal ℕ)
   pub back : List (Terminal ℕ)
-  pub less : spell (without way (tree_of m)) ≡ front ++ back
+  pub less : spell (module_without_body way (tree_of m)) ≡ front ++ back
   pub until : take first (marked 0 (kinds m.source.tokens)) ≡ front ++ (begin_mark ∷ inside)
   pub plain : NoBegin inside
   pub shorter : length front < first
@@ -110,13 +110,13 @@ record Halves (m : Parsed) (way : Way) (first closing : ℕ) : Type 0 where
   pub closes : before + 1 ≡ closing
   pub back_is : back ≡ drop before (marked 0 (kinds m.source.tokens))
 
-halves : (m : Parsed) → IsParsed m → (way : Way) (first closing : ℕ) → first_of (identifiers role.Declaring (body_at way (tree_of m))) ≡ Some first → closing_at way (tree_of m) ≡ closing → Halves m way first closing
+halves : (m : ParsedModule) → IsParsed m → (way : WayToBody) (first closing : ℕ) → first_token_of (identifiers role.Declaring (body_at way (tree_of m))) ≡ Some first → closing_name_in_module way (tree_of m) ≡ closing → Halves m way first closing
 halves m parsed way first closing is_first is_closing =
     let t : Tree ℕ module_text = tree_of m in
-    let c : ℕ = closing_at way t in
+    let c : ℕ = closing_name_in_module way t in
     let o = opened (body_at way t) first is_first in
     let a = around_body way t o.written o.is in
-    let end_mark : Terminal ℕ = Mark (kind.Reserved reserved.End) in
+    let end_mark : Terminal ℕ = Mark (kind.ReservedWord reserved.End) in
     let back : List (Terminal ℕ) = end_mark ∷ Name c ∷ a.back in
     let all : List (Terminal ℕ) = marked 0 (kinds m.source.tokens) in
     let start : List (Terminal ℕ) = a.front ++ (begin_mark ∷ o.front) in
@@ -152,7 +152,7 @@ take_short (suc n) (x ∷ xs) = let h = take_short n xs in omega (arith, h)
 
 module _ (s : SameTokens) (old_range : s.prefix ≤ s.old_suffix) (new_range : s.prefix ≤ s.new_suffix) where
   -- A moved token is on the same side of the range of differences as before.
-  same_side : (c : ℕ) → nat_lt (moved s c) s.prefix ≡ nat_lt c s.prefix
+  same_side : (c : ℕ) → nat_lt (moved_token_index s c) s.prefix ≡ nat_lt c s.prefix
   same_side c = one (nat_lt c s.prefix) refl
     where
       one : (b : Bool) → nat_lt c s.prefix ≡ b → nat_lt (if b then c else s.new_suffix + (c - s.old_suffix)) s.prefix ≡ b
@@ -160,21 +160,21 @@ module _ (s : SameTokens) (old_range : s.prefix ≤ s.old_suffix) (new_range : s
       one false e = le-ltb (s.new_suffix + (c - s.old_suffix)) s.prefix (omega (arith, new_range))
 
   -- The way to the body in the new module is the way in the old module.
-  same_way : (old new : Parsed) → without (way_to s.prefix (tree_of new)) (tree_of new) ≡ mapped (moved s) (moved s) (without (way_to s.prefix (tree_of old)) (tree_of old)) → way_to s.prefix (tree_of new) ≡ way_to s.prefix (tree_of old)
+  same_way : (old new : ParsedModule) → module_without_body (way_in_module s.prefix (tree_of new)) (tree_of new) ≡ mapped (moved_token_index s) (moved_token_index s) (module_without_body (way_in_module s.prefix (tree_of old)) (tree_of old)) → way_in_module s.prefix (tree_of new) ≡ way_in_module s.prefix (tree_of old)
   same_way old new e =
-      sym (way_less s.prefix (way_to s.prefix (tree_of new)) (tree_of new))
-      ∙ (ap (way_to s.prefix) e
-      ∙ (way_moved s.prefix (moved s) same_side (without (way_to s.prefix (tree_of old)) (tree_of old))
-      ∙ way_less s.prefix (way_to s.prefix (tree_of old)) (tree_of old)))
+      sym (way_less s.prefix (way_in_module s.prefix (tree_of new)) (tree_of new))
+      ∙ (ap (way_in_module s.prefix) e
+      ∙ (way_moved s.prefix (moved_token_index s) same_side (module_without_body (way_in_module s.prefix (tree_of old)) (tree_of old))
+      ∙ way_less s.prefix (way_in_module s.prefix (tree_of old)) (tree_of old)))
 
-module _ (old new : Parsed) (s : SameTokens) (tokens : HasSameTokens s old.source.tokens new.source.tokens) where
+module _ (old new : ParsedModule) (s : SameTokens) (tokens : HasSameTokens s old.source.tokens new.source.tokens) where
   -- The new module without its body is the old module without its body, with its tokens moved.
-  without_same : (way new_way : Way) (first closing now_closing : ℕ) → Halves old way first closing → Halves new new_way first now_closing → first < s.prefix → s.old_suffix < closing → now_closing + s.old_suffix ≡ closing + s.new_suffix
-      → without new_way (tree_of new) ≡ mapped (moved s) (moved s) (without way (tree_of old))
+  without_same : (way new_way : WayToBody) (first closing now_closing : ℕ) → Halves old way first closing → Halves new new_way first now_closing → first < s.prefix → s.old_suffix < closing → now_closing + s.old_suffix ≡ closing + s.new_suffix
+      → module_without_body new_way (tree_of new) ≡ mapped (moved_token_index s) (moved_token_index s) (module_without_body way (tree_of old))
   without_same way new_way first closing now_closing was is front_side back_side same_closing =
       let ks : List TokenKind = kinds old.source.tokens in
       let js : List TokenKind = kinds new.source.tokens in
-      let r : Terminal ℕ → Terminal ℕ = relabelled (moved s) (moved s) in
+      let r : Terminal ℕ → Terminal ℕ = mapped_terminal (moved_token_index s) (moved_token_index s) in
       let same_take : take first ks ≡ take first js =
       sym (take-take first s.prefix ks (omega (arith, front_side))) ∙ (ap (take first) (sym tokens.front) ∙ take-take first s.prefix js (omega (arith, front_side))) in
       let same_start : was.front ++ (begin_mark ∷ was.inside) ≡ is.front ++ (begin_mark ∷ is.inside) =
@@ -183,56 +183,56 @@ module _ (old new : Parsed) (s : SameTokens) (tokens : HasSameTokens s old.sourc
       let n : ℕ = length was.front in
       let front_marked : was.front ≡ marked 0 (take n ks) = was.front_is ∙ take_marked n 0 ks in
       let short : length (take n ks) ≤ n = take_short n ks in
-      let stays : (d : ℕ) → d < length (take n ks) → moved s (0 + d) ≡ 0 + d = λ d less. let here : 0 + d < s.prefix = omega (arith, less, short, was.shorter, front_side) in moved_below s (0 + d) here in
+      let stays : (d : ℕ) → d < length (take n ks) → moved_token_index s (0 + d) ≡ 0 + d = λ d less. let here : 0 + d < s.prefix = omega (arith, less, short, was.shorter, front_side) in moved_below s (0 + d) here in
       let front_moved : map r was.front ≡ is.front =
-      ap (map r) front_marked ∙ (moved_on (moved s) 0 0 (take n ks) stays ∙ (sym front_marked ∙ same_front)) in
+      ap (map r) front_marked ∙ (moved_on (moved_token_index s) 0 0 (take n ks) stays ∙ (sym front_marked ∙ same_front)) in
       let d : ℕ = was.before - s.old_suffix in
       let there : s.old_suffix + d ≡ was.before = omega (arith, was.closes, back_side) in
       let here : s.new_suffix + d ≡ is.before = omega (arith, was.closes, is.closes, back_side, same_closing) in
       let same_drop : drop was.before ks ≡ drop is.before js =
       ap (λ k. drop k ks) (sym there) ∙ (sym (drop-drop d s.old_suffix ks) ∙ (ap (drop d) (sym tokens.back) ∙ (drop-drop d s.new_suffix js ∙ ap (λ k. drop k js) here))) in
       let back_marked : was.back ≡ marked was.before (drop was.before ks) = was.back_is ∙ drop_marked was.before 0 was.before ks (omega arith) in
-      let goes : (e : ℕ) → e < length (drop was.before ks) → moved s (was.before + e) ≡ is.before + e =
+      let goes : (e : ℕ) → e < length (drop was.before ks) → moved_token_index s (was.before + e) ≡ is.before + e =
       λ e less. let high : s.old_suffix ≤ was.before + e = omega (arith, there) in moved_above s (was.before + e) tokens.old_range high ∙ omega (arith, there, here) in
       let back_moved : map r was.back ≡ is.back =
-      ap (map r) back_marked ∙ (moved_on (moved s) was.before is.before (drop was.before ks) goes ∙ (ap (marked is.before) same_drop ∙ (sym (drop_marked is.before 0 is.before js (omega arith)) ∙ sym is.back_is))) in
-      let spelled : spell (without new_way (tree_of new)) ≡ spell (mapped (moved s) (moved s) (without way (tree_of old))) =
+      ap (map r) back_marked ∙ (moved_on (moved_token_index s) was.before is.before (drop was.before ks) goes ∙ (ap (marked is.before) same_drop ∙ (sym (drop_marked is.before 0 is.before js (omega arith)) ∙ sym is.back_is))) in
+      let spelled : spell (module_without_body new_way (tree_of new)) ≡ spell (mapped (moved_token_index s) (moved_token_index s) (module_without_body way (tree_of old))) =
       is.less
       ∙ (sym (ap (λ l. l ++ is.back) front_moved ∙ ap (λ l. is.front ++ l) refl)
       ∙ (sym (ap (λ l. map r was.front ++ l) back_moved)
-      ∙ (sym (map-append r was.front was.back) ∙ (ap (map r) (sym was.less) ∙ sym (spell_mapped (moved s) (moved s) (without way (tree_of old))))))) in
-      (same (without new_way (tree_of new)) (mapped (moved s) (moved s) (without way (tree_of old))) [] [] tt tt (ap (λ l. l ++ []) spelled)).0
+      ∙ (sym (map-append r was.front was.back) ∙ (ap (map r) (sym was.less) ∙ sym (spell_mapped (moved_token_index s) (moved_token_index s) (module_without_body way (tree_of old))))))) in
+      (same (module_without_body new_way (tree_of new)) (mapped (moved_token_index s) (moved_token_index s) (module_without_body way (tree_of old))) [] [] tt tt (ap (λ l. l ++ []) spelled)).0
 
 -- ---- tokens outside the range have the same spelling
 
-words_outside : (s : SameTokens) (old new : Scanned) → HasSameWords s old new → s.prefix ≤ s.old_suffix → (i : ℕ) → is_out s.prefix s.old_suffix i ≡ true
-    → slice_get (words_in new.text new.tokens) (moved s i) ≡ slice_get (words_in old.text old.tokens) i
+words_outside : (s : SameTokens) (old new : TextWithTokens) → HasSameWords s old new → s.prefix ≤ s.old_suffix → (i : ℕ) → is_outside s.prefix s.old_suffix i ≡ true
+    → slice_get (words_of_tokens new.text new.tokens) (moved_token_index s i) ≡ slice_get (words_of_tokens old.text old.tokens) i
 words_outside s old new written range i out = ⊎_elim
-    (λ less. ap (slice_get (words_in new.text new.tokens)) (moved_below s i less)
-    ∙ (sym (get_taken s.prefix (words_in new.text new.tokens) i less)
-    ∙ (ap (λ (l : List Word). slice_get l i) written.front ∙ get_taken s.prefix (words_in old.text old.tokens) i less)))
+    (λ less. ap (slice_get (words_of_tokens new.text new.tokens)) (moved_below s i less)
+    ∙ (sym (get_taken s.prefix (words_of_tokens new.text new.tokens) i less)
+    ∙ (ap (λ (l : List Word). slice_get l i) written.front ∙ get_taken s.prefix (words_of_tokens old.text old.tokens) i less)))
     (λ le. let here : s.old_suffix + (i - s.old_suffix) ≡ i = omega (arith, le) in
-    ap (slice_get (words_in new.text new.tokens)) (moved_above s i range le)
-    ∙ (sym (get_dropped s.new_suffix (words_in new.text new.tokens) (i - s.old_suffix) (s.new_suffix + (i - s.old_suffix)) refl)
-    ∙ (ap (λ (l : List Word). slice_get l (i - s.old_suffix)) written.back ∙ get_dropped s.old_suffix (words_in old.text old.tokens) (i - s.old_suffix) i here)))
+    ap (slice_get (words_of_tokens new.text new.tokens)) (moved_above s i range le)
+    ∙ (sym (get_dropped s.new_suffix (words_of_tokens new.text new.tokens) (i - s.old_suffix) (s.new_suffix + (i - s.old_suffix)) refl)
+    ∙ (ap (λ (l : List Word). slice_get l (i - s.old_suffix)) written.back ∙ get_dropped s.old_suffix (words_of_tokens old.text old.tokens) (i - s.old_suffix) i here)))
     (out_cases s.prefix s.old_suffix i out)
 
-pub body_replaced : (old new : Parsed) (s : SameTokens) → IsScan old.source → IsScan new.source → IsParsed old → IsParsed new → HasSameTokens s old.source.tokens new.source.tokens → HasSameWords s old.source new.source
-    → (was : BodyPlace) → body_place s.prefix s.old_suffix (tree_of old) ≡ Some was → IsSameBody was (body_place s.prefix s.new_suffix (tree_of new)) s → IsBodyReplaced old new (way_to s.prefix (tree_of old)) s
+pub body_replaced : (old new : ParsedModule) (s : SameTokens) → IsScan old.source → IsScan new.source → IsParsed old → IsParsed new → HasSameTokens s old.source.tokens new.source.tokens → HasSameWords s old.source new.source
+    → (was : BodyPlace) → body_place_around s.prefix s.old_suffix (tree_of old) ≡ Some was → IsSameBody was (body_place_around s.prefix s.new_suffix (tree_of new)) s → IsBodyReplaced old new (way_in_module s.prefix (tree_of old)) s
 body_replaced old new s old_scan new_scan old_parsed new_parsed tokens written place placed b =
-    let way : Way = way_to s.prefix (tree_of old) in
-    let new_way : Way = way_to s.prefix (tree_of new) in
+    let way : WayToBody = way_in_module s.prefix (tree_of old) in
+    let new_way : WayToBody = way_in_module s.prefix (tree_of new) in
     let first : ℕ = place.first in
     let p = body_place_read s.prefix s.old_suffix (tree_of old) place placed in
     let q = body_place_read s.prefix s.new_suffix (tree_of new) b.place b.is in
-    let is_first : first_of (identifiers role.Declaring (body_at new_way (tree_of new))) ≡ Some first = q.first ∙ ap Some (sym b.first) in
+    let is_first : first_token_of (identifiers role.Declaring (body_at new_way (tree_of new))) ≡ Some first = q.first ∙ ap Some (sym b.first) in
     let was = halves old old_parsed way first place.closing p.first p.closes in
     let is = halves new new_parsed new_way first b.place.closing is_first q.closes in
-    let moved_too : without new_way (tree_of new) ≡ mapped (moved s) (moved s) (without way (tree_of old)) =
+    let moved_too : module_without_body new_way (tree_of new) ≡ mapped (moved_token_index s) (moved_token_index s) (module_without_body way (tree_of old)) =
     without_same old new s tokens way new_way first place.closing b.place.closing was is b.front b.back b.closing in
     let back : s.old_suffix ≤ place.closing = omega (arith, b.back) in
-    let closes : closing_at new_way (tree_of new) ≡ moved s (closing_at way (tree_of old)) =
-    q.closes ∙ sym (ap (moved s) p.closes ∙ (moved_above s place.closing tokens.old_range back ∙ omega (arith, b.closing, back))) in
+    let closes : closing_name_in_module new_way (tree_of new) ≡ moved_token_index s (closing_name_in_module way (tree_of old)) =
+    q.closes ∙ sym (ap (moved_token_index s) p.closes ∙ (moved_above s place.closing tokens.old_range back ∙ omega (arith, b.closing, back))) in
     let one_way : new_way ≡ way = same_way s tokens.old_range tokens.new_range old new moved_too in
     record {
       old_range = tokens.old_range;
@@ -241,24 +241,24 @@ body_replaced old new s old_scan new_scan old_parsed new_parsed tokens written p
       new_scan = new_scan;
       old_parsed = old_parsed;
       new_parsed = new_parsed;
-      outside = subst (λ w. without w (tree_of new) ≡ mapped (moved s) (moved s) (without way (tree_of old))) one_way moved_too;
+      outside = subst (λ w. module_without_body w (tree_of new) ≡ mapped (moved_token_index s) (moved_token_index s) (module_without_body way (tree_of old))) one_way moved_too;
       words = words_outside s old.source new.source written tokens.old_range;
       old_way = refl;
       new_way = one_way;
-      old_in_body = p.is_sought;
-      new_in_body = q.is_sought;
+      old_in_body = p.is_bound_to_declaration;
+      new_in_body = q.is_bound_to_declaration;
       first = first;
       old_first = p.first;
-      new_first = subst (λ w. first_of (identifiers role.Declaring (body_at w (tree_of new))) ≡ Some first) one_way is_first;
+      new_first = subst (λ w. first_token_of (identifiers role.Declaring (body_at w (tree_of new))) ≡ Some first) one_way is_first;
       front = b.front;
       back = subst (λ n. s.old_suffix < n) (sym p.closes) b.back;
-      closing = subst (λ w. closing_at w (tree_of new) ≡ moved s (closing_at way (tree_of old))) one_way closes;
+      closing = subst (λ w. closing_name_in_module w (tree_of new) ≡ moved_token_index s (closing_name_in_module way (tree_of old))) one_way closes;
     }
 
 -- ---- the reused results
 
--- If the previous text was a module, `HadModule` holds for it; all other facts about it are dropped.
-abbrev pub had_module : (c : RescanInPlace) (tree : ModuleTree) (b : Bindings) (types : ModuleTypes) (places : FaultPlaces) → IsModuleBefore c tree b types places → HadModule c.rescan.tokens tree b types c.same
+-- If the previous text was a module, `IsEarlierModule` holds for it; all other facts about it are dropped.
+abbrev pub had_module : (c : RescanInPlace) (tree : ModuleTree) (b : Bindings) (types : ModuleTypes) (places : FaultPlaces) → IsModuleBefore c tree b types places → IsEarlierModule c.rescan.tokens tree b types c.same
 had_module c tree b types places h = record {
   old = h.old;
   old_scan = h.old_scan;
@@ -270,17 +270,17 @@ had_module c tree b types places h = record {
   written = h.written;
 }
 
-module _ (new : Scanned) (tree : ModuleTree) (last : LastModule) (now : Option BodyPlace) (h : WasLast new last) (placed : now ≡ body_place last.same.prefix last.same.new_suffix (tree_in tree)) (parsed : IsParsed (parsed_by new tree)) (one_body : IsSameBody last.place now last.same) where
-  abbrev before_it : Parsed
-  before_it = parsed_by h.had.old h.tree
+module _ (new : TextWithTokens) (tree : ModuleTree) (last : LastModule) (now : Option BodyPlace) (h : IsLastModuleOf new last) (placed : now ≡ body_place_around last.same.prefix last.same.new_suffix (module_tree_of tree)) (parsed : IsParsed (parsed_module new tree)) (one_body : IsSameBody last.place now last.same) where
+  abbrev before_it : ParsedModule
+  before_it = parsed_module h.had.old h.tree
 
-  is_replaced : IsBodyReplaced before_it (parsed_by new tree) (way_to last.same.prefix (tree_of before_it)) last.same
+  is_replaced : IsBodyReplaced before_it (parsed_module new tree) (way_in_module last.same.prefix (tree_of before_it)) last.same
   is_replaced =
-      body_replaced before_it (parsed_by new tree) last.same h.had.old_scan h.had.new_scan h.had.parsed parsed h.had.same h.had.written
+      body_replaced before_it (parsed_module new tree) last.same h.had.old_scan h.had.new_scan h.had.parsed parsed h.had.same h.had.written
       last.place h.placed (subst (λ o. IsSameBody last.place o last.same) placed one_body)
 
-  pub was_bound_elsewhere : WasBoundElsewhere (parsed_by new tree) last.bindings last.same
-  was_bound_elsewhere = record { old = before_it; way = way_to last.same.prefix (tree_of before_it); replaced = is_replaced; resolved = h.had.resolved }
+  pub was_bound_elsewhere : WasBoundElsewhere (parsed_module new tree) last.bindings last.same
+  was_bound_elsewhere = record { old = before_it; way = way_in_module last.same.prefix (tree_of before_it); replaced = is_replaced; resolved = h.had.resolved }
 
-  pub were_types_elsewhere : (c : Bindings) → WereTypesElsewhere (resolution_by (parsed_by new tree) c) last.types last.same
-  were_types_elsewhere c = record { old = resolution_by before_it last.bindings; way = way_to last.same.prefix (tree_of before_it); replaced = is_replaced; types_are = h.had.types_are }
+  pub were_types_elsewhere : (c : Bindings) → WereTypesBeforeNewBody (resolution_with (parsed_module new tree) c) last.types last.same
+  were_types_elsewhere c = record { old = resolution_with before_it last.bindings; way = way_in_module last.same.prefix (tree_of before_it); replaced = is_replaced; types_are = h.had.types_are }

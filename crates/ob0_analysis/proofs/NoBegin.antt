@@ -3,8 +3,8 @@
 use Rattle.std.proofs.Common.{◌≡◌, Bool, true, false, ◌||◌, Option, Some, None, List, [], ◌∷◌, ◌++◌, refl, sym, ap, ◌∙◌}
 use Rattle.ob0_scan.specs.declared.lexeme.TokenKind.{TokenKind}
 use Rattle.ob0_scan.specs.declared.lexeme.TokenKind.TheVariants as kind
-use Rattle.ob0_scan.specs.declared.lexeme.Reserved.TheVariants as reserved
-use Rattle.ob0_tree.specs.Lexeme.{Terminal, Mark, add_mark, multiply_mark, relation_mark, sign_marks}
+use Rattle.ob0_scan.specs.declared.lexeme.ReservedWord.TheVariants as reserved
+use Rattle.ob0_tree.specs.Lexeme.{Terminal, Mark, add_operator_token, multiply_operator_token, relation_token, sign_tokens}
 use Rattle.ob0_tree.specs.declared.tree.AddOperator.{AddOperator}
 use Rattle.ob0_tree.specs.declared.tree.AddOperator.TheVariants as add_operator
 use Rattle.ob0_tree.specs.declared.tree.MultiplyOperator.{MultiplyOperator}
@@ -18,10 +18,10 @@ use Rattle.ob0_parse_descent.proofs.Unique.{head_of, tail_of}
 
 -- the token BEGIN
 abbrev pub begin_mark : {N : Type 0} → Terminal N
-begin_mark = Mark (kind.Reserved reserved.Begin)
+begin_mark = Mark (kind.ReservedWord reserved.Begin)
 
 abbrev is_begin_kind : TokenKind → Bool
-is_begin_kind (kind.Reserved reserved.Begin) = true
+is_begin_kind (kind.ReservedWord reserved.Begin) = true
 is_begin_kind _ = false
 
 abbrev is_begin : {N : Type 0} → Terminal N → Bool
@@ -76,7 +76,7 @@ last_begin [] u (y ∷ b) v p q e = absurd (is_there b v (record { has = ap has_
 last_begin (x ∷ a) u [] v p q e = absurd (is_there a u (record { has = ap has_begin (tail_of e) ∙ q.has }))
 last_begin (x ∷ a) u (y ∷ b) v p q e = let h : a ≡ b = last_begin a u b v p q (tail_of e) in let g : x ≡ y = head_of e in cc (h, g)
 
-relation_apart : (r : Relation) → is_begin_kind (relation_mark r) ≡ false
+relation_apart : (r : Relation) → is_begin_kind (relation_token r) ≡ false
 relation_apart relation.Equal = refl
 relation_apart relation.NotEqual = refl
 relation_apart relation.Less = refl
@@ -84,18 +84,18 @@ relation_apart relation.LessEqual = refl
 relation_apart relation.Greater = refl
 relation_apart relation.GreaterEqual = refl
 
-add_apart : (o : AddOperator) → is_begin_kind (add_mark o) ≡ false
+add_apart : (o : AddOperator) → is_begin_kind (add_operator_token o) ≡ false
 add_apart add_operator.Add = refl
 add_apart add_operator.Subtract = refl
 add_apart add_operator.Or = refl
 
-multiply_apart : (o : MultiplyOperator) → is_begin_kind (multiply_mark o) ≡ false
+multiply_apart : (o : MultiplyOperator) → is_begin_kind (multiply_operator_token o) ≡ false
 multiply_apart multiply_operator.Multiply = refl
 multiply_apart multiply_operator.Divide = refl
 multiply_apart multiply_operator.Modulo = refl
 multiply_apart multiply_operator.And = refl
 
-signs_apart : {N : Type 0} (s : Option Sign) → NoBegin {N = N} (sign_marks s)
+signs_apart : {N : Type 0} (s : Option Sign) → NoBegin {N = N} (sign_tokens s)
 signs_apart None = nothing
 signs_apart (Some sign.Plus) = put_before refl nothing
 signs_apart (Some sign.Minus) = put_before refl nothing

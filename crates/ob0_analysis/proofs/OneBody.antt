@@ -3,22 +3,22 @@
 use Rattle.std.proofs.Common.{◌≡◌, ◌<◌, ◌≤◌, ℕ, zero, suc, ◌+◌, ◌-◌, ◌||◌, Bool, true, false, nat_le, nat_lt, List, [], ◌∷◌, length, take, drop, slice_get, refl, sym, ap, ◌∙◌, arith, length-drop}
 use Rattle.std.proofs.lemmas.Bool.Decides.{nat_tests}
 use Rattle.std.proofs.lemmas.List.{length-map}
-use Rattle.ob0_scan.specs.Reused.{kinds, valueless, words_in}
+use Rattle.ob0_scan.specs.Reused.{kinds, kind_without_value, words_of_tokens}
 use Rattle.ob0_scan.specs.SameKinds.{HasSameTokens, HasSameWords}
-use Rattle.ob0_scan.specs.Scanned.{Scanned, Word, read_in}
+use Rattle.ob0_scan.specs.TextWithTokens.{TextWithTokens, Word, word_of_token}
 use Rattle.ob0_scan.specs.declared.lexeme.Token.{Token}
 use Rattle.ob0_scan.specs.declared.tokens.SameTokens.{SameTokens}
-use Rattle.ob0_tree.specs.Parsed.{IsParsed, parsed_by, tree_of}
+use Rattle.ob0_tree.specs.ParsedModule.{IsParsed, parsed_module, tree_of}
 use Rattle.ob0_tree.specs.declared.tree.ModuleTree.{ModuleTree}
 use Rattle.ob0_scope.proofs.Rebound.{ordinals_outside}
 use Rattle.ob0_scope.specs.Rebound.{WasBound}
-use Rattle.ob0_scope_table.specs.Bindings.{resolution_by}
-use Rattle.ob0_scope_table.specs.OneBody.{IsBodyChange, is_in_body, is_out}
+use Rattle.ob0_scope_table.specs.Bindings.{resolution_with}
+use Rattle.ob0_scope_table.specs.OneBody.{IsBodyChange, is_in_body, is_outside}
 use Rattle.ob0_scope_table.specs.Resolution.{IsResolution}
 use Rattle.ob0_scope_table.specs.declared.resolved.Bindings.{Bindings}
-use Rattle.ob0_types.specs.OneBody.{WereTypes}
+use Rattle.ob0_types.specs.OneBody.{WereTypesBeforeChange}
 use Rattle.ob0_types.specs.declared.checked.ModuleTypes.{ModuleTypes}
-use Rattle.ob0_analysis.specs.OneBody.{HadTree}
+use Rattle.ob0_analysis.specs.OneBody.{IsEarlierModuleWithSameKinds}
 
 pub get_taken : {A : Type 0} (k : ℕ) (xs : List A) (i : ℕ) → i < k → slice_get (take k xs) i ≡ slice_get xs i
 get_taken zero xs i less = absurd (omega (arith, less))
@@ -32,25 +32,25 @@ get_dropped (suc k) [] i j e = refl
 get_dropped (suc k) (x ∷ xs) i zero e = absurd (omega (arith, e))
 get_dropped (suc k) (x ∷ xs) i (suc j) e = get_dropped k xs i j (omega (arith, e))
 
-module _ (s : SameTokens) (old new : Scanned) (alike : kinds new.tokens ≡ kinds old.tokens) (same : HasSameTokens s old.tokens new.tokens) (written : HasSameWords s old new) where
+module _ (s : SameTokens) (old new : TextWithTokens) (alike : kinds new.tokens ≡ kinds old.tokens) (same : HasSameTokens s old.tokens new.tokens) (written : HasSameWords s old new) where
   abbrev before : List Word
-  before = words_in old.text old.tokens
+  before = words_of_tokens old.text old.tokens
 
   abbrev after : List Word
-  after = words_in new.text new.tokens
+  after = words_of_tokens new.text new.tokens
 
   as_many : length new.tokens ≡ length old.tokens
   as_many =
-      sym (length-map new.tokens (λ (t : Token). valueless t.kind)) ∙ (ap length alike ∙ length-map old.tokens (λ (t : Token). valueless t.kind))
+      sym (length-map new.tokens (λ (t : Token). kind_without_value t.kind)) ∙ (ap length alike ∙ length-map old.tokens (λ (t : Token). kind_without_value t.kind))
 
   same_back : s.new_suffix ≡ s.old_suffix
   same_back =
       let left : length after - s.new_suffix ≡ length before - s.old_suffix = sym (length-drop s.new_suffix after) ∙ (ap length written.back ∙ length-drop s.old_suffix before) in
-      let a : length after ≡ length new.tokens = length-map new.tokens (read_in new.text) in
-      let b : length before ≡ length old.tokens = length-map old.tokens (read_in old.text) in
+      let a : length after ≡ length new.tokens = length-map new.tokens (word_of_token new.text) in
+      let b : length before ≡ length old.tokens = length-map old.tokens (word_of_token old.text) in
       omega (arith, left, a, b, as_many, same.new_inside, same.old_inside)
 
-  same_outside : (i : ℕ) → is_out s.prefix s.old_suffix i ≡ true → slice_get after i ≡ slice_get before i
+  same_outside : (i : ℕ) → is_outside s.prefix s.old_suffix i ≡ true → slice_get after i ≡ slice_get before i
   same_outside i e = one (nat_lt i s.prefix) refl
     where
       one : (b : Bool) → nat_lt i s.prefix ≡ b → slice_get after i ≡ slice_get before i
@@ -67,8 +67,8 @@ module _ (s : SameTokens) (old new : Scanned) (alike : kinds new.tokens ≡ kind
           past true f g = grind (arith, nat_tests)
           past false f g = absurd (cc)
 
-module _ {new : Scanned} {tree : ModuleTree} {b : Bindings} {types : ModuleTypes} {s : SameTokens} (h : HadTree new tree b types s) (lies : is_in_body s.prefix s.old_suffix (tree_of (parsed_by new tree)) ≡ true) where
-  body_change : IsBodyChange h.had.old (parsed_by new tree) s.prefix s.old_suffix
+module _ {new : TextWithTokens} {tree : ModuleTree} {b : Bindings} {types : ModuleTypes} {s : SameTokens} (h : IsEarlierModuleWithSameKinds new tree b types s) (lies : is_in_body s.prefix s.old_suffix (tree_of (parsed_module new tree)) ≡ true) where
+  body_change : IsBodyChange h.had.old (parsed_module new tree) s.prefix s.old_suffix
   body_change = record {
     old_scan = h.had.old_scan;
     new_scan = h.had.new_scan;
@@ -77,20 +77,20 @@ module _ {new : Scanned} {tree : ModuleTree} {b : Bindings} {types : ModuleTypes
     in_body = lies;
   }
 
-  pub was_bound : IsParsed (parsed_by new tree) → WasBound (parsed_by new tree) b s.prefix s.old_suffix
+  pub was_bound : IsParsed (parsed_module new tree) → WasBound (parsed_module new tree) b s.prefix s.old_suffix
   was_bound parsed = record { old = h.had.old; change = body_change; parsed = parsed; resolved = h.had.resolved }
 
   -- The old results for types can be reused if the names were bound again.
-  pub were_types : (c : Bindings) → IsResolution (resolution_by (parsed_by new tree) c) → WereTypes (resolution_by (parsed_by new tree) c) types s.prefix
+  pub were_types : (c : Bindings) → IsResolution (resolution_with (parsed_module new tree) c) → WereTypesBeforeChange (resolution_with (parsed_module new tree) c) types s.prefix
   were_types c resolved = record {
     high = s.old_suffix;
     old = h.had.old;
     bindings = b;
     change = body_change;
-    bound = ordinals_outside h.had.old (parsed_by new tree) s.prefix s.old_suffix b c body_change h.had.resolved resolved;
+    bound = ordinals_outside h.had.old (parsed_module new tree) s.prefix s.old_suffix b c body_change h.had.resolved resolved;
     types_are = h.had.types_are;
   }
 
   -- The old results for types can be reused if the bindings are kept.
-  pub kept_types : WereTypes (resolution_by (parsed_by new tree) b) types s.prefix
+  pub kept_types : WereTypesBeforeChange (resolution_with (parsed_module new tree) b) types s.prefix
   kept_types = record { high = s.old_suffix; old = h.had.old; bindings = b; change = body_change; bound = λ token e. refl; types_are = h.had.types_are }

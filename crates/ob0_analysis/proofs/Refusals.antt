@@ -1,13 +1,13 @@
 -- A text has only one refusal by the parser and only one report of it.
 use Rattle.std.proofs.Common.{◌≡◌, ℕ, [], ◌∷◌, sym, ◌∙◌, ap, subst}
-use Rattle.ob0_scan.specs.Scanned.{Scanned}
-use Rattle.ob0_parse_descent.specs.Descent.{OneStop, Expects, Deep}
+use Rattle.ob0_scan.specs.TextWithTokens.{TextWithTokens}
+use Rattle.ob0_parse_descent.specs.Descent.{StopIsUnique, Expects, Deep}
 use Rattle.ob0_parse_descent.specs.ExpectedText.{expected_text}
-use Rattle.ob0_parse.specs.RefusedBy.{RefusedBy}
+use Rattle.ob0_parse.specs.IsRightParseRefusal.{IsRightParseRefusal}
 use Rattle.ob0_parse_descent.specs.declared.refusal.Expected.{Expected}
 use Rattle.ob0_parse_descent.specs.declared.refusal.ParseRefusal.{ParseRefusal}
 use Rattle.ob0_parse_descent.specs.declared.refusal.ParseRefusal.TheVariants.{Syntax, TooDeep, Memory}
-use Rattle.ob0_analysis.specs.Diagnosed.{Complaint, IsRefusalAt, OneRefusal, expects, too_deep, place_of}
+use Rattle.ob0_analysis.specs.Diagnosed.{Complaint, ReportsRefusal, RefusalIsUnique, syntax_error, depth_error, token_span_or_end}
 use Rattle.ob0_analysis.proofs.Scanning.{OneScan}
 
 same_place : {i j : ℕ} {x y : Expected} → Expects i x ≡ Expects j y → (i ≡ j) × (x ≡ y)
@@ -19,19 +19,19 @@ same_depth e = cc
 not_deep : {i j : ℕ} {x : Expected} → Expects i x ≡ Deep j → ⊥
 not_deep e = cc
 
-same_complaint : (s : Scanned) (p q : ParseRefusal) (c d : Complaint) → OneStop → RefusedBy s p → RefusedBy s q → IsRefusalAt s p c → IsRefusalAt s q d → c ≡ d
+same_complaint : (s : TextWithTokens) (p q : ParseRefusal) (c d : Complaint) → StopIsUnique → IsRightParseRefusal s p → IsRightParseRefusal s q → ReportsRefusal s p c → ReportsRefusal s q d → c ≡ d
 same_complaint s (Syntax i x) (Syntax j y) c d one p q a b =
     let same = same_place (one _ _ _ _ _ p.2 q.2) in
-    a ∙ (ap (λ k. expects (expected_text x) (place_of s k)) same.0 ∙ (ap (λ z. expects (expected_text z) (place_of s j)) same.1 ∙ sym b))
-same_complaint s (TooDeep i) (TooDeep j) c d one p q a b = a ∙ (ap (λ k. too_deep (place_of s k)) (same_depth (one _ _ _ _ _ p.2 q.2)) ∙ sym b)
+    a ∙ (ap (λ k. syntax_error (expected_text x) (token_span_or_end s k)) same.0 ∙ (ap (λ z. syntax_error (expected_text z) (token_span_or_end s j)) same.1 ∙ sym b))
+same_complaint s (TooDeep i) (TooDeep j) c d one p q a b = a ∙ (ap (λ k. depth_error (token_span_or_end s k)) (same_depth (one _ _ _ _ _ p.2 q.2)) ∙ sym b)
 same_complaint s (Syntax i x) (TooDeep j) c d one p q a b = absurd (not_deep (one _ _ _ _ _ p.2 q.2))
 same_complaint s (TooDeep i) (Syntax j y) c d one p q a b = absurd (not_deep (one _ _ _ _ _ q.2 p.2))
 same_complaint s Memory q c d one p r a b = absurd a
 same_complaint s p Memory c d one r q a b = absurd b
 
-pub one_refusal : OneScan → OneStop → OneRefusal
-one_refusal scans stops text a b p q =
+pub refusal_is_unique : OneScan → StopIsUnique → RefusalIsUnique
+refusal_is_unique scans stops text a b p q =
     let same : q.scanned ≡ p.scanned = scans q.scanned p.scanned q.scan.scan p.scan.scan (q.scan.of ∙ sym p.scan.of) in
-    let refused : RefusedBy p.scanned q.refusal = subst (λ (s : Scanned). RefusedBy s q.refusal) same q.refused in
-    let says : IsRefusalAt p.scanned q.refusal q.complaint = subst (λ (s : Scanned). IsRefusalAt s q.refusal q.complaint) same q.says in
+    let refused : IsRightParseRefusal p.scanned q.refusal = subst (λ (s : TextWithTokens). IsRightParseRefusal s q.refusal) same q.refused in
+    let says : ReportsRefusal p.scanned q.refusal q.complaint = subst (λ (s : TextWithTokens). ReportsRefusal s q.refusal q.complaint) same q.says in
     p.alone ∙ (ap (λ c. c ∷ []) (same_complaint p.scanned p.refusal q.refusal p.complaint q.complaint stops p.refused refused p.says says) ∙ sym q.alone)

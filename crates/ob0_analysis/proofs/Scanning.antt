@@ -4,21 +4,21 @@ use Rattle.std.proofs.lemmas.List.{take-append-drop}
 use Rattle.std.specs.Str.{chars, IsUtf8}
 use Rattle.std.proofs.lemmas.Str.{encodes-chars}
 use Rattle.ob0_scan.specs.Refused.{AreFaults}
-use Rattle.ob0_scan.specs.Scanned.{Scanned, IsScan, IsScannable, IsScanOf}
+use Rattle.ob0_scan.specs.TextWithTokens.{TextWithTokens, IsScan, IsScannable, IsScanOf}
 use Rattle.ob0_scan.specs.declared.fault.Fault.{Fault}
 use Rattle.ob0_tree.specs.Lexeme.{Terminal, EndOfText}
-use Rattle.ob0_tree.specs.Module.{ModuleOf, text_lexemes}
+use Rattle.ob0_tree.specs.Module.{ModuleOf, terminals_of_text}
 use Rattle.ob0_tree.specs.Tree.{Tree, module_text}
-use Rattle.ob0_parse.specs.RefusedBy.{NoneBegins, RefusedBy}
+use Rattle.ob0_parse.specs.IsRightParseRefusal.{NoModuleBegins, IsRightParseRefusal}
 use Rattle.ob0_parse_descent.specs.declared.refusal.ParseRefusal.{ParseRefusal}
 use Rattle.ob0_parse_descent.specs.declared.refusal.ParseRefusal.TheVariants.{Syntax, TooDeep, Memory}
 use Rattle.ob0_scope_table.specs.Resolution.{Resolution}
-use Rattle.ob0_tree.specs.Parsed.{Parsed, named_tree_of}
+use Rattle.ob0_tree.specs.ParsedModule.{ParsedModule, named_tree_of}
 use Rattle.ob0_types.specs.CheckedModules.{CheckedModule, IsChecked, IsWellTyped}
 use Rattle.ob0_language_types.specs.WellTyped.{WellTyped}
 use Rattle.ob0_analysis.specs.Analysed.{IsModuleIn}
-use Rattle.ob0_analysis.specs.Found.{IsDecided}
-use Rattle.ob0_analysis.specs.Diagnosed.{Complaint, IsWellTypedModule, IsRefusalAt, Reports, ReportsFaults, complaint_of}
+use Rattle.ob0_analysis.specs.Found.{IsNotLackOfMemory}
+use Rattle.ob0_analysis.specs.Diagnosed.{Complaint, IsWellTypedModule, ReportsRefusal, Reports, ReportsFaults, complaint_of_fault}
 use Rattle.ob0_analysis.specs.Texts.{utf8}
 
 -- The UTF-8 bytes of a text's characters are the bytes of the text.
@@ -26,37 +26,37 @@ pub utf8_of : (bytes text : List ℕ) → IsUtf8 bytes → chars bytes ≡ text 
 utf8_of bytes text u is = sym (encodes-chars bytes u) ∙ ap encode_utf8_all is
 
 abbrev pub OneScan : Type 0
-OneScan = (s t : Scanned) → IsScan s → IsScan t → s.text ≡ t.text → s ≡ t
+OneScan = (s t : TextWithTokens) → IsScan s → IsScan t → s.text ≡ t.text → s ≡ t
 
 scannable : (text : List ℕ) → IsWellTypedModule text → IsScannable text
 scannable text w = subst IsScannable w.text_of.scan.of (w.text_of.scan.scan.short, (w.text_of.scan.scan.lexemes, w.text_of.scan.scan.lexed))
 
-pub finds_lexemes : (text : List ℕ) (faults : List Fault) (reported : List Complaint) → (IsScannable text → ⊥) → AreFaults text faults → reported ≡ map complaint_of faults
+pub finds_lexemes : (text : List ℕ) (faults : List Fault) (reported : List Complaint) → (IsScannable text → ⊥) → AreFaults text faults → reported ≡ map complaint_of_fault faults
     → ¬ IsWellTypedModule text × ReportsFaults text reported
 finds_lexemes text faults reported bad are is =
     (λ w. bad (scannable text w), inl (record { unscannable = bad; faults = faults; of_text = are; all = is }))
 
 -- If no module begins with these tokens, no tree is the tree of a module with all the tokens.
-none : (s : Scanned) (i : ℕ) (tree : Tree (List ℕ) module_text) → NoneBegins s i → ModuleOf s tree → ⊥
+none : (s : TextWithTokens) (i : ℕ) (tree : Tree (List ℕ) module_text) → NoModuleBegins s i → ModuleOf s tree → ⊥
 none s i tree h is =
-    let all : List (Terminal (List ℕ)) = text_lexemes s ++ (EndOfText ∷ []) in
+    let all : List (Terminal (List ℕ)) = terminals_of_text s ++ (EndOfText ∷ []) in
     h tree (drop (i + 1) all) is.shallow (ap (λ (w : List (Terminal (List ℕ))). w ++ (EndOfText ∷ [])) (sym is.spelled) ∙ sym (take-append-drop (i + 1) all))
 
-unformed : (s : Scanned) (i : ℕ) → OneScan → IsScan s → NoneBegins s i → IsWellTypedModule s.text → ⊥
+unformed : (s : TextWithTokens) (i : ℕ) → OneScan → IsScan s → NoModuleBegins s i → IsWellTypedModule s.text → ⊥
 unformed s i one scan h w =
     let same : w.text_of.scanned ≡ s = one w.text_of.scanned s w.text_of.scan.scan scan w.text_of.scan.of in
-    none s i w.tree h (subst (λ (x : Scanned). ModuleOf x w.tree) same w.text_of.module_of)
+    none s i w.tree h (subst (λ (x : TextWithTokens). ModuleOf x w.tree) same w.text_of.module_of)
 
 -- A text without lexemes, or one that the parser refuses, isn't a well-typed module.
 pub no_lexemes_is_none : (text : List ℕ) → (IsScannable text → ⊥) → IsWellTypedModule text → ⊥
 no_lexemes_is_none text bad w = bad (scannable text w)
 
-pub refused_is_none : (s : Scanned) (refusal : ParseRefusal) → OneScan → IsScan s → RefusedBy s refusal → IsDecided refusal → IsWellTypedModule s.text → ⊥
+pub refused_is_none : (s : TextWithTokens) (refusal : ParseRefusal) → OneScan → IsScan s → IsRightParseRefusal s refusal → IsNotLackOfMemory refusal → IsWellTypedModule s.text → ⊥
 refused_is_none s (Syntax i expected) one scan by decided = unformed s i one scan by.1
 refused_is_none s (TooDeep i) one scan by decided = unformed s i one scan by.1
 refused_is_none s Memory one scan by decided = absurd decided
 
-pub finds_parser : (s : Scanned) (refusal : ParseRefusal) (c : Complaint) → OneScan → IsScan s → RefusedBy s refusal → IsRefusalAt s refusal c
+pub finds_parser : (s : TextWithTokens) (refusal : ParseRefusal) (c : Complaint) → OneScan → IsScan s → IsRightParseRefusal s refusal → ReportsRefusal s refusal c
     → ¬ IsWellTypedModule s.text × ReportsFaults s.text (c ∷ [])
 finds_parser s (Syntax i expected) c one scan by at =
     (unformed s i one scan by.1, inr (inl (record { scanned = s; scan = record { of = refl; scan = scan }; refusal = Syntax i expected; refused = by; complaint = c; says = at; alone = refl })))
@@ -65,22 +65,22 @@ finds_parser s (TooDeep i) c one scan by at =
 finds_parser s Memory c one scan by at = absurd at
 
 abbrev pub OneTree : Type 0
-OneTree = (text : Scanned) (a b : Tree (List ℕ) module_text) → ModuleOf text a → ModuleOf text b → a ≡ b
+OneTree = (text : TextWithTokens) (a b : Tree (List ℕ) module_text) → ModuleOf text a → ModuleOf text b → a ≡ b
 
 -- A text whose tree isn't well-typed isn't a well-typed module, because a text has only one tree.
-ill_typed : (s : Scanned) (tree : Tree (List ℕ) module_text) → OneScan → OneTree → IsScan s → ModuleOf s tree → (WellTyped tree → ⊥) → IsWellTypedModule s.text → ⊥
+ill_typed : (s : TextWithTokens) (tree : Tree (List ℕ) module_text) → OneScan → OneTree → IsScan s → ModuleOf s tree → (WellTyped tree → ⊥) → IsWellTypedModule s.text → ⊥
 ill_typed s tree one only scan is ill w =
     let same : w.text_of.scanned ≡ s = one w.text_of.scanned s w.text_of.scan.scan scan w.text_of.scan.of in
-    ill (subst WellTyped (only s w.tree tree (subst (λ (x : Scanned). ModuleOf x w.tree) same w.text_of.module_of) is) w.well_typed)
+    ill (subst WellTyped (only s w.tree tree (subst (λ (x : TextWithTokens). ModuleOf x w.tree) same w.text_of.module_of) is) w.well_typed)
 
 some_of : (faults : List Fault) → (faults ≡ [] → ⊥) → 0 < length faults
 some_of [] some = absurd (some refl)
 some_of (f ∷ fs) some = omega arith
 
-pub finds_types : (c : CheckedModule) (reported : List Complaint) → OneScan → OneTree → IsScan c.names.module_read.source → IsChecked c → (c.faults ≡ [] → ⊥) → reported ≡ map complaint_of c.faults
+pub finds_types : (c : CheckedModule) (reported : List Complaint) → OneScan → OneTree → IsScan c.names.module_read.source → IsChecked c → (c.faults ≡ [] → ⊥) → reported ≡ map complaint_of_fault c.faults
     → ¬ IsWellTypedModule c.names.module_read.source.text × ReportsFaults c.names.module_read.source.text reported
 finds_types c reported one only scan checked bad is =
-    let s : Scanned = c.names.module_read.source in
+    let s : TextWithTokens = c.names.module_read.source in
     let tree : Tree (List ℕ) module_text = named_tree_of c.names.module_read in
     let ill : WellTyped tree → ⊥ = λ w. bad (checked.reported.1 w) in (
       ill_typed s tree one only scan checked.resolved.parsed.module_of ill,
@@ -100,7 +100,7 @@ finds_types c reported one only scan checked bad is =
 -- If checking finds a fault in a text's module, the text isn't a well-typed module.
 pub faulty_is_none : (text : List ℕ) (c : CheckedModule) (m : Resolution) → c.names ≡ m → OneScan → OneTree → IsScanOf text m.module_read.source → IsChecked c → (c.faults ≡ [] → ⊥) → IsWellTypedModule text → ⊥
 faulty_is_none text c m is one only read checked bad =
-    let s : Scanned = c.names.module_read.source in
+    let s : TextWithTokens = c.names.module_read.source in
     let here : IsScanOf text s = subst (λ (r : Resolution). IsScanOf text r.module_read.source) (sym is) read in
     subst (λ (t : List ℕ). IsWellTypedModule t → ⊥) here.of (ill_typed s (named_tree_of c.names.module_read) one only here.scan checked.resolved.parsed.module_of (λ w. bad (checked.reported.1 w)))
 
@@ -118,13 +118,13 @@ some_or_none [] = inl refl
 some_or_none (f ∷ fs) = inr (λ e. absurd (omega (arith, ap length e)))
 
 -- The report of a text with a tree is empty exactly if the module is well-typed.
-pub reports_module : (c : CheckedModule) (reported : List Complaint) → OneScan → OneTree → IsScan c.names.module_read.source → IsChecked c → reported ≡ map complaint_of c.faults
+pub reports_module : (c : CheckedModule) (reported : List Complaint) → OneScan → OneTree → IsScan c.names.module_read.source → IsChecked c → reported ≡ map complaint_of_fault c.faults
     → Reports c.names.module_read.source.text reported
 reports_module c reported one only scan checked is =
-    let m : Parsed = c.names.module_read in
+    let m : ParsedModule = c.names.module_read in
     elim (some_or_none c.faults) [
       | inl none ↦
           let fits : IsWellTyped c.names = record { resolved = checked.resolved; well_typed = checked.reported.0 none } in
-          inl (is_module m.source.text c.names (module_in m.source.text c.names c.names refl (record { of = refl; scan = scan }) fits), is ∙ ap (map complaint_of) none)
+          inl (is_module m.source.text c.names (module_in m.source.text c.names c.names refl (record { of = refl; scan = scan }) fits), is ∙ ap (map complaint_of_fault) none)
       | inr some ↦ inr (finds_types c reported one only scan checked some is)
     ]

@@ -1,19 +1,19 @@
 -- The tokens around a body to which a way leads. The way is unchanged if the body is left out or if tokens are moved.
 use Rattle.std.proofs.Common.{◌≡◌, ℕ, zero, suc, nat_lt, if◌then◌else◌, List, [], ◌∷◌, ◌++◌, refl, sym, ap, ◌∙◌, append_assoc}
 use Rattle.ob0_scan.specs.declared.lexeme.TokenKind.TheVariants as kind
-use Rattle.ob0_scan.specs.declared.lexeme.Reserved.TheVariants as reserved
+use Rattle.ob0_scan.specs.declared.lexeme.ReservedWord.TheVariants as reserved
 use Rattle.ob0_scan.specs.declared.lexeme.Symbol.TheVariants as symbol
 use Rattle.ob0_tree.specs.Lexeme.{Terminal, Name, Mark}
 use Rattle.ob0_tree.specs.Tree.{Tree, block, body, declares, declares_procedure, end, has_body, is_module, item, items, mapped, maybe, module_text, more, one, procedure, spell}
-use Rattle.ob0_scope_table.specs.BodyReplaced.{Way, block_without, body_among, body_at, body_in, body_inside, closing_among, closing_at, closing_in, closing_inside, later, procedure_without, procedures_without, way_among, way_in_block, way_to, without}
+use Rattle.ob0_scope_table.specs.BodyReplaced.{WayToBody, block_without, body_among, body_at, body_in, body_inside, closing_name_in_procedures, closing_name_in_module, closing_name_in_block, closing_name_in_procedure, shift_way, procedure_without, procedures_without, way_in_procedures, way_in_block, way_in_module, module_without_body}
 
 -- Holds if `whole` and `less` are the tokens of a part with a body and without it. Both have the same tokens before the
 -- body, and the END and the closing name of its block after it.
 pub record Around {N : Type 0} (whole less : List (Terminal N)) (statements : Tree N (maybe body)) (closing : N) : Type 0 where
   pub front : List (Terminal N)
   pub back : List (Terminal N)
-  pub whole_is : whole ≡ front ++ (spell statements ++ (Mark (kind.Reserved reserved.End) ∷ Name closing ∷ back))
-  pub less_is : less ≡ front ++ (Mark (kind.Reserved reserved.End) ∷ Name closing ∷ back)
+  pub whole_is : whole ≡ front ++ (spell statements ++ (Mark (kind.ReservedWord reserved.End) ∷ Name closing ∷ back))
+  pub less_is : less ≡ front ++ (Mark (kind.ReservedWord reserved.End) ∷ Name closing ∷ back)
 
 body_last : {A : Type 0} (d s r : List A) → (d ++ s) ++ r ≡ d ++ (s ++ r)
 body_last d s r = append_assoc d s r
@@ -41,12 +41,12 @@ in_heading x n semi fs b e r f z is =
     ∙ sym (append_assoc fs (semi ∷ f) z)))
 
 mutual
-  around_block : {N : Type 0} (way : Way) (own : N) (b : Tree N block) (after : List (Terminal N)) (y : Tree N (item body)) → body_in way b ≡ one y
-      → Around (spell b ++ (Mark (kind.Reserved reserved.End) ∷ Name own ∷ after)) (spell (block_without way b) ++ (Mark (kind.Reserved reserved.End) ∷ Name own ∷ after)) (body_in way b) (closing_in way own b)
+  around_block : {N : Type 0} (way : WayToBody) (own : N) (b : Tree N block) (after : List (Terminal N)) (y : Tree N (item body)) → body_in way b ≡ one y
+      → Around (spell b ++ (Mark (kind.ReservedWord reserved.End) ∷ Name own ∷ after)) (spell (block_without way b) ++ (Mark (kind.ReservedWord reserved.End) ∷ Name own ∷ after)) (body_in way b) (closing_name_in_block way own b)
   around_block [] own (has_body ds statements) after y e =
       record { front = spell ds; back = after; whole_is = append_assoc (spell ds) (spell statements) _; less_is = append_assoc (spell ds) [] _ }
   around_block (k ∷ way) own (has_body (declares cs ts vs ps) statements) after y e =
-      let r : List (Terminal _) = Mark (kind.Reserved reserved.End) ∷ Name own ∷ after in
+      let r : List (Terminal _) = Mark (kind.ReservedWord reserved.End) ∷ Name own ∷ after in
       let h = around_among k way own ps (spell statements ++ r) y e in
       record {
         front = spell cs ++ (spell ts ++ (spell vs ++ h.front));
@@ -55,8 +55,8 @@ mutual
         less_is = in_declarations (spell cs) (spell ts) (spell vs) (spell (procedures_without k way ps)) (spell statements) r h.front _ h.less_is;
       }
 
-  around_among : {N : Type 0} (k : ℕ) (way : Way) (own : N) (ps : Tree N (items procedure)) (after : List (Terminal N)) (y : Tree N (item body)) → body_among k way ps ≡ one y
-      → Around (spell ps ++ after) (spell (procedures_without k way ps) ++ after) (body_among k way ps) (closing_among k way own ps)
+  around_among : {N : Type 0} (k : ℕ) (way : WayToBody) (own : N) (ps : Tree N (items procedure)) (after : List (Terminal N)) (y : Tree N (item body)) → body_among k way ps ≡ one y
+      → Around (spell ps ++ after) (spell (procedures_without k way ps) ++ after) (body_among k way ps) (closing_name_in_procedures k way own ps)
   around_among k way own end after y e = absurd (cc (e))
   around_among zero way own (more p ps) after y e =
       let h = around_procedure way p (spell ps ++ after) y e in
@@ -75,41 +75,41 @@ mutual
         less_is = in_later (spell p) (spell (procedures_without k way ps)) after h.front _ h.less_is;
       }
 
-  around_procedure : {N : Type 0} (way : Way) (p : Tree N (item procedure)) (after : List (Terminal N)) (y : Tree N (item body)) → body_inside way p ≡ one y
-      → Around (spell p ++ after) (spell (procedure_without way p) ++ after) (body_inside way p) (closing_inside way p)
+  around_procedure : {N : Type 0} (way : WayToBody) (p : Tree N (item procedure)) (after : List (Terminal N)) (y : Tree N (item body)) → body_inside way p ≡ one y
+      → Around (spell p ++ after) (spell (procedure_without way p) ++ after) (body_inside way p) (closing_name_in_procedure way p)
   around_procedure way (declares_procedure n fs b c) after y e =
-      let last : List (Terminal _) = Mark (kind.Reserved reserved.End) ∷ Name c ∷ Mark (kind.Symbol symbol.Semicolon) ∷ [] in
+      let last : List (Terminal _) = Mark (kind.ReservedWord reserved.End) ∷ Name c ∷ Mark (kind.Symbol symbol.Semicolon) ∷ [] in
       let h = around_block way c b (Mark (kind.Symbol symbol.Semicolon) ∷ after) y e in
       record {
-        front = Mark (kind.Reserved reserved.Procedure) ∷ Name n ∷ (spell fs ++ (Mark (kind.Symbol symbol.Semicolon) ∷ h.front));
+        front = Mark (kind.ReservedWord reserved.Procedure) ∷ Name n ∷ (spell fs ++ (Mark (kind.Symbol symbol.Semicolon) ∷ h.front));
         back = h.back;
         whole_is = in_heading _ _ _ (spell fs) (spell b) last after h.front _ h.whole_is;
         less_is = in_heading _ _ _ (spell fs) (spell (block_without way b)) last after h.front _ h.less_is;
       }
 
-pub around_body : {N : Type 0} (way : Way) (t : Tree N module_text) (y : Tree N (item body)) → body_at way t ≡ one y → Around (spell t) (spell (without way t)) (body_at way t) (closing_at way t)
+pub around_body : {N : Type 0} (way : WayToBody) (t : Tree N module_text) (y : Tree N (item body)) → body_at way t ≡ one y → Around (spell t) (spell (module_without_body way t)) (body_at way t) (closing_name_in_module way t)
 around_body way (is_module n b c) y e =
     let h = around_block way c b (Mark (kind.Symbol symbol.Dot) ∷ []) y e in
     record {
-      front = Mark (kind.Reserved reserved.Module) ∷ Name n ∷ Mark (kind.Symbol symbol.Semicolon) ∷ h.front;
+      front = Mark (kind.ReservedWord reserved.Module) ∷ Name n ∷ Mark (kind.Symbol symbol.Semicolon) ∷ h.front;
       back = h.back;
-      whole_is = ap (λ l. Mark (kind.Reserved reserved.Module) ∷ Name n ∷ Mark (kind.Symbol symbol.Semicolon) ∷ l) h.whole_is;
-      less_is = ap (λ l. Mark (kind.Reserved reserved.Module) ∷ Name n ∷ Mark (kind.Symbol symbol.Semicolon) ∷ l) h.less_is;
+      whole_is = ap (λ l. Mark (kind.ReservedWord reserved.Module) ∷ Name n ∷ Mark (kind.Symbol symbol.Semicolon) ∷ l) h.whole_is;
+      less_is = ap (λ l. Mark (kind.ReservedWord reserved.Module) ∷ Name n ∷ Mark (kind.Symbol symbol.Semicolon) ∷ l) h.less_is;
     }
 
 -- ---- a way leads through procedures, so it doesn't depend on a body
 
 mutual
-  way_less_block : (low : ℕ) (way : Way) (b : Tree ℕ block) → way_in_block low (block_without way b) ≡ way_in_block low b
+  way_less_block : (low : ℕ) (way : WayToBody) (b : Tree ℕ block) → way_in_block low (block_without way b) ≡ way_in_block low b
   way_less_block low [] (has_body (declares cs ts vs ps) statements) = refl
   way_less_block low (k ∷ way) (has_body (declares cs ts vs ps) statements) = way_less_among low k way ps
 
-  way_less_among : (low k : ℕ) (way : Way) (ps : Tree ℕ (items procedure)) → way_among low (procedures_without k way ps) ≡ way_among low ps
+  way_less_among : (low k : ℕ) (way : WayToBody) (ps : Tree ℕ (items procedure)) → way_in_procedures low (procedures_without k way ps) ≡ way_in_procedures low ps
   way_less_among low k way end = refl
-  way_less_among low zero way (more (declares_procedure n fs b c) ps) = ap (λ w. if nat_lt c low then later (way_among low ps) else zero ∷ w) (way_less_block low way b)
-  way_less_among low (suc k) way (more (declares_procedure n fs b c) ps) = ap (λ w. if nat_lt c low then later w else zero ∷ way_in_block low b) (way_less_among low k way ps)
+  way_less_among low zero way (more (declares_procedure n fs b c) ps) = ap (λ w. if nat_lt c low then shift_way (way_in_procedures low ps) else zero ∷ w) (way_less_block low way b)
+  way_less_among low (suc k) way (more (declares_procedure n fs b c) ps) = ap (λ w. if nat_lt c low then shift_way w else zero ∷ way_in_block low b) (way_less_among low k way ps)
 
-pub way_less : (low : ℕ) (way : Way) (t : Tree ℕ module_text) → way_to low (without way t) ≡ way_to low t
+pub way_less : (low : ℕ) (way : WayToBody) (t : Tree ℕ module_text) → way_in_module low (module_without_body way t) ≡ way_in_module low t
 way_less low way (is_module n b c) = way_less_block low way b
 
 module _ (low : ℕ) (f : ℕ → ℕ) (side : (c : ℕ) → nat_lt (f c) low ≡ nat_lt c low) where
@@ -117,12 +117,12 @@ module _ (low : ℕ) (f : ℕ → ℕ) (side : (c : ℕ) → nat_lt (f c) low �
     way_moved_block : (b : Tree ℕ block) → way_in_block low (mapped f f b) ≡ way_in_block low b
     way_moved_block (has_body (declares cs ts vs ps) statements) = way_moved_among ps
 
-    way_moved_among : (ps : Tree ℕ (items procedure)) → way_among low (mapped f f ps) ≡ way_among low ps
+    way_moved_among : (ps : Tree ℕ (items procedure)) → way_in_procedures low (mapped f f ps) ≡ way_in_procedures low ps
     way_moved_among end = refl
     way_moved_among (more (declares_procedure n fs b c) ps) =
-        ap (λ x. if x then later (way_among low (mapped f f ps)) else zero ∷ way_in_block low (mapped f f b)) (side c)
-        ∙ (ap (λ w. if nat_lt c low then later w else zero ∷ way_in_block low (mapped f f b)) (way_moved_among ps)
-        ∙ ap (λ w. if nat_lt c low then later (way_among low ps) else zero ∷ w) (way_moved_block b))
+        ap (λ x. if x then shift_way (way_in_procedures low (mapped f f ps)) else zero ∷ way_in_block low (mapped f f b)) (side c)
+        ∙ (ap (λ w. if nat_lt c low then shift_way w else zero ∷ way_in_block low (mapped f f b)) (way_moved_among ps)
+        ∙ ap (λ w. if nat_lt c low then shift_way (way_in_procedures low ps) else zero ∷ w) (way_moved_block b))
 
-  pub way_moved : (t : Tree ℕ module_text) → way_to low (mapped f f t) ≡ way_to low t
+  pub way_moved : (t : Tree ℕ module_text) → way_in_module low (mapped f f t) ≡ way_in_module low t
   way_moved (is_module n b c) = way_moved_block b

@@ -2,26 +2,26 @@
 -- Rule: none; for private contracts: what an analysis takes over.
 use Rattle.std.specs.Prelude.{◌≡◌, ◌==◌, ℕ, true, IfSome, List, Option, map}
 use Rattle.ob0_scan.specs.Refused.{AreFaults}
-use Rattle.ob0_scan.specs.Reused.{kinds, names_in, words_in}
+use Rattle.ob0_scan.specs.Reused.{kinds, names_in, words_of_tokens}
 use Rattle.ob0_scan.specs.SameKinds.{HasSameTokens, HasSameWords}
-use Rattle.ob0_scan.specs.Scanned.{IsScan, IsScannable, Scanned}
-use Rattle.ob0_scan.specs.declared.rescanning.NotRescanned.{NotRescanned}
-use Rattle.ob0_scan.specs.declared.rescanning.NotRescanned.TheVariants as rescanned
+use Rattle.ob0_scan.specs.TextWithTokens.{IsScan, IsScannable, TextWithTokens}
+use Rattle.ob0_scan.specs.declared.incremental_scan.RescanRefusal.{RescanRefusal}
+use Rattle.ob0_scan.specs.declared.incremental_scan.RescanRefusal.TheVariants as rescanned
 use Rattle.ob0_scan.specs.declared.tokens.RescanInPlace.{RescanInPlace}
 use Rattle.ob0_tree.specs.declared.tree.ModuleTree.{ModuleTree}
-use Rattle.ob0_tree.specs.Parsed.{IsParsed, parsed_by}
-use Rattle.ob0_scope_table.specs.Bindings.{resolution_by}
-use Rattle.ob0_scope_table.specs.FaultTokens.{AreWrittenAlike, fault_at, first_start, tokens_of}
+use Rattle.ob0_tree.specs.ParsedModule.{IsParsed, parsed_module}
+use Rattle.ob0_scope_table.specs.Bindings.{resolution_with}
+use Rattle.ob0_scope_table.specs.FaultTokens.{AreWrittenAlike, fault_at, first_token_start, fault_by_tokens}
 use Rattle.ob0_scope_table.specs.Resolution.{IsResolution}
-use Rattle.ob0_scope_table.specs.declared.fault_tokens.FaultAt.{FaultAt}
+use Rattle.ob0_scope_table.specs.declared.fault_tokens.FaultByTokens.{FaultByTokens}
 use Rattle.ob0_scope_table.specs.declared.resolved.Bindings.{Bindings}
 use Rattle.ob0_parse.specs.KeptTokens.{AreKept}
-use Rattle.ob0_parse.specs.declared.kept.Kept.{Kept}
+use Rattle.ob0_parse.specs.declared.kept.KeptTrees.{KeptTrees}
 use Rattle.ob0_parse_descent.specs.declared.refusal.ParseRefusal.{ParseRefusal}
 use Rattle.ob0_types.specs.CheckedModules.{AreTypesOf}
 use Rattle.ob0_types.specs.declared.checked.ModuleTypes.{ModuleTypes}
 use Rattle.ob0_analysis.specs.Found.{IsRefusedByParser}
-use Rattle.ob0_analysis.specs.LastModule.{WasLast}
+use Rattle.ob0_analysis.specs.LastModule.{IsLastModuleOf}
 use Rattle.ob0_analysis.specs.declared.last_module.LastModule.{LastModule}
 use Rattle.ob0_analysis.specs.declared.fault_places.FaultPlaces.{FaultPlaces}
 
@@ -29,26 +29,26 @@ use Rattle.ob0_analysis.specs.declared.fault_places.FaultPlaces.{FaultPlaces}
 -- reports correctly which tokens both texts share. The procedures were parsed from the tokens of
 -- `old`, and also belong to the new tokens if the scan reports that all kinds are the same. If
 -- `last` is Some, it has the results for the last module before `old`.
-pub record AreKeptBefore (c : RescanInPlace) (procedures : Kept) (last : Option LastModule) : Type 0 where
-  pub old : Scanned
+pub record AreKeptBefore (c : RescanInPlace) (procedures : KeptTrees) (last : Option LastModule) : Type 0 where
+  pub old : TextWithTokens
   pub new_scan : IsScan c.rescan.tokens
   pub same : HasSameTokens c.same old.tokens c.rescan.tokens.tokens
   pub written : HasSameWords c.same old c.rescan.tokens
   pub kept : AreKept old.tokens procedures
   pub alike : c.alike ≡ true → AreKept c.rescan.tokens.tokens procedures
-  pub was : IfSome last (WasLast old)
+  pub was : IfSome last (IsLastModuleOf old)
 
 -- Holds if the places are the tokens at which a module has faults of names and types. `front` must
 -- be true exactly if the first token starts at byte 0 or the text has no tokens.
-pub record ArePlacesOf
-    (source : Scanned) (b : Bindings) (types : ModuleTypes) (places : FaultPlaces) : Type 0 where
-  pub names : places.names.items ≡ map (tokens_of source.tokens) b.faults.items
-  pub of_types : places.types.items ≡ map (tokens_of source.tokens) types.faults.items
-  pub front : places.front ≡ (first_start source == 0)
+pub record AreFaultPlacesOf
+    (source : TextWithTokens) (b : Bindings) (types : ModuleTypes) (places : FaultPlaces) : Type 0 where
+  pub names : places.names.items ≡ map (fault_by_tokens source.tokens) b.faults.items
+  pub of_types : places.types.items ≡ map (fault_by_tokens source.tokens) types.faults.items
+  pub front : places.front ≡ (first_token_start source == 0)
 
 -- holds if `c` has the same bindings as `b`, and its faults are at these tokens of the text
 pub record HasFaultsAt
-    (source : Scanned) (b : Bindings) (places : List FaultAt) (c : Bindings) : Type 0 where
+    (source : TextWithTokens) (b : Bindings) (places : List FaultByTokens) (c : Bindings) : Type 0 where
   pub ordinals : c.ordinals.items ≡ b.ordinals.items
   pub declarations : c.declarations.items ≡ b.declarations.items
   pub occurrences : c.occurrences.items ≡ b.occurrences.items
@@ -56,7 +56,7 @@ pub record HasFaultsAt
 
 -- holds if `moved` has the same results as `types`, and its faults are at these tokens of the text
 pub record HasTypesAt
-    (source : Scanned) (types : ModuleTypes) (places : List FaultAt) (moved : ModuleTypes)
+    (source : TextWithTokens) (types : ModuleTypes) (places : List FaultByTokens) (moved : ModuleTypes)
     : Type 0 where
   pub known : moved.known ≡ types.known
   pub fields : moved.fields ≡ types.fields
@@ -65,13 +65,13 @@ pub record HasTypesAt
 
 -- holds if this tree, these bindings and these results for types belong to the text, and the places
 -- are the tokens of its faults
-pub record IsModuleOver
-    (source : Scanned) (tree : ModuleTree) (b : Bindings) (types : ModuleTypes)
+pub record IsModuleWithFaultPlaces
+    (source : TextWithTokens) (tree : ModuleTree) (b : Bindings) (types : ModuleTypes)
     (places : FaultPlaces) : Type 0 where
-  pub parsed : IsParsed (parsed_by source tree)
-  pub resolved : IsResolution (resolution_by (parsed_by source tree) b)
-  pub types_are : AreTypesOf (resolution_by (parsed_by source tree) b) types
-  pub places_are : ArePlacesOf source b types places
+  pub parsed : IsParsed (parsed_module source tree)
+  pub resolved : IsResolution (resolution_with (parsed_module source tree) b)
+  pub types_are : AreTypesOf (resolution_with (parsed_module source tree) b) types
+  pub places_are : AreFaultPlacesOf source b types places
 
 -- Holds if some previous text was a module with this tree, these bindings, these results for types
 -- and faults at these places. The scan `c` of the changed text must report correctly which tokens
@@ -79,8 +79,8 @@ pub record IsModuleOver
 pub record IsModuleBefore
     (c : RescanInPlace) (tree : ModuleTree) (b : Bindings) (types : ModuleTypes)
     (places : FaultPlaces) : Type 0 where
-  pub old : Scanned
-  pub was : IsModuleOver old tree b types places
+  pub old : TextWithTokens
+  pub was : IsModuleWithFaultPlaces old tree b types places
   pub old_scan : IsScan old
   pub new_scan : IsScan c.rescan.tokens
   pub same : HasSameTokens c.same old.tokens c.rescan.tokens.tokens
@@ -89,48 +89,48 @@ pub record IsModuleBefore
   pub same_names : c.same_names ≡ true
       → names_in c.rescan.tokens.text c.rescan.tokens.tokens ≡ names_in old.text old.tokens
   pub same_words : c.same_words ≡ true
-      → words_in c.rescan.tokens.text c.rescan.tokens.tokens ≡ words_in old.text old.tokens
+      → words_of_tokens c.rescan.tokens.text c.rescan.tokens.tokens ≡ words_of_tokens old.text old.tokens
 
 -- Holds if some previous text was a module with this tree, these bindings, these results for types
 -- and faults at these places. Its tokens must have the same spelling as the tokens of `new`.
-pub record IsWrittenAsBefore
-    (new : Scanned) (tree : ModuleTree) (b : Bindings) (types : ModuleTypes) (places : FaultPlaces)
+pub record IsModuleWithSameSpelling
+    (new : TextWithTokens) (tree : ModuleTree) (b : Bindings) (types : ModuleTypes) (places : FaultPlaces)
     : Type 0 where
-  pub old : Scanned
-  pub was : IsModuleOver old tree b types places
+  pub old : TextWithTokens
+  pub was : IsModuleWithFaultPlaces old tree b types places
   pub alike : AreWrittenAlike old new
-  pub parsed : IsParsed (parsed_by new tree)
+  pub parsed : IsParsed (parsed_module new tree)
 
 -- Holds for lexical faults if they are the faults of the changed text, which can't be scanned. This
 -- refusal, these procedures and this last module must belong to the old tokens that the failed scan
 -- returns. Always holds for lack of memory.
-abbrev pub IsUnreadRefusal : List ℕ
+abbrev pub IsFailureAfterRefusal : List ℕ
     → ParseRefusal
-    → Kept
+    → KeptTrees
     → Option LastModule
-    → NotRescanned
+    → RescanRefusal
     → Type 0
-IsUnreadRefusal text refusal procedures last (rescanned.Faults faults tokens) =
+IsFailureAfterRefusal text refusal procedures last (rescanned.Faults faults tokens) =
     (IsScannable text → ⊥)
     × AreFaults text faults.items
     × IsRefusedByParser tokens refusal
     × AreKept tokens.tokens procedures
-    × IfSome last (WasLast tokens)
-IsUnreadRefusal text refusal procedures last rescanned.Memory = Unit {0}
+    × IfSome last (IsLastModuleOf tokens)
+IsFailureAfterRefusal text refusal procedures last rescanned.Memory = Unit {0}
 
 -- Holds for lexical faults if they are the faults of the changed text, which can't be scanned. This
 -- tree, these bindings and these types must belong to the old tokens that the failed scan returns.
 -- Always holds for lack of memory.
-abbrev pub IsUnreadModule : List ℕ
+abbrev pub IsFailureAfterModule : List ℕ
     → ModuleTree
     → Bindings
     → ModuleTypes
-    → NotRescanned
+    → RescanRefusal
     → Type 0
-IsUnreadModule text tree b types (rescanned.Faults faults tokens) =
+IsFailureAfterModule text tree b types (rescanned.Faults faults tokens) =
     (IsScannable text → ⊥)
     × AreFaults text faults.items
-    × IsParsed (parsed_by tokens tree)
-    × IsResolution (resolution_by (parsed_by tokens tree) b)
-    × AreTypesOf (resolution_by (parsed_by tokens tree) b) types
-IsUnreadModule text tree b types rescanned.Memory = Unit {0}
+    × IsParsed (parsed_module tokens tree)
+    × IsResolution (resolution_with (parsed_module tokens tree) b)
+    × AreTypesOf (resolution_with (parsed_module tokens tree) b) types
+IsFailureAfterModule text tree b types rescanned.Memory = Unit {0}

@@ -4,19 +4,19 @@
 use Rattle.std.specs.Prelude.{◌≡◌, ◌⊎◌, ◌≤◌, ◌<◌, ◌++◌, ◌∷◌, ℕ, List, [], Option, Some, None, map, length, slice_get, codes, string_bytes}
 use Rattle.ob0_scan.specs.CodeTexts.{code_name, code_message}
 use Rattle.ob0_scan.specs.Refused.{AreFaults}
-use Rattle.ob0_scan.specs.Scanned.{Scanned, IsScannable, IsScanOf, max_faults}
+use Rattle.ob0_scan.specs.TextWithTokens.{TextWithTokens, IsScannable, IsScanOf, max_faults}
 use Rattle.ob0_scan.specs.declared.fault.Fault.{Fault}
 use Rattle.ob0_scan.specs.declared.lexeme.Span.{Span}
 use Rattle.ob0_scan.specs.declared.lexeme.Token.{Token}
 use Rattle.ob0_tree.specs.Module.{ModuleOf}
 use Rattle.ob0_tree.specs.Tree.{Tree, module_text}
-use Rattle.ob0_tree.specs.Parsed.{named_tree_of}
+use Rattle.ob0_tree.specs.ParsedModule.{named_tree_of}
 use Rattle.ob0_language_names.specs.Names.{Name}
 use Rattle.ob0_scope_table.specs.Resolution.{IsResolution, Resolution}
 use Rattle.ob0_language_types.specs.WellTyped.{WellTyped}
 use Rattle.ob0_types.specs.FaultOrder.{AreFirstFaults}
 use Rattle.ob0_parse_descent.specs.ExpectedText.{expected_text}
-use Rattle.ob0_parse.specs.RefusedBy.{RefusedBy}
+use Rattle.ob0_parse.specs.IsRightParseRefusal.{IsRightParseRefusal}
 use Rattle.ob0_parse_descent.specs.declared.refusal.ParseRefusal.{ParseRefusal}
 use Rattle.ob0_parse_descent.specs.declared.refusal.ParseRefusal.TheVariants.{Syntax, TooDeep, Memory}
 use Rattle.ob0_analysis.specs.declared.diagnoses.Diagnosis.{Diagnosis}
@@ -30,12 +30,12 @@ pub record Complaint : Type 0 where
   pub span : Span
 
 -- returns the code, message and span of a diagnosis
-abbrev pub complaint_in : Diagnosis → Complaint
-complaint_in d = record { code = d.code.now; said = string_bytes d.message; span = d.span }
+abbrev pub complaint_of_diagnosis : Diagnosis → Complaint
+complaint_of_diagnosis d = record { code = d.code.now; said = string_bytes d.message; span = d.span }
 
 -- holds if the text can be scanned and the tree spells its tokens
 pub record IsTextOf (tree : Tree Name module_text) (text : List ℕ) : Type 0 where
-  pub scanned : Scanned
+  pub scanned : TextWithTokens
   pub scan : IsScanOf text scanned
   pub module_of : ModuleOf scanned tree
 
@@ -48,8 +48,8 @@ pub record IsWellTypedModule (text : List ℕ) : Type 0 where
 -- ---- a text without lexemes
 
 -- returns the complaint about a fault of lexemes, names or types
-abbrev pub complaint_of : Fault → Complaint
-complaint_of fault =
+abbrev pub complaint_of_fault : Fault → Complaint
+complaint_of_fault fault =
     record { code = code_name fault.code; said = code_message fault.code; span = fault.span }
 
 -- Holds if the text can't be scanned and the list reports its lexical faults, at most the first hundred.
@@ -57,44 +57,44 @@ pub record ReportsLexemes (text : List ℕ) (reported : List Complaint) : Type 0
   pub unscannable : IsScannable text → ⊥
   pub faults : List Fault
   pub of_text : AreFaults text faults
-  pub all : reported ≡ map complaint_of faults
+  pub all : reported ≡ map complaint_of_fault faults
 
 -- ---- a text with lexemes and without a tree
 
 -- returns the span of a token; for None, an empty span at the end of the text
-abbrev pub place_in : List ℕ → Option Token → Span
-place_in text (Some token) = token.span
-place_in text None = record { start = length text; end = length text }
+abbrev pub span_or_end : List ℕ → Option Token → Span
+span_or_end text (Some token) = token.span
+span_or_end text None = record { start = length text; end = length text }
 
 -- returns the span of the token with this index; if there is none, an empty span at the end of the text
-abbrev pub place_of : Scanned → ℕ → Span
-place_of s token = place_in s.text (slice_get s.tokens token)
+abbrev pub token_span_or_end : TextWithTokens → ℕ → Span
+token_span_or_end s token = span_or_end s.text (slice_get s.tokens token)
 
 -- returns the complaint of a syntax error: `expected` followed by this word, at this place
-abbrev pub expects : List ℕ → Span → Complaint
-expects word place =
+abbrev pub syntax_error : List ℕ → Span → Complaint
+syntax_error word place =
     record { code = codes "Syntax"; said = codes "expected " ++ word; span = place }
 
 -- returns the complaint that a construct at this place is nested too deep
-abbrev pub too_deep : Span → Complaint
-too_deep place = record { code = codes "TooDeep"; said = codes "nested too deep"; span = place }
+abbrev pub depth_error : Span → Complaint
+depth_error place = record { code = codes "TooDeep"; said = codes "nested too deep"; span = place }
 
 -- Holds if the complaint reports this refusal of the parser, at the refused token. Never holds for
 -- lack of memory.
-abbrev pub IsRefusalAt : Scanned → ParseRefusal → Complaint → Type 0
-IsRefusalAt s (Syntax token expected) c = c ≡ expects (expected_text expected) (place_of s token)
-IsRefusalAt s (TooDeep token) c = c ≡ too_deep (place_of s token)
-IsRefusalAt s Memory c = ⊥
+abbrev pub ReportsRefusal : TextWithTokens → ParseRefusal → Complaint → Type 0
+ReportsRefusal s (Syntax token expected) c = c ≡ syntax_error (expected_text expected) (token_span_or_end s token)
+ReportsRefusal s (TooDeep token) c = c ≡ depth_error (token_span_or_end s token)
+ReportsRefusal s Memory c = ⊥
 
 -- holds if the parser refuses the text and the list has only one complaint, which reports this
 -- refusal
 pub record ReportsParser (text : List ℕ) (reported : List Complaint) : Type 0 where
-  pub scanned : Scanned
+  pub scanned : TextWithTokens
   pub scan : IsScanOf text scanned
   pub refusal : ParseRefusal
-  pub refused : RefusedBy scanned refusal
+  pub refused : IsRightParseRefusal scanned refusal
   pub complaint : Complaint
-  pub says : IsRefusalAt scanned refusal complaint
+  pub says : ReportsRefusal scanned refusal complaint
   pub alone : reported ≡ complaint ∷ []
 
 -- ---- a text with a tree that isn't well-typed
@@ -110,7 +110,7 @@ pub record ReportsTypes (text : List ℕ) (reported : List Complaint) : Type 0 w
   pub first : AreFirstFaults names faults
   pub some : 0 < length faults
   pub few : length faults ≤ max_faults
-  pub all : reported ≡ map complaint_of faults
+  pub all : reported ≡ map complaint_of_fault faults
 
 -- ---- every text
 
@@ -130,6 +130,6 @@ Reports text reported =
 -- ---- laws
 
 -- Two reports of the parser's refusal for the same text are equal.
-abbrev pub OneRefusal : Type 0
-OneRefusal =
+abbrev pub RefusalIsUnique : Type 0
+RefusalIsUnique =
     (text : List ℕ) (a b : List Complaint) → ReportsParser text a → ReportsParser text b → a ≡ b

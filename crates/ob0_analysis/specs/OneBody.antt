@@ -2,17 +2,17 @@
 -- Rule: none; for private contracts: what an analysis takes over.
 use Rattle.std.specs.Prelude.{◌≡◌}
 use Rattle.ob0_scan.specs.Reused.{kinds}
-use Rattle.ob0_scan.specs.Scanned.{Scanned}
+use Rattle.ob0_scan.specs.TextWithTokens.{TextWithTokens}
 use Rattle.ob0_scan.specs.declared.tokens.SameTokens.{SameTokens}
 use Rattle.ob0_tree.specs.declared.tree.ModuleTree.{ModuleTree}
 use Rattle.ob0_scope_table.specs.declared.resolved.Bindings.{Bindings}
 use Rattle.ob0_types.specs.declared.checked.ModuleTypes.{ModuleTypes}
-use Rattle.ob0_analysis.specs.LastModule.{HadModule}
+use Rattle.ob0_analysis.specs.LastModule.{IsEarlierModule}
 
 -- holds if some earlier text was a module with this tree, these bindings and these results for
 -- types, and its tokens have the same kinds as the tokens of `new`
-pub record HadTree
-    (new : Scanned) (tree : ModuleTree) (b : Bindings) (types : ModuleTypes) (s : SameTokens)
+pub record IsEarlierModuleWithSameKinds
+    (new : TextWithTokens) (tree : ModuleTree) (b : Bindings) (types : ModuleTypes) (s : SameTokens)
     : Type 0 where
-  pub had : HadModule new tree b types s
+  pub had : IsEarlierModule new tree b types s
   pub same_kinds : kinds new.tokens ≡ kinds had.old.tokens

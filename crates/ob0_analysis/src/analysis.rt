@@ -1,13 +1,13 @@
 //! The analysis of a text, as one value that can be kept and updated.
 //!
 //! An `Analysis` owns one of two things:
-//! - For a text that has lexemes, a `ReadText`: the parts of its module, or the parser's refusal
+//! - For a text that has lexemes, a `ScannedText`: the parts of its module, or the parser's refusal
 //!   and the tokens.
-//! - For a text with lexical faults, an `IllLexed`: the text, its faults, and the last `ReadText`
+//! - For a text with lexical faults, an `UnscannableText`: the text, its faults, and the last `ScannedText`
 //!   before it.
 //!
 //! The value of an `Analysis` is only the text. Its invariant says that everything in it belongs to
-//! that text (`IsFound`, `IsRead`). So `of` and `after` have the same clause, and contracts don't
+//! that text (`IsValidAnalysisResult`, `IsValidOutcome`). So `of` and `after` have the same clause, and contracts don't
 //! mention what is reused. If an analysis reuses more, the crates above don't change.
 //!
 //! `after` finds the common beginning and end of the old and the new text (`Difference::between`).
@@ -23,64 +23,64 @@
 //!   kept (`refusal_stays`). The parser looks only at kinds, so it would stop at the same token.
 //!   This saves the parsing for half of the keystrokes in an unfinished statement.
 //! - A kind has changed: procedures of the module's own block and its body are reused
-//!   (`tree_after`). If the tokens that differ lie in one body of both modules, after the body's
+//!   (`reparse_tree`). If the tokens that differ lie in one body of both modules, after the body's
 //!   first identifier, all results outside the body are kept, with their tokens moved
 //!   (`new_body.rt`). The two modules are equal outside this body (`body_replaced` in
 //!   `proofs/NewBody.antt`). Between them there may be texts that the parser refuses: meanwhile the
 //!   results for the earlier module are kept (`last_module.rt`).
 //!
-//! If all tokens have the same spelling (`words_in`), for example after a change of blanks, line
-//! endings or comments, everything is kept (`of_same_words`). The tree has the same names and
-//! numbers, and each fault is at the same tokens (`bindings_keep_tokens` of `ob0_scope`,
-//! `types_keep_tokens` of `ob0_types`). Faults are stored with spans. So the tokens of each fault
+//! If all tokens have the same spelling (`words_of_tokens`), for example after a change of blanks, line
+//! endings or comments, everything is kept (`reanalyse_same_words`). The tree has the same names and
+//! numbers, and each fault is at the same tokens (`bindings_move_with_tokens` of `ob0_scope`,
+//! `types_depend_on_tokens` of `ob0_types`). Faults are stored with spans. So the tokens of each fault
 //! are found by binary search before the scan, and the spans are computed again after it
 //! (`FaultPlaces`). A fault without tokens is at the text's start. So this is done only if both
 //! texts begin with a token, or neither does (`AreWrittenAlike`).
 //!
 //! If a new text has lexical faults, all results for the last text that had lexemes are kept,
-//! because a failing scan returns the old tokens (`IsRightRefusalOver`). The next successful scan
+//! because a failing scan returns the old tokens (`IsRightRescanRefusal`). The next successful scan
 //! starts from these tokens, after any number of texts with lexical faults. So if a bad character
 //! is typed and removed, nothing is lost. If the previous text or an earlier one was much longer
-//! than the new one (`SPARED`, `room`), nothing is kept.
+//! than the new one (`MAX_SPARE_BYTES`, `room`), nothing is kept.
 
 ghost use Rattle.std.specs.Prelude.{◌≡◌, ◌≤◌, IfErr, IfOk, MatchOption, length, map};
 ghost use Rattle.std.specs.Str.{IsUtf8};
 ghost use Rattle.ob0_scan.specs.Refused.{AreFaults};
-ghost use Rattle.ob0_scan.specs.Scanned.{IsScannable, IsScanOf};
-ghost use Rattle.ob0_analysis.specs.Diagnosed.{IsWellTypedModule, Reports, complaint_in};
+ghost use Rattle.ob0_scan.specs.TextWithTokens.{IsScannable, IsScanOf};
+ghost use Rattle.ob0_analysis.specs.Diagnosed.{IsWellTypedModule, Reports, complaint_of_diagnosis};
 
-use crate::diagnoses::{Diagnosis, of_faults};
+use crate::diagnoses::{Diagnosis, diagnoses_of_faults};
 use crate::parts::ModuleParts;
-use crate::read_text::{NotRead, ReadText};
-use ob0_parse::Kept;
+use crate::scanned_text::{ReanalysisFailure, ScannedText};
+use ob0_parse::KeptTrees;
 use ob0_scan::{Fault, ScanRefusal, scan};
 use std::alloc::{AllocError, Global};
 use std::marker::Model;
 
 /// If half of the room in the lists of an old analysis exceeds the new text's length by more than
 /// this number of bytes, the old analysis is dropped.
-const SPARED: usize = 4096;
+const MAX_SPARE_BYTES: usize = 4096;
 
 /// The analysis of a text with lexical faults: the text, its faults, and the analysis of the last text that had
 /// lexemes.
 #[derive(Drop)]
-pub(crate) struct IllLexed {
+pub(crate) struct UnscannableText {
     text: String,
     faults: Vec<Fault>,
-    last: Option<ReadText>,
+    last: Option<ScannedText>,
 }
 
 /// The result of analysing a text: its lexical faults, or the analysis of its lexemes.
 #[derive(Drop)]
-pub(crate) enum Findings {
-    NoLexemes(IllLexed),
-    Read(ReadText),
+pub(crate) enum AnalysisResult {
+    NoLexemes(UnscannableText),
+    Read(ScannedText),
 }
 
 /// The analysis of a text. In contracts its value is only the text. All results in it belong to
 /// this text, so it answers like an analysis from scratch.
 pub struct Analysis {
-    found: Findings,
+    found: AnalysisResult,
     /// The length of the longest text since the last analysis from scratch. Lists keep their
     /// capacity, so reused ones may have room for a text of that length.
     room: usize,
@@ -101,11 +101,11 @@ impl Model for Analysis {
 
     ghost Value = { List ℕ };
 
-    ghost use Rattle.ob0_analysis.specs.Found.{text_of, IsFound};
+    ghost use Rattle.ob0_analysis.specs.Found.{text_of, IsValidAnalysisResult};
 
     ghost view = { λ a. text_of a.found };
 
-    ghost invariant = { λ a. IsFound a.found };
+    ghost invariant = { λ a. IsValidAnalysisResult a.found };
 }
 
 impl Analysis {
@@ -115,91 +115,95 @@ impl Analysis {
     {
         match scan(alloc, text) {
             Ok(tokens) => {
-                let read = ReadText::of_tokens(alloc, tokens, Kept::none(alloc), None)?;
+                let read = ScannedText::parse_tokens(alloc, tokens, KeptTrees::empty(alloc), None)?;
                 Ok(Analysis {
-                    found: Findings::Read(read),
+                    found: AnalysisResult::Read(read),
                     room: 0,
                 })
             }
             Err(refusal) => match refusal {
-                ScanRefusal::Faults(faults) => Analysis::ill_lexed(alloc, text, faults, None, 0),
+                ScanRefusal::Faults(faults) => Analysis::with_lexical_faults(
+                    alloc, text, faults, None, 0,
+                ),
                 ScanRefusal::Memory => Err(AllocError),
             },
         }
     }
 
     /// Analyses another text, and reuses results for the parts that both texts have in common
-    /// (`ReadText::after`). If the new text has lexical faults, the results for the last text that
+    /// (`ScannedText::after`). If the new text has lexical faults, the results for the last text that
     /// had lexemes are kept.
     pub fn after(self, alloc: Global, text: &str) -> Result<Analysis, AllocError>
         ensures { IfOk result (λ a. a ≡ text.now) }
     {
         let Analysis { found, room } = self;
         match found {
-            Findings::NoLexemes(ill) => Analysis::after_faults(alloc, ill, room, text),
-            Findings::Read(read) => {
+            AnalysisResult::NoLexemes(ill) => Analysis::analyse_after_faults(
+                alloc, ill, room, text,
+            ),
+            AnalysisResult::Read(read) => {
                 let room = read.text().len().max(room);
-                Analysis::after_read(alloc, read, room, text)
+                Analysis::analyse_after_scanned(alloc, read, room, text)
             }
         }
     }
 
     /// Analyses a text after a text with lexical faults. If the analysis of the last text that had
     /// lexemes is kept, it is reused; its lists have room for a text of `room` bytes.
-    fn after_faults(
+    fn analyse_after_faults(
         alloc: Global,
-        ill: IllLexed,
+        ill: UnscannableText,
         room: usize,
         text: &str,
     ) -> Result<Analysis, AllocError>
         ensures { IfOk result (λ a. a ≡ text.now) }
     {
-        let IllLexed {
+        let UnscannableText {
             text: _,
             faults: _,
             last,
         } = ill;
         match last {
             None => Analysis::of(alloc, text),
-            Some(last) => Analysis::after_read(alloc, last, room, text),
+            Some(last) => Analysis::analyse_after_scanned(alloc, last, room, text),
         }
     }
 
     /// Analyses a text, and reuses the analysis `read` of a text that has lexemes. The lists of
     /// `read` have room for a text of `room` bytes. If this is much more than the new text needs,
     /// `read` is dropped, because reused lists keep their capacity.
-    fn after_read(
+    fn analyse_after_scanned(
         alloc: Global,
-        read: ReadText,
+        read: ScannedText,
         room: usize,
         text: &str,
     ) -> Result<Analysis, AllocError>
         ensures { IfOk result (λ a. a ≡ text.now) }
     {
-        if room / 2 > text.len().saturating_add(SPARED) {
+        if room / 2 > text.len().saturating_add(MAX_SPARE_BYTES) {
             return Analysis::of(alloc, text);
         }
         match read.after(alloc, text) {
             Ok(read) => Ok(Analysis {
-                found: Findings::Read(read),
+                found: AnalysisResult::Read(read),
                 room,
             }),
             Err(refusal) => match refusal {
-                NotRead::Faults(faults, last) => {
-                    Analysis::ill_lexed(alloc, text, faults, Some(last), room)
+                ReanalysisFailure::Faults(faults, last) => {
+                    Analysis::with_lexical_faults(alloc, text, faults, Some(last), room)
                 }
-                NotRead::Memory => Err(AllocError),
+                ReanalysisFailure::Memory => Err(AllocError),
             },
         }
     }
 
     /// Returns the analysis of a text with these lexical faults. `last` is the kept analysis of the
     /// last text that had lexemes, and `room` is the number of bytes for which its lists have room.
-    fn ill_lexed(
+    fn with_lexical_faults(
         alloc: Global,
         text: &str,
         faults: Vec<Fault>,
-        last: Option<ReadText>,
+        last: Option<ScannedText>,
         room: usize,
     ) -> Result<Analysis, AllocError>
         requires faults { AreFaults text.now faults.items }
@@ -208,7 +212,7 @@ impl Analysis {
     {
         let text = String::from_str(alloc, text)?;
         Ok(Analysis {
-            found: Findings::NoLexemes(IllLexed { text, faults, last }),
+            found: AnalysisResult::NoLexemes(UnscannableText { text, faults, last }),
             room,
         })
     }
@@ -218,21 +222,21 @@ impl Analysis {
         ensures { result.now ≡ self.now }
     {
         match &self.found {
-            Findings::NoLexemes(ill) => ill.text.as_str(),
-            Findings::Read(read) => read.text(),
+            AnalysisResult::NoLexemes(ill) => ill.text.as_str(),
+            AnalysisResult::Read(read) => read.text(),
         }
     }
 
     /// Returns the size of the analysis in bytes of text, as a measure of its memory. This is the
     /// length of its text, or of the longest earlier text for which its lists have room. If the
     /// text has lexical faults, both lengths are added.
-    pub fn bytes(&self) -> usize
+    pub fn size_in_bytes(&self) -> usize
         ensures { length self.now ≤ result }
     {
         let own = self.text().len();
         match &self.found {
-            Findings::NoLexemes(_) => own.saturating_add(self.room),
-            Findings::Read(_) => own.max(self.room),
+            AnalysisResult::NoLexemes(_) => own.saturating_add(self.room),
+            AnalysisResult::Read(_) => own.max(self.room),
         }
     }
 
@@ -243,8 +247,8 @@ impl Analysis {
             (λ m. IsScanOf self.now m.now.module_read.source) }
     {
         match &self.found {
-            Findings::NoLexemes(_) => None,
-            Findings::Read(read) => read.module_parts(),
+            AnalysisResult::NoLexemes(_) => None,
+            AnalysisResult::Read(read) => read.module_parts(),
         }
     }
 
@@ -254,14 +258,14 @@ impl Analysis {
     ///   where parsing stops.
     /// - If the text has a tree, the errors are the first hundred faults of names and types.
     pub fn diagnoses(&self, alloc: Global) -> Result<Vec<Diagnosis>, AllocError>
-        ensures reported { IfOk result (λ list. Reports self.now (map complaint_in list.items)) }
+        ensures reported { IfOk result (λ list. Reports self.now (map complaint_of_diagnosis list.items)) }
         ensures utf8 { IsUtf8 self.now }
     {
         // The contract of this call gives the proof the invariant of the analysis.
         let _text = self.text();
         match &self.found {
-            Findings::NoLexemes(ill) => of_faults(alloc, ill.faults.as_slice()),
-            Findings::Read(read) => read.diagnoses(alloc),
+            AnalysisResult::NoLexemes(ill) => diagnoses_of_faults(alloc, ill.faults.as_slice()),
+            AnalysisResult::Read(read) => read.diagnoses(alloc),
         }
     }
 }

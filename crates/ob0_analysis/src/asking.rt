@@ -14,11 +14,11 @@
 ghost use Rattle.std.specs.Prelude.{⊤, ℕ, List, IfOk};
 ghost use Rattle.std.specs.Str.{IsUtf8};
 ghost use Rattle.ob0_scope_table.specs.Resolution.{Resolution};
-ghost use Rattle.ob0_analysis.specs.Analysed.{Finds};
+ghost use Rattle.ob0_analysis.specs.Analysed.{AnswersIfWellTyped};
 
 use crate::analysis::Analysis;
-use ob0_parse::one_tree;
-use ob0_scan::laws::one_scan;
+use ob0_parse::tree_is_unique;
+use ob0_scan::laws::scan_is_unique;
 use ob0_types::WellTyped;
 use std::alloc::{AllocError, Global};
 
@@ -47,11 +47,11 @@ pub fn ask<Q: Question>(
     question: &Q,
 ) -> Result<Option<Q::Answer>, AllocError>
     requires { Q.is_about question.now analysis.now }
-    ensures found { IfOk result (Finds analysis.now (Q.answers question.now)) }
+    ensures found { IfOk result (AnswersIfWellTyped analysis.now (Q.answers question.now)) }
     ensures utf8 { IsUtf8 analysis.now }
 {
-    one_scan();
-    one_tree();
+    scan_is_unique();
+    tree_is_unique();
     // The contract of this call gives the proof the invariant of the analysis.
     let _text = analysis.text();
     let Some(parts) = analysis.module_parts() else {

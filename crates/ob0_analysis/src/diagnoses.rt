@@ -1,7 +1,7 @@
 //! The errors that are reported for a text.
 
 ghost use Rattle.std.specs.Prelude.{◌≡◌, IfOk, map};
-ghost use Rattle.ob0_analysis.specs.Diagnosed.{IsRefusalAt, complaint_in, complaint_of, expects as expected_at, too_deep as too_deep_at, place_of as place_in};
+ghost use Rattle.ob0_analysis.specs.Diagnosed.{ReportsRefusal, complaint_of_diagnosis, complaint_of_fault, syntax_error as expected_at, depth_error as too_deep_at, token_span_or_end as span_or_end};
 
 use ob0_parse_descent::ParseRefusal;
 use ob0_scan::{Fault, Span, Tokens};
@@ -16,19 +16,19 @@ pub struct Diagnosis {
 }
 
 /// Returns the diagnoses of faults of lexemes, names or types, in the same order.
-pub fn of_faults(alloc: Global, faults: &[Fault]) -> Result<Vec<Diagnosis>, AllocError>
-    ensures { IfOk result (λ list. map complaint_in list.items ≡ map complaint_of faults.now) }
+pub fn diagnoses_of_faults(alloc: Global, faults: &[Fault]) -> Result<Vec<Diagnosis>, AllocError>
+    ensures { IfOk result (λ list. map complaint_of_diagnosis list.items ≡ map complaint_of_fault faults.now) }
 {
     let mut list = Vec::new(alloc);
     for fault in faults {
-        list.push(of_fault(alloc, fault)?)?;
+        list.push(diagnosis_of_fault(alloc, fault)?)?;
     }
     Ok(list)
 }
 
 /// Returns the diagnosis of one fault, with its code's name and message.
-fn of_fault(alloc: Global, fault: &Fault) -> Result<Diagnosis, AllocError>
-    ensures { IfOk result (λ d. complaint_in d ≡ complaint_of fault.now) }
+fn diagnosis_of_fault(alloc: Global, fault: &Fault) -> Result<Diagnosis, AllocError>
+    ensures { IfOk result (λ d. complaint_of_diagnosis d ≡ complaint_of_fault fault.now) }
 {
     Ok(Diagnosis {
         code: fault.code.name(),
@@ -38,27 +38,27 @@ fn of_fault(alloc: Global, fault: &Fault) -> Result<Diagnosis, AllocError>
 }
 
 /// Returns the diagnosis of the parser's refusal, at the token that was refused.
-pub fn of_refusal(
+pub fn diagnosis_of_refusal(
     alloc: Global,
     tokens: &Tokens,
     refusal: &ParseRefusal,
 ) -> Result<Diagnosis, AllocError>
-    ensures { IfOk result (λ d. IsRefusalAt tokens.now refusal.now (complaint_in d)) }
+    ensures { IfOk result (λ d. ReportsRefusal tokens.now refusal.now (complaint_of_diagnosis d)) }
 {
     match refusal {
-        ParseRefusal::Syntax { token, expected } => expects(
+        ParseRefusal::Syntax { token, expected } => syntax_error(
             alloc,
             expected.text(),
-            place_of(tokens, *token),
+            token_span_or_end(tokens, *token),
         ),
-        ParseRefusal::TooDeep { token } => too_deep(alloc, place_of(tokens, *token)),
+        ParseRefusal::TooDeep { token } => depth_error(alloc, token_span_or_end(tokens, *token)),
         ParseRefusal::Memory => Err(AllocError),
     }
 }
 
 /// Returns the diagnosis of a syntax error: `expected` followed by this word, at this span.
-fn expects(alloc: Global, word: &str, span: Span) -> Result<Diagnosis, AllocError>
-    ensures { IfOk result (λ d. complaint_in d ≡ expected_at word.now span) }
+fn syntax_error(alloc: Global, word: &str, span: Span) -> Result<Diagnosis, AllocError>
+    ensures { IfOk result (λ d. complaint_of_diagnosis d ≡ expected_at word.now span) }
 {
     Ok(Diagnosis {
         code: "Syntax",
@@ -68,8 +68,8 @@ fn expects(alloc: Global, word: &str, span: Span) -> Result<Diagnosis, AllocErro
 }
 
 /// Returns the diagnosis of a construct that is nested too deep, at this span.
-fn too_deep(alloc: Global, span: Span) -> Result<Diagnosis, AllocError>
-    ensures { IfOk result (λ d. complaint_in d ≡ too_deep_at span) }
+fn depth_error(alloc: Global, span: Span) -> Result<Diagnosis, AllocError>
+    ensures { IfOk result (λ d. complaint_of_diagnosis d ≡ too_deep_at span) }
 {
     Ok(Diagnosis {
         code: "TooDeep",
@@ -80,8 +80,8 @@ fn too_deep(alloc: Global, span: Span) -> Result<Diagnosis, AllocError>
 
 /// Returns the span of the token with this index. If there is no such token, the span is empty and lies at the end of
 /// the text.
-fn place_of(tokens: &Tokens, token: usize) -> Span
-    ensures { result ≡ place_in tokens.now token }
+fn token_span_or_end(tokens: &Tokens, token: usize) -> Span
+    ensures { result ≡ span_or_end tokens.now token }
 {
     match tokens.tokens().get(token) {
         Some(token) => token.span,

@@ -1,7 +1,7 @@
 //! The difference between two texts.
 
 ghost use Rattle.std.specs.Prelude.{◌≡◌, ◌+◌, ◌-◌, ◌<◌, ◌≤◌, true, length, take, drop};
-ghost use Rattle.ob0_scan.specs.Reused.{IsReplaced};
+ghost use Rattle.ob0_scan.specs.Reused.{ReplacesRange};
 ghost use Rattle.ob0_analysis.specs.Pieces.{IsCommonPiece};
 
 /// A difference between two texts: the `removed` bytes of the first text that start at byte `from`
@@ -17,11 +17,11 @@ impl Difference {
     /// Returns the difference between two texts. It contains neither their common prefix nor the
     /// common suffix of the remaining bytes.
     pub(crate) fn between(old: &str, new: &str) -> Difference
-        ensures { IsReplaced old.now new.now result.from result.removed result.added }
+        ensures { ReplacesRange old.now new.now result.from result.removed result.added }
     {
         let (old, new) = (old.as_bytes(), new.as_bytes());
-        let from = common_prefix(old, new);
-        let following = common_back(old, new, from);
+        let from = common_prefix_length(old, new);
+        let following = common_suffix_length(old, new, from);
         Difference {
             from,
             removed: old.len() - from - following,
@@ -32,21 +32,21 @@ impl Difference {
 
 /// The number of bytes that are compared at once. Only the last of these pieces, in which the texts
 /// differ, is compared byte by byte.
-const PIECE: usize = 256;
+const COMPARISON_BLOCK: usize = 256;
 
 /// Returns the length of the common prefix of two texts, in bytes.
-fn common_prefix(a: &[u8], b: &[u8]) -> usize
+fn common_prefix_length(a: &[u8], b: &[u8]) -> usize
     ensures in_a { result ≤ length a.now }
     ensures in_b { result ≤ length b.now }
     ensures same { take result a.now ≡ take result b.now }
 {
-    let known = longer_prefix(a, b, 0, PIECE);
-    longer_prefix(a, b, known, 1)
+    let known = extend_prefix(a, b, 0, COMPARISON_BLOCK);
+    extend_prefix(a, b, known, 1)
 }
 
 /// Extends a known common prefix of two texts by equal pieces of `size` bytes. Returns the new length of the prefix, in
 /// bytes.
-fn longer_prefix(a: &[u8], b: &[u8], known: usize, size: usize) -> usize
+fn extend_prefix(a: &[u8], b: &[u8], known: usize, size: usize) -> usize
     requires some { 0 < size }
     requires in_a { known ≤ length a.now }
     requires in_b { known ≤ length b.now }
@@ -64,7 +64,7 @@ fn longer_prefix(a: &[u8], b: &[u8], known: usize, size: usize) -> usize
 
 /// Returns the length of the common suffix of two texts, in bytes. The first `from` bytes of each
 /// text aren't part of the suffix.
-fn common_back(a: &[u8], b: &[u8], from: usize) -> usize
+fn common_suffix_length(a: &[u8], b: &[u8], from: usize) -> usize
     requires in_a { from ≤ length a.now }
     requires in_b { from ≤ length b.now }
     ensures inside_a { result + from ≤ length a.now }
@@ -72,13 +72,13 @@ fn common_back(a: &[u8], b: &[u8], from: usize) -> usize
     ensures same { drop (length a.now - result) a.now ≡ drop (length b.now - result) b.now }
 {
     let most = (a.len() - from).min(b.len() - from);
-    let known = longer_suffix(a, b, most, 0, PIECE);
-    longer_suffix(a, b, most, known, 1)
+    let known = extend_suffix(a, b, most, 0, COMPARISON_BLOCK);
+    extend_suffix(a, b, most, known, 1)
 }
 
 /// Extends a known common suffix of two texts by equal pieces of `size` bytes. Returns the new length of the suffix, at
 /// most `most` bytes.
-fn longer_suffix(a: &[u8], b: &[u8], most: usize, known: usize, size: usize) -> usize
+fn extend_suffix(a: &[u8], b: &[u8], most: usize, known: usize, size: usize) -> usize
     requires some { 0 < size }
     requires in_a { most ≤ length a.now }
     requires in_b { most ≤ length b.now }

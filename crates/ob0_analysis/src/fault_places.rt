@@ -2,11 +2,11 @@
 //! the spans of the faults in the new text are computed from these tokens.
 
 ghost use Rattle.std.specs.Prelude.{◌≡◌, ◌==◌, true, IfOk, map};
-ghost use Rattle.ob0_scope_table.specs.FaultTokens.{fault_at, first_start};
-ghost use Rattle.ob0_analysis.specs.Before.{ArePlacesOf, HasFaultsAt, HasTypesAt};
+ghost use Rattle.ob0_scope_table.specs.FaultTokens.{fault_at, first_token_start};
+ghost use Rattle.ob0_analysis.specs.Before.{AreFaultPlacesOf, HasFaultsAt, HasTypesAt};
 
 use ob0_scan::Tokens;
-use ob0_scope_table::{Bindings, FaultAt, faults_at_tokens, token_span, tokens_of_faults};
+use ob0_scope_table::{Bindings, FaultByTokens, faults_at_tokens, faults_by_tokens, token_span};
 use ob0_types::ModuleTypes;
 use std::alloc::{AllocError, Global};
 
@@ -14,8 +14,8 @@ use std::alloc::{AllocError, Global};
 /// has no tokens.
 #[derive(Drop)]
 pub(crate) struct FaultPlaces {
-    pub(crate) names: Vec<FaultAt>,
-    pub(crate) types: Vec<FaultAt>,
+    pub(crate) names: Vec<FaultByTokens>,
+    pub(crate) types: Vec<FaultByTokens>,
     pub(crate) front: bool,
 }
 
@@ -27,36 +27,36 @@ impl FaultPlaces {
         bindings: &Bindings,
         types: &ModuleTypes,
     ) -> Result<FaultPlaces, AllocError>
-        ensures { IfOk result (ArePlacesOf tokens.now bindings.now types.now) }
+        ensures { IfOk result (AreFaultPlacesOf tokens.now bindings.now types.now) }
     {
-        let names = tokens_of_faults(alloc, tokens, &bindings.faults)?;
-        let types = tokens_of_faults(alloc, tokens, &types.faults)?;
+        let names = faults_by_tokens(alloc, tokens, &bindings.faults)?;
+        let types = faults_by_tokens(alloc, tokens, &types.faults)?;
         Ok(FaultPlaces {
             names,
             types,
-            front: begins_at_front(tokens),
+            front: begins_with_token(tokens),
         })
     }
 
     /// Returns true if a text and the module's text both begin with a token, or neither does. A
     /// text without tokens counts as one that begins with a token.
-    pub(crate) fn keep_front(&self, tokens: &Tokens) -> bool
-        ensures { result ≡ true → (first_start tokens.now == 0) ≡ self.now.front }
+    pub(crate) fn has_same_front(&self, tokens: &Tokens) -> bool
+        ensures { result ≡ true → (first_token_start tokens.now == 0) ≡ self.now.front }
     {
-        begins_at_front(tokens) == self.front
+        begins_with_token(tokens) == self.front
     }
 }
 
 /// Returns true if the text begins with a token or has no tokens.
-fn begins_at_front(tokens: &Tokens) -> bool
-    ensures { result ≡ (first_start tokens.now == 0) }
+fn begins_with_token(tokens: &Tokens) -> bool
+    ensures { result ≡ (first_token_start tokens.now == 0) }
 {
     token_span(tokens, 0).start == 0
 }
 
 /// Returns a module's bindings for a text whose tokens have the same spelling as the module's
 /// tokens. The spans of the faults are computed again, from the same tokens in that text.
-pub(crate) fn move_bindings(
+pub(crate) fn move_binding_faults(
     alloc: Global,
     tokens: &Tokens,
     bindings: Bindings,
@@ -81,7 +81,7 @@ pub(crate) fn move_bindings(
 
 /// Returns a module's results for types for a text whose tokens have the same spelling as the
 /// module's tokens. The spans of the faults are computed again, from the same tokens in that text.
-pub(crate) fn move_types(
+pub(crate) fn move_type_faults(
     alloc: Global,
     tokens: &Tokens,
     types: ModuleTypes,

@@ -3,17 +3,17 @@
 //! After most keystrokes in an unfinished statement the text has no tree. Meanwhile the names and
 //! types of the earlier module are kept, as long as all differences from it lie in one body, after
 //! the body's first identifier and before the END of its block. When the text has a tree again,
-//! only that body is bound and checked (`module_after`).
+//! only that body is bound and checked (`reuse_last_module`).
 //!
 //! The tree is dropped after the first text that the parser refuses, so the body can't be found
-//! again later. So the whole body counts as different from then on (`around`), and any further
+//! again later. So the whole body counts as different from then on (`widen_to_body`), and any further
 //! change must lie in the same body (`after`).
 
 ghost use Rattle.std.specs.Prelude.{◌≡◌, ◌≤◌, IfSome, Some};
-ghost use Rattle.ob0_analysis.specs.LastModule.{HadModule, IsStillSame, StaysLast, WasLast};
+ghost use Rattle.ob0_analysis.specs.LastModule.{IsEarlierModule, WidensDifference, KeepsLastModule, IsLastModuleOf};
 
 use ob0_scan::{SameTokens, Tokens};
-use ob0_scope_table::{Bindings, BodyPlace, place_of_body};
+use ob0_scope_table::{Bindings, BodyPlace, body_place_in_tree};
 use ob0_tree::ModuleTree;
 use ob0_types::ModuleTypes;
 
@@ -38,12 +38,12 @@ impl LastModule {
         types: ModuleTypes,
         same: SameTokens,
     ) -> Option<LastModule>
-        requires { HadModule tokens.now tree.now bindings types same }
-        ensures { IfSome result (WasLast tokens.now) }
+        requires { IsEarlierModule tokens.now tree.now bindings types same }
+        ensures { IfSome result (IsLastModuleOf tokens.now) }
     {
-        let body = place_of_body(tree, same.prefix, same.old_suffix)?;
-        let wider = around(same, body, tokens.tokens().len())?;
-        let place = place_of_body(tree, wider.prefix, wider.old_suffix)?;
+        let body = body_place_in_tree(tree, same.prefix, same.old_suffix)?;
+        let wider = widen_to_body(same, body, tokens.tokens().len())?;
+        let place = body_place_in_tree(tree, wider.prefix, wider.old_suffix)?;
         Some(LastModule {
             bindings,
             types,
@@ -55,18 +55,18 @@ impl LastModule {
     /// Returns the results for the last module after a further change, if the differences still lie in the same body.
     /// Otherwise returns None.
     pub(crate) fn after(last: Option<LastModule>, change: SameTokens) -> Option<LastModule>
-        ensures { StaysLast last change result }
+        ensures { KeepsLastModule last change result }
     {
         match last {
-            Some(last) => last.moved(change),
+            Some(last) => last.keep_after(change),
             None => None,
         }
     }
 
     /// Returns the results for the last module after a further change. Returns None if the change
     /// doesn't lie in the body that contains all earlier differences.
-    fn moved(self, change: SameTokens) -> Option<LastModule>
-        ensures { StaysLast (Some self) change result }
+    fn keep_after(self, change: SameTokens) -> Option<LastModule>
+        ensures { KeepsLastModule (Some self) change result }
     {
         let LastModule {
             bindings,
@@ -74,7 +74,7 @@ impl LastModule {
             same,
             place,
         } = self;
-        let wider = widened(change, same.prefix, same.new_suffix)?;
+        let wider = widen_difference(change, same.prefix, same.new_suffix)?;
         Some(LastModule {
             bindings,
             types,
@@ -91,12 +91,12 @@ impl LastModule {
 /// Extends the range of differences between two texts (`same`) to a whole body of the old text:
 /// from the token after its first identifier to the END of its block. Returns None if a difference
 /// lies outside this range, or if the range would end after the current text's `count` tokens.
-fn around(same: SameTokens, body: BodyPlace, count: usize) -> Option<SameTokens>
-    ensures { IfSome result (λ wider. IsStillSame same wider × (wider.new_suffix ≤ count)) }
+fn widen_to_body(same: SameTokens, body: BodyPlace, count: usize) -> Option<SameTokens>
+    ensures { IfSome result (λ wider. WidensDifference same wider × (wider.new_suffix ≤ count)) }
 {
     let prefix = body.first.checked_add(1)?;
     let end = body.closing.checked_sub(1)?;
-    let wider = widened(same, prefix, end)?;
+    let wider = widen_difference(same, prefix, end)?;
     if wider.new_suffix > count {
         return None;
     }
@@ -105,8 +105,8 @@ fn around(same: SameTokens, body: BodyPlace, count: usize) -> Option<SameTokens>
 
 /// Extends the range of differences between two texts (`same`) to `prefix..old_suffix`, as token
 /// indexes in the old text. Returns None if the new range doesn't contain the old one.
-fn widened(same: SameTokens, prefix: usize, old_suffix: usize) -> Option<SameTokens>
-    ensures wider { IfSome result (IsStillSame same) }
+fn widen_difference(same: SameTokens, prefix: usize, old_suffix: usize) -> Option<SameTokens>
+    ensures wider { IfSome result (WidensDifference same) }
     ensures prefix { IfSome result (λ wider. wider.prefix ≡ prefix) }
     ensures suffix { IfSome result (λ wider. wider.old_suffix ≡ old_suffix) }
 {

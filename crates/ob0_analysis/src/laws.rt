@@ -1,13 +1,13 @@
 //! The laws that contracts of this crate cite.
 
-ghost use Rattle.ob0_analysis.specs.Diagnosed.{OneRefusal};
+ghost use Rattle.ob0_analysis.specs.Diagnosed.{RefusalIsUnique};
 
-use ob0_scan::laws::one_scan;
+use ob0_scan::laws::scan_is_unique;
 
 /// Proves that the report of the parser's refusal is a function of the text.
-pub fn one_refusal()
-    ensures { OneRefusal }
+pub fn refusal_is_unique()
+    ensures { RefusalIsUnique }
 {
-    one_scan();
-    ob0_parse::laws::one_stop();
+    scan_is_unique();
+    ob0_parse::laws::stop_is_unique();
 }

@@ -6,7 +6,6 @@
 mod analysis;
 mod asking;
 mod diagnoses;
-mod diagnosing;
 mod differences;
 mod fault_places;
 mod last_module;
@@ -14,7 +13,8 @@ pub mod laws;
 mod new_body;
 mod one_body;
 mod parts;
-mod read_text;
+mod scanned_text;
+mod text_errors;
 
 pub use analysis::Analysis;
 pub use asking::{Question, ask};

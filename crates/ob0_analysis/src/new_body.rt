@@ -2,20 +2,20 @@
 //! results for the last module are reused outside this body.
 
 ghost use Rattle.std.specs.Prelude.{◌≡◌, true, IfOk};
-ghost use Rattle.ob0_tree.specs.Parsed.{IsParsed, parsed_by};
+ghost use Rattle.ob0_tree.specs.ParsedModule.{IsParsed, parsed_module};
 ghost use Rattle.ob0_scope.specs.NewBody.{WasBoundElsewhere};
-ghost use Rattle.ob0_scope_table.specs.Bindings.{resolution_by};
+ghost use Rattle.ob0_scope_table.specs.Bindings.{resolution_with};
 ghost use Rattle.ob0_scope_table.specs.Resolution.{IsResolution};
 ghost use Rattle.ob0_types.specs.CheckedModules.{AreTypesOf};
-ghost use Rattle.ob0_types.specs.NewBody.{WereTypesElsewhere};
-ghost use Rattle.ob0_analysis.specs.LastModule.{WasLast};
+ghost use Rattle.ob0_types.specs.NewBody.{WereTypesBeforeNewBody};
+ghost use Rattle.ob0_analysis.specs.LastModule.{IsLastModuleOf};
 ghost use Rattle.ob0_analysis.specs.NewBody.{IsSameBody};
 
 use crate::last_module::LastModule;
 use crate::parts::ModuleParts;
 use ob0_scan::{SameTokens, Tokens};
 use ob0_scope::rebind_new_body;
-use ob0_scope_table::{Bindings, BodyPlace, Resolved, place_of_body};
+use ob0_scope_table::{Bindings, BodyPlace, Resolved, body_place_in_tree};
 use ob0_tree::{Module, ModuleTree};
 use ob0_types::{ModuleTypes, types_with_new_body};
 use std::alloc::{AllocError, Global};
@@ -23,15 +23,15 @@ use std::alloc::{AllocError, Global};
 /// Analyses a module, and reuses names and types of the last module if possible. If all tokens that
 /// may differ lie in one body of both modules, only that body is bound and checked again. Otherwise
 /// the whole module is bound and checked.
-pub(crate) fn module_after(
+pub(crate) fn reuse_last_module(
     alloc: Global,
     tokens: Tokens,
     tree: ModuleTree,
     last: LastModule,
 ) -> Result<ModuleParts, AllocError>
-    requires parsed { IsParsed (parsed_by tokens tree) }
-    requires before { WasLast tokens last }
-    ensures { IfOk result (λ m. m.module_read ≡ parsed_by tokens tree) }
+    requires parsed { IsParsed (parsed_module tokens tree) }
+    requires before { IsLastModuleOf tokens last }
+    ensures { IfOk result (λ m. m.module_read ≡ parsed_module tokens tree) }
 {
     let LastModule {
         bindings,
@@ -39,7 +39,7 @@ pub(crate) fn module_after(
         same,
         place,
     } = last;
-    let now = place_of_body(&tree, same.prefix, same.new_suffix);
+    let now = body_place_in_tree(&tree, same.prefix, same.new_suffix);
     if !is_same_body(place, now, same) {
         return ModuleParts::of(alloc, tokens, tree);
     }
@@ -80,9 +80,9 @@ fn bind_new_body(
     bindings: Bindings,
     same: SameTokens,
 ) -> Result<Bindings, AllocError>
-    requires parsed { IsParsed (parsed_by tokens.now tree.now) }
-    requires before { WasBoundElsewhere (parsed_by tokens.now tree.now) bindings same }
-    ensures { IfOk result (λ b. IsResolution (resolution_by (parsed_by tokens.now tree.now) b)) }
+    requires parsed { IsParsed (parsed_module tokens.now tree.now) }
+    requires before { WasBoundElsewhere (parsed_module tokens.now tree.now) bindings same }
+    ensures { IfOk result (λ b. IsResolution (resolution_with (parsed_module tokens.now tree.now) b)) }
 {
     let read = Module::from_parts(tokens, tree);
     rebind_new_body(alloc, &read, bindings, same)
@@ -97,12 +97,12 @@ fn check_new_body(
     types: ModuleTypes,
     same: SameTokens,
 ) -> Result<ModuleTypes, AllocError>
-    requires parsed { IsParsed (parsed_by tokens.now tree.now) }
-    requires resolved { IsResolution (resolution_by (parsed_by tokens.now tree.now) bindings.now) }
-    requires before { WereTypesElsewhere
-        (resolution_by (parsed_by tokens.now tree.now) bindings.now) types same }
+    requires parsed { IsParsed (parsed_module tokens.now tree.now) }
+    requires resolved { IsResolution (resolution_with (parsed_module tokens.now tree.now) bindings.now) }
+    requires before { WereTypesBeforeNewBody
+        (resolution_with (parsed_module tokens.now tree.now) bindings.now) types same }
     ensures { IfOk result
-        (AreTypesOf (resolution_by (parsed_by tokens.now tree.now) bindings.now)) }
+        (AreTypesOf (resolution_with (parsed_module tokens.now tree.now) bindings.now)) }
 {
     let module = Module::from_parts(tokens, tree);
     let resolved = Resolved::from_parts(&module, bindings);

@@ -6,8 +6,8 @@
 //! allocate. In contracts, a `ModuleParts` has the same value as its `Resolved`.
 
 ghost use Rattle.std.specs.Prelude.{◌≡◌, IfOk};
-ghost use Rattle.ob0_tree.specs.Parsed.{IsParsed, parsed_by};
-ghost use Rattle.ob0_scope_table.specs.Bindings.{resolution_by};
+ghost use Rattle.ob0_tree.specs.ParsedModule.{IsParsed, parsed_module};
+ghost use Rattle.ob0_scope_table.specs.Bindings.{resolution_with};
 ghost use Rattle.ob0_scope_table.specs.Resolution.{IsResolution};
 ghost use Rattle.ob0_types.specs.CheckedModules.{AreCheckedFaults, AreTypesOf, IsChecked};
 
@@ -30,8 +30,8 @@ pub(crate) struct ModuleParts {
 }
 
 impl Model for ModuleParts {
-    ghost use Rattle.ob0_tree.specs.Parsed.{IsParsed, parsed_by};
-    ghost use Rattle.ob0_scope_table.specs.Bindings.{resolution_by};
+    ghost use Rattle.ob0_tree.specs.ParsedModule.{IsParsed, parsed_module};
+    ghost use Rattle.ob0_scope_table.specs.Bindings.{resolution_with};
     ghost use Rattle.ob0_scope_table.specs.Resolution.{IsResolution, Resolution};
     ghost use Rattle.ob0_types.specs.CheckedModules.{AreTypesOf};
 
@@ -42,9 +42,9 @@ impl Model for ModuleParts {
 
     ghost coded = { Prim.hlevel (codes, block_contract.the_row.coded) };
 
-    ghost view = { λ m. resolution_by (parsed_by m.tokens m.tree) m.bindings };
+    ghost view = { λ m. resolution_with (parsed_module m.tokens m.tree) m.bindings };
 
-    ghost invariant = { λ m. let r = resolution_by (parsed_by m.tokens m.tree) m.bindings in
+    ghost invariant = { λ m. let r = resolution_with (parsed_module m.tokens m.tree) m.bindings in
         IsParsed r.module_read × (IsResolution r × AreTypesOf r m.types) };
 }
 
@@ -55,8 +55,8 @@ impl ModuleParts {
         tokens: Tokens,
         tree: ModuleTree,
     ) -> Result<ModuleParts, AllocError>
-        requires { IsParsed (parsed_by tokens tree) }
-        ensures { IfOk result (λ m. m.module_read ≡ parsed_by tokens tree) }
+        requires { IsParsed (parsed_module tokens tree) }
+        ensures { IfOk result (λ m. m.module_read ≡ parsed_module tokens tree) }
     {
         let bindings = bindings_of(alloc, &Module::from_parts(&tokens, &tree))?;
         let types = check_types(alloc, &tokens, &tree, &bindings)?;
@@ -75,10 +75,10 @@ impl ModuleParts {
         bindings: Bindings,
         types: ModuleTypes,
     ) -> ModuleParts
-        requires parsed { IsParsed (parsed_by tokens tree) }
-        requires resolved { IsResolution (resolution_by (parsed_by tokens tree) bindings) }
-        requires types { AreTypesOf (resolution_by (parsed_by tokens tree) bindings) types }
-        ensures { result ≡ resolution_by (parsed_by tokens tree) bindings }
+        requires parsed { IsParsed (parsed_module tokens tree) }
+        requires resolved { IsResolution (resolution_with (parsed_module tokens tree) bindings) }
+        requires types { AreTypesOf (resolution_with (parsed_module tokens tree) bindings) types }
+        ensures { result ≡ resolution_with (parsed_module tokens tree) bindings }
     {
         ModuleParts {
             tokens,
@@ -129,9 +129,9 @@ impl ModuleParts {
 
     /// Takes the module apart and returns its parts, so that each can be reused.
     pub(crate) fn into_parts(self) -> (Tokens, ModuleTree, Bindings, ModuleTypes)
-        ensures parsed { IsParsed (parsed_by result.0 result.1) }
-        ensures resolved { IsResolution (resolution_by (parsed_by result.0 result.1) result.2) }
-        ensures types { AreTypesOf (resolution_by (parsed_by result.0 result.1) result.2) result.3 }
+        ensures parsed { IsParsed (parsed_module result.0 result.1) }
+        ensures resolved { IsResolution (resolution_with (parsed_module result.0 result.1) result.2) }
+        ensures types { AreTypesOf (resolution_with (parsed_module result.0 result.1) result.2) result.3 }
     {
         let ModuleParts {
             tokens,
@@ -150,10 +150,10 @@ pub(crate) fn check_types(
     tree: &ModuleTree,
     bindings: &Bindings,
 ) -> Result<ModuleTypes, AllocError>
-    requires parsed { IsParsed (parsed_by tokens.now tree.now) }
-    requires resolved { IsResolution (resolution_by (parsed_by tokens.now tree.now) bindings.now) }
+    requires parsed { IsParsed (parsed_module tokens.now tree.now) }
+    requires resolved { IsResolution (resolution_with (parsed_module tokens.now tree.now) bindings.now) }
     ensures { IfOk result
-        (AreTypesOf (resolution_by (parsed_by tokens.now tree.now) bindings.now)) }
+        (AreTypesOf (resolution_with (parsed_module tokens.now tree.now) bindings.now)) }
 {
     let module = Module::from_parts(tokens, tree);
     let resolved = Resolved::from_parts(&module, bindings);

@@ -20,7 +20,7 @@ use Rattle.clap.specs.declared.parser.matches.ArgMatches.TheViews.{out-ArgMatche
 use Rattle.clap.specs.declared.parser.matches.SubCommand.{SubCommand}
 use Rattle.std.specs.Box.{box_value}
 use Rattle.clap.proofs.OnLiterals.{clap_on_literals}
-use Rattle.ob0_cli.specs.Given.{FoundCommand, HasBounded, HasNeeded, HasPlace, HasText, NeedsAt, most_of}
+use Rattle.ob0_cli.specs.Given.{FoundCommand, HasBoundedValue, IsCompleteCommand, HasCoordinateValue, HasTextValue, HasNeededValues, max_option_value}
 use Rattle.ob0_cli.specs.Lines.{calls_rule, number_rule, ob0_app, turns_rule, word_rule}
 use Rattle.ob0_cli.proofs.Rows.{Each, Fits, HasPassed, default_passed, found_of, passed_by, required_passed}
 use Rattle.ob0_cli.proofs.Stops.{IsNoHelp, walk_stops}
@@ -38,7 +38,7 @@ simple_and_free = refl
 
 -- Holds if words that have no fault give this subcommand all the arguments that it needs.
 abbrev Needs : Shape → Type 0
-Needs s = (words : List Text) → level_fault s [] nothing_held words false [] ≡ [] → NeedsAt s.name (rows_after s.rules [] words)
+Needs s = (words : List Text) → level_fault s [] nothing_held words false [] ≡ [] → HasNeededValues s.name (rows_after s.rules [] words)
 
 -- Holds if a word other than `help` that selects the subcommand implies `Needs`.
 abbrev NeedsNamed : Shape → Type 0
@@ -66,24 +66,24 @@ at_rename = nth 3 subs
 abbrev placed : ℕ → Rule → Rule
 placed i a = with_index i (filled a)
 
-has_text : (rules : List Rule) (rows : List Row) (id : Text) → HasPassed rules rows id → HasText id rows
+has_text : (rules : List Rule) (rows : List Row) (id : Text) → HasPassed rules rows id → HasTextValue id rows
 has_text rules rows id passed = (passed.value, passed.first)
 
 has_place : (rules : List Rule) (rows : List Row) (a : Rule) → arg_by_id rules a.id ≡ Some a → a.parser ≡ Some (Unsigned 0 18446744073709551615)
-    → HasPassed rules rows a.id → HasPlace a.id rows
+    → HasPassed rules rows a.id → HasCoordinateValue a.id rows
 has_place rules rows a is parser passed =
     let by = passed_by rules a a.id passed.value passed.how is passed.passed in
     let accepted : accepts a.ignore_case (Unsigned 0 18446744073709551615) passed.value ≡ true = rw parser at by.0 in
     let how : passed.how ≡ AsWritten = by.1 ∙ ap (λ p. reading_of (parser_of_value p)) parser in
     (passed.value, rw how at passed.read, accepts-Accepts a.ignore_case (Unsigned 0 18446744073709551615) passed.value accepted)
 
-has_bounded : (rules : List Rule) (rows : List Row) (a : Rule) → arg_by_id rules a.id ≡ Some a → a.parser ≡ Some (Signed (pos 0) (pos (most_of a.id)))
-    → HasPassed rules rows a.id → HasBounded a.id rows
+has_bounded : (rules : List Rule) (rows : List Row) (a : Rule) → arg_by_id rules a.id ≡ Some a → a.parser ≡ Some (Signed (pos 0) (pos (max_option_value a.id)))
+    → HasPassed rules rows a.id → HasBoundedValue a.id rows
 has_bounded rules rows a is parser passed =
     let by = passed_by rules a a.id passed.value passed.how is passed.passed in
-    let accepted : accepts a.ignore_case (Signed (pos 0) (pos (most_of a.id))) passed.value ≡ true = rw parser at by.0 in
+    let accepted : accepts a.ignore_case (Signed (pos 0) (pos (max_option_value a.id))) passed.value ≡ true = rw parser at by.0 in
     let how : passed.how ≡ WithoutMinus = by.1 ∙ ap (λ p. reading_of (parser_of_value p)) parser in
-    (passed.value, rw how at passed.read, accepts-Accepts a.ignore_case (Signed (pos 0) (pos (most_of a.id))) passed.value accepted)
+    (passed.value, rw how at passed.read, accepts-Accepts a.ignore_case (Signed (pos 0) (pos (max_option_value a.id))) passed.value accepted)
 
 serve_needs : Needs (nth 0 subs)
 unfolding clap_on_literals nth
@@ -178,20 +178,20 @@ enabled = refl
 -- If the walk ends at a subcommand other than `help` and that subcommand has no fault, it has all
 -- the arguments that it needs.
 entered_needs : (stop : Option (Text × List Text)) → IsNoHelp stop → entered_fault (built ob0_app) stop ≡ [] → is_some (entered (built ob0_app) stop) ≡ true
-    → HasNeeded (entered (built ob0_app) stop)
+    → IsCompleteCommand (entered (built ob0_app) stop)
 entered_needs None other e there = cc
 entered_needs (Some p) other e there = go (find (λ s. answers_to p.0 (label_of s)) subs) refl e there
   where
     go : (o : Option Shape) → find (λ s. answers_to p.0 (label_of s)) subs ≡ o
         → option_map_or (λ s. level_fault s [] nothing_held p.1 false []) o [] ≡ [] → is_some (option_map (λ s. rows_at s p.1) o) ≡ true
-        → HasNeeded (option_map (λ s. rows_at s p.1) o)
+        → IsCompleteCommand (option_map (λ s. rows_at s p.1) o)
     go None is e there = cc
     go (Some s) is e there =
         let found = found_of NeedsNamed subs all_need (λ s. answers_to p.0 (label_of s)) s is in
         (s.name, rows_after s.rules [] p.1, refl, found.0 p.0 found.1 other p.1 e)
 
 -- If words that have no fault select a subcommand, it has all the arguments that it needs.
-words_need : (words : List Text) → fault_of ob0_app words ≡ [] → is_some (subcommand_of ob0_app words) ≡ true → HasNeeded (subcommand_of ob0_app words)
+words_need : (words : List Text) → fault_of ob0_app words ≡ [] → is_some (subcommand_of ob0_app words) ≡ true → IsCompleteCommand (subcommand_of ob0_app words)
 words_need words e there =
     let top = (built ob0_app).top in
     let names = names_of (built ob0_app) in
@@ -216,7 +216,7 @@ mapped_some f (Some a) e = refl
 -- If the words have no fault, clap's matches have the subcommand that the words select, with all
 -- the arguments that it needs.
 pub parsed : (c : Command) (words : List Text) (m : ArgMatches) → app_of c ≡ ob0_app → fault_of ob0_app words ≡ [] → IsParsedFrom c m → HasMatchesOf (app_of c) words m
-    → (subcommand_rows_of m ≡ subcommand_of ob0_app words) × HasNeeded (subcommand_rows_of m)
+    → (subcommand_rows_of m ≡ subcommand_of ob0_app words) × IsCompleteCommand (subcommand_rows_of m)
 parsed c words m is none from matches =
     let plain = no_globals _ _ _ _ (ap (λ (a : App). a.top.is_plain) is) in
     let required = ap (λ (a : App). a.top.subcommand_required) is in
@@ -224,7 +224,7 @@ parsed c words m is none from matches =
     let has : has_subcommand m ≡ true = checked.subcommand (from.from.needs_subcommand ∙ required) in
     let same : subcommand_rows_of m ≡ subcommand_of ob0_app words = (matches (ap is_simple is ∙ simple)).1 ∙ ap (λ (a : App). subcommand_of a words) is in
     let there : is_some (subcommand_of ob0_app words) ≡ true = subst (λ o. is_some o ≡ true) same (mapped_some _ _ has) in
-    (same, subst HasNeeded (sym same) (words_need words none there))
+    (same, subst IsCompleteCommand (sym same) (words_need words none there))
 
 -- ---- from the matches to the line
 
@@ -246,11 +246,11 @@ named_rows m name rows n r = go (out-ArgMatches m).subcommand n r
 
 -- The getter of the subcommand returns its name and rows, and the subcommand has all the arguments
 -- that it needs.
-pub entered_is : (m given : ArgMatches) (name : Text) → HasNeeded (subcommand_rows_of m) → Some name ≡ subcommand_name_of m
+pub entered_is : (m given : ArgMatches) (name : Text) → IsCompleteCommand (subcommand_rows_of m) → Some name ≡ subcommand_name_of m
     → Some (rows_of (found_in given)) ≡ option_map (λ p. p.1) (subcommand_rows_of m)
-    → (subcommand_rows_of m ≡ Some (name, rows_of (found_in given))) × NeedsAt name (rows_of (found_in given))
+    → (subcommand_rows_of m ≡ Some (name, rows_of (found_in given))) × HasNeededValues name (rows_of (found_in given))
 entered_is m given name (called, found, is, needs) n r =
     let rows = rows_of (found_in given) in
     let here = named_rows m name rows n r in
     let same : (called, found) ≡ (name, rows) = ap (λ (o : FoundCommand). option_map_or (λ p. p) o (called, found)) (sym is ∙ here) in
-    (here, subst (λ (p : Text × List Row). NeedsAt p.0 p.1) same needs)
+    (here, subst (λ (p : Text × List Row). HasNeededValues p.0 p.1) same needs)

@@ -3,7 +3,7 @@ use Rattle.std.proofs.Common.{◌≡◌, ◌∙◌, ℕ, List, false, true, leng
 use Rattle.std.specs.Str.{bytes_eq}
 use Rattle.std.proofs.lemmas.Slice.Eq.{bytes_eq-Decides}
 use Rattle.clap.specs.Words.{Row, Text}
-use Rattle.ob0_cli.specs.Given.{HasBounded, HasPlace, HasText, NeedsAt}
+use Rattle.ob0_cli.specs.Given.{HasBoundedValue, HasCoordinateValue, HasTextValue, HasNeededValues}
 
 -- Returns the first letter of a name, or 0 if the name is empty. It distinguishes a name from all
 -- others except one.
@@ -16,7 +16,7 @@ other_first name a b e f = ap first (sym e ∙ f)
 other_length : (name : Text) (a b : Text) → name ≡ a → name ≡ b → length a ≡ length b
 other_length name a b e f = ap (λ (t : Text). length t) (sym e ∙ f)
 
-pub check_needs : (name : Text) (rows : List Row) → NeedsAt name rows → name ≡ codes "check" → HasText (codes "file") rows
+pub check_needs : (name : Text) (rows : List Row) → HasNeededValues name rows → name ≡ codes "check" → HasTextValue (codes "file") rows
 unfolding first
 check_needs name rows (inl e) is =
     let bad : 115 ≡ 99 = other_first name _ _ e is in
@@ -30,11 +30,11 @@ check_needs name rows (inr (inr (inr (e, file, line, column, new)))) is =
     absurd (omega (arith, bad))
 
 pub record RunNeeds (rows : List Row) : Type 0 where
-  pub file : HasText (codes "file") rows
-  pub calls : HasBounded (codes "calls") rows
-  pub turns : HasBounded (codes "turns") rows
+  pub file : HasTextValue (codes "file") rows
+  pub calls : HasBoundedValue (codes "calls") rows
+  pub turns : HasBoundedValue (codes "turns") rows
 
-pub run_needs : (name : Text) (rows : List Row) → NeedsAt name rows → name ≡ codes "run" → RunNeeds rows
+pub run_needs : (name : Text) (rows : List Row) → HasNeededValues name rows → name ≡ codes "run" → RunNeeds rows
 unfolding first
 run_needs name rows (inl e) is =
     let bad : 115 ≡ 114 = other_first name _ _ e is in
@@ -54,12 +54,12 @@ other name word e is =
 
 pub record RenameNeeds (name : Text) (rows : List Row) : Type 0 where
   pub named : name ≡ codes "rename"
-  pub file : HasText (codes "file") rows
-  pub line : HasPlace (codes "line") rows
-  pub column : HasPlace (codes "column") rows
-  pub new : HasText (codes "name") rows
+  pub file : HasTextValue (codes "file") rows
+  pub line : HasCoordinateValue (codes "line") rows
+  pub column : HasCoordinateValue (codes "column") rows
+  pub new : HasTextValue (codes "name") rows
 
-pub rename_needs : (name : Text) (rows : List Row) → NeedsAt name rows → bytes_eq name (codes "serve") ≡ false → bytes_eq name (codes "check") ≡ false → bytes_eq name (codes "run") ≡ false
+pub rename_needs : (name : Text) (rows : List Row) → HasNeededValues name rows → bytes_eq name (codes "serve") ≡ false → bytes_eq name (codes "check") ≡ false → bytes_eq name (codes "run") ≡ false
     → RenameNeeds name rows
 rename_needs name rows (inl e) serve check run = absurd (other name _ serve e)
 rename_needs name rows (inr (inl (e, file))) serve check run = absurd (other name _ check e)

@@ -141,7 +141,7 @@ record Fine (s : Shape) (words : List Text) : Type 0 where
   walking : walk_fault s [] (walk_from nothing_held) words ≡ []
   settling : settle_fault s.rules s.args_override_self (walk s.rules [] nothing_held words).held ≡ []
   defaulting : defaults_fault (settled s.rules (walk s.rules [] nothing_held words).held).rows s.rules ≡ []
-  checking : check_fault s (rows_after s.rules [] words) false ≡ []
+  check_command : check_fault s (rows_after s.rules [] words) false ≡ []
 
 fine : (s : Shape) (words : List Text) → level_fault s [] nothing_held words false [] ≡ [] → Fine s words
 fine s words e =
@@ -152,7 +152,7 @@ fine s words e =
     let one = neither (walk_fault s [] (walk_from nothing_held) words) (or_else settle (or_else defaults check)) e in
     let two = neither settle (or_else defaults check) one.1 in
     let three = neither defaults check two.1 in
-    record { walking = one.0; settling = two.0; defaulting = three.0; checking = three.1 }
+    record { walking = one.0; settling = two.0; defaulting = three.0; check_command = three.1 }
 
 rows_kept : (s : Shape) (words : List Text) → Each (Fits s.rules) s.rules → level_fault s [] nothing_held words false [] ≡ []
     → Each (Meets (Passed s.rules)) (rows_after s.rules [] words)
@@ -180,7 +180,7 @@ none_of {A} q (x ∷ xs) none p a e = go (p x) (q x) refl none e (λ rest. none_
 -- If the words have no fault, every required argument was given.
 required_given : (s : Shape) (words : List Text) → s.subcommand_negates_reqs ≡ false → level_fault s [] nothing_held words false [] ≡ []
     → list_any (λ a. a.required && not (is_given a.id (rows_after s.rules [] words))) s.rules ≡ false
-required_given s words plain e = third _ _ _ (rw plain at (fine s words e).checking)
+required_given s words plain e = third _ _ _ (rw plain at (fine s words e).check_command)
   where
     third : (a b c : Bool) → check_kinds a b c ≡ [] → c ≡ false
     third true b c e = cc

@@ -19,48 +19,48 @@ abbrev pub FoundCommand : Type 0
 FoundCommand = Option (Text × List Row)
 
 -- Holds if the number `n` is the value of the argument `id`, given or by default.
-abbrev pub IsNumber : Text → List Row → ℕ → Type 0
-IsNumber id rows n =
+abbrev pub HasNumberValue : Text → List Row → ℕ → Type 0
+HasNumberValue id rows n =
     (digits : Text)
     × (one_of id rows ≡ Some digits)
     × (n ≡ digits_value 10 (without_leading_plus digits))
 
 -- Holds if the command line belongs to the subcommand with this name, and has the values found for
 -- its arguments.
-abbrev pub HoldsValues : Text → List Row → CommandLine → Type 0
-HoldsValues name rows Serve = name ≡ codes "serve"
-HoldsValues name rows (Check file) =
+abbrev pub HasFoundValues : Text → List Row → CommandLine → Type 0
+HasFoundValues name rows Serve = name ≡ codes "serve"
+HasFoundValues name rows (Check file) =
     (name ≡ codes "check") × (first_of (codes "file") rows ≡ Some file.now)
-HoldsValues name rows (Run file calls turns) =
+HasFoundValues name rows (Run file calls turns) =
     (name ≡ codes "run") × (first_of (codes "file") rows ≡ Some file.now)
-    × IsNumber (codes "calls") rows calls
+    × HasNumberValue (codes "calls") rows calls
     × (calls ≤ max_calls)
-    × IsNumber (codes "turns") rows turns
+    × HasNumberValue (codes "turns") rows turns
     × (turns ≤ max_turns)
-HoldsValues name rows (Rename file position new) =
+HasFoundValues name rows (Rename file position new) =
     (name ≡ codes "rename") × (first_of (codes "file") rows ≡ Some file.now)
-    × IsNumber (codes "line") rows position.line
-    × IsNumber (codes "column") rows position.character
+    × HasNumberValue (codes "line") rows position.line
+    × HasNumberValue (codes "column") rows position.character
     × (first_of (codes "name") rows ≡ Some new.now)
 
 -- Holds if the command reads a file and this is the file's path.
-abbrev pub NamesFile : CommandLine → Text → Type 0
-NamesFile Serve path = ⊥
-NamesFile (Check file) path = file.now ≡ path
-NamesFile (Run file calls turns) path = file.now ≡ path
-NamesFile (Rename file position new) path = file.now ≡ path
+abbrev pub HasFilePath : CommandLine → Text → Type 0
+HasFilePath Serve path = ⊥
+HasFilePath (Check file) path = file.now ≡ path
+HasFilePath (Run file calls turns) path = file.now ≡ path
+HasFilePath (Rename file position new) path = file.now ≡ path
 
 -- Holds if a subcommand was found, and the command line is that subcommand with the values found
 -- for its arguments.
-abbrev pub IsReadFrom : FoundCommand → CommandLine → Type 0
-IsReadFrom found line =
-    (name : Text) × (rows : List Row) × (found ≡ Some (name, rows)) × HoldsValues name rows line
+abbrev pub YieldsCommandLine : FoundCommand → CommandLine → Type 0
+YieldsCommandLine found line =
+    (name : Text) × (rows : List Row) × (found ≡ Some (name, rows)) × HasFoundValues name rows line
 
 -- Holds if the words have no fault by clap's definition of `ob0`, and this command line is their
 -- subcommand with its values.
-pub record Gives (words : List Text) (line : CommandLine) : Type 0 where
+pub record SpellsCommand (words : List Text) (line : CommandLine) : Type 0 where
   pub fine : fault_of ob0_app words ≡ []
-  pub read : IsReadFrom (subcommand_of ob0_app words) line
+  pub read : YieldsCommandLine (subcommand_of ob0_app words) line
 
 -- Holds if the words may be refused with this fault. A clap error has a kind that clap's definition
 -- allows for the words' first fault, and never the kind `OutOfMemory`. For `help` and for an
@@ -73,40 +73,40 @@ RefusesWords words Memory = Unit {0}
 -- ---- the values that clap's matches have
 
 -- Holds if the argument `id` has a value, which is a text.
-abbrev pub HasText : Text → List Row → Type 0
-HasText id rows = (text : Text) × (first_of id rows ≡ Some text)
+abbrev pub HasTextValue : Text → List Row → Type 0
+HasTextValue id rows = (text : Text) × (first_of id rows ≡ Some text)
 
 -- Returns the greatest number that the option with this name accepts. Each name except `calls`
 -- counts as `turns`.
-abbrev pub most_of : Text → ℕ
-most_of id = if bytes_eq id (codes "calls") then max_calls else max_turns
+abbrev pub max_option_value : Text → ℕ
+max_option_value id = if bytes_eq id (codes "calls") then max_calls else max_turns
 
 -- Holds if the value of the option is a number from 0 to the greatest that it accepts.
-abbrev pub HasBounded : Text → List Row → Type 0
-HasBounded id rows =
+abbrev pub HasBoundedValue : Text → List Row → Type 0
+HasBoundedValue id rows =
     (text : Text)
     × (one_of id rows ≡ Some (without_minus text))
-    × IsSignedIn (pos 0) (pos (most_of id)) text
+    × IsSignedIn (pos 0) (pos (max_option_value id)) text
 
 -- Holds if the value of the argument is an unsigned number of 64 bits, such as a line or a column.
-abbrev pub HasPlace : Text → List Row → Type 0
-HasPlace id rows =
+abbrev pub HasCoordinateValue : Text → List Row → Type 0
+HasCoordinateValue id rows =
     (text : Text) × (one_of id rows ≡ Some text) × IsUnsignedIn 0 18446744073709551615 text
 
 -- Holds if each argument that the subcommand with this name needs has a value of its kind.
-abbrev pub NeedsAt : Text → List Row → Type 0
-NeedsAt name rows = (name ≡ codes "serve") ⊎ ((name ≡ codes "check") × HasText (codes "file") rows)
+abbrev pub HasNeededValues : Text → List Row → Type 0
+HasNeededValues name rows = (name ≡ codes "serve") ⊎ ((name ≡ codes "check") × HasTextValue (codes "file") rows)
     ⊎ ((name ≡ codes "run")
-    × HasText (codes "file") rows
-    × HasBounded (codes "calls") rows
-    × HasBounded (codes "turns") rows)
+    × HasTextValue (codes "file") rows
+    × HasBoundedValue (codes "calls") rows
+    × HasBoundedValue (codes "turns") rows)
     ⊎ ((name ≡ codes "rename")
-    × HasText (codes "file") rows
-    × HasPlace (codes "line") rows
-    × HasPlace (codes "column") rows
-    × HasText (codes "name") rows)
+    × HasTextValue (codes "file") rows
+    × HasCoordinateValue (codes "line") rows
+    × HasCoordinateValue (codes "column") rows
+    × HasTextValue (codes "name") rows)
 
 -- Holds if a subcommand was found, and each argument that it needs has a value of its kind.
-abbrev pub HasNeeded : FoundCommand → Type 0
-HasNeeded found =
-    (name : Text) × (rows : List Row) × (found ≡ Some (name, rows)) × NeedsAt name rows
+abbrev pub IsCompleteCommand : FoundCommand → Type 0
+IsCompleteCommand found =
+    (name : Text) × (rows : List Row) × (found ≡ Some (name, rows)) × HasNeededValues name rows

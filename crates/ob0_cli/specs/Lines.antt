@@ -53,14 +53,14 @@ client_rule =
 
 -- The subcommand `serve` without its options. An option may be given several times, because a
 -- client may add one that the user has already given.
-abbrev pub serve_alone : App
-serve_alone =
+abbrev pub serve_without_options : App
+serve_without_options =
     record (new_app (codes "serve"))
     { top = record (new_app (codes "serve")).top { args_override_self = true } }
 
 -- The subcommand `serve`, which accepts no words except its two options.
 abbrev pub serve : App
-serve = with_rule (with_rule serve_alone stdio_rule) client_rule
+serve = with_rule (with_rule serve_without_options stdio_rule) client_rule
 
 -- The subcommand `ob0 check FILE`.
 abbrev pub check : App
@@ -82,8 +82,8 @@ rename =
     (word_rule (codes "name"))
 
 -- The program without its subcommands. It has a version, and one subcommand is required.
-abbrev pub ob0_alone : App
-ob0_alone =
+abbrev pub ob0_without_subcommands : App
+ob0_without_subcommands =
     record (new_app (codes "ob0"))
     { top = record (new_app (codes "ob0")).top { subcommand_required = true; has_version = true } }
 
@@ -91,5 +91,5 @@ ob0_alone =
 abbrev pub ob0_app : App
 ob0_app =
     with_subcommand
-    (with_subcommand (with_subcommand (with_subcommand ob0_alone serve.top) check.top) run.top)
+    (with_subcommand (with_subcommand (with_subcommand ob0_without_subcommands serve.top) check.top) run.top)
     rename.top

@@ -1,23 +1,23 @@
 //! Reads the command line.
 //!
 //! To add a subcommand, write:
-//! - an `App` in `specs/Lines.antt`, and a case of `HoldsValues`, `NamesFile` and `NeedsAt`;
+//! - an `App` in `specs/Lines.antt`, and a case of `HasFoundValues`, `HasFilePath` and `HasNeededValues`;
 //! - in `proofs/Named.antt` a `.._fits` and a `.._needs`, by `refl` under `unfolding clap_on_literals nth`;
-//! - if the `App` has several arguments, a line for each in the answers of its definition. `with` adds the arguments
+//! - if the `App` has several arguments, a line for each in the answers of its definition. `add_argument` adds the arguments
 //!   one after another, and needs each argument's clause `own` (`global ≡ false`).
 //!
 //! Only the `App` of `serve` and `serve_definition` mention the options of `serve`.
 //!
 //! Traps: if a function takes a `&str`, no `ghost` clause can depend on it. So the bound of a
-//! number is a function of its name (`most_of`). A local named `run` is `run'` in the answers of
+//! number is a function of its name (`max_option_value`). A local named `run` is `run'` in the answers of
 //! proofs. A `where` block needs every `_` written out. Help texts are constants of at most 80
 //! columns, one for each command: a test counts the columns.
 
 ghost use Rattle.std.specs.Prelude.{◌≡◌, ◌≢◌, ◌≤◌, Some, false, true, IfOk, IfErr, MatchOption, map};
 ghost use Rattle.clap.specs.Words.{App, Rule, app_of, first_of, found_of, new_app, rows_of, rule_of, subcommand_rows_of, with_rule, with_subcommand};
-ghost use Rattle.ob0_cli.specs.Given.{Gives, HasNeeded, HasBounded, HasPlace, HasText, HoldsValues, IsNumber, IsReadFrom, NamesFile, NeedsAt, RefusesWords, most_of};
+ghost use Rattle.ob0_cli.specs.Given.{SpellsCommand, IsCompleteCommand, HasBoundedValue, HasCoordinateValue, HasTextValue, HasFoundValues, HasNumberValue, YieldsCommandLine, HasFilePath, HasNeededValues, RefusesWords, max_option_value};
 ghost use Rattle.ob0_cli.specs.declared.line.CommandLine.TheVariants.{Serve};
-ghost use Rattle.ob0_cli.specs.Lines.{client_rule, ob0_alone, ob0_app, calls_rule, check as check_lines, number_rule, rename as rename_lines, run as run_lines, serve as serve_lines, serve_alone as serve_lines_alone, stdio_rule, turns_rule, word_rule};
+ghost use Rattle.ob0_cli.specs.Lines.{client_rule, ob0_without_subcommands, ob0_app, calls_rule, check as check_lines, number_rule, rename as rename_lines, run as run_lines, serve as serve_lines, serve_without_options as serve_lines_alone, stdio_rule, turns_rule, word_rule};
 
 use clap::error::ErrorKind;
 use clap::{Arg, ArgAction, ArgMatches, Command, Error, value_parser};
@@ -27,7 +27,7 @@ use std::alloc::{AllocError, Global};
 const VERSION: &str = "0.1.0";
 
 /// The end of the program's help: the exit statuses of all commands.
-const STATUSES: &str = "\
+const STATUS_NOTES: &str = "\
 Exit status:
   0  all went well
   1  the module is wrong, its run ends with a fault or the edit is refused;
@@ -142,7 +142,7 @@ impl<'a> CommandLine<'a> {
     /// Returns the file that the command reads. Returns None for `serve`, which reads no file.
     pub fn file(self) -> Option<&'a str>
         ensures { MatchOption result (self.entry ≡ Serve)
-            (λ file. (self.entry ≢ Serve) × NamesFile self.entry file.now) }
+            (λ file. (self.entry ≢ Serve) × HasFilePath self.entry file.now) }
     {
         match self {
             CommandLine::Serve => None,
@@ -173,26 +173,26 @@ pub enum CommandFault {
 
 /// Reads the words of a command line. The first word is the program's name.
 pub fn command<'a>(alloc: Global, words: &'a [&'a str]) -> Result<CommandLine<'a>, CommandFault>
-    ensures gives { IfOk result (Gives (map (λ w. w.now) words.entry.now)) }
+    ensures gives { IfOk result (SpellsCommand (map (λ w. w.now) words.entry.now)) }
     ensures refuses { IfErr result (RefusesWords (map (λ w. w.now) words.entry.now)) }
 {
-    match definition(alloc) {
-        Ok(definition) => requested(definition, words),
+    match ob0_definition(alloc) {
+        Ok(ob0_definition) => parse_command_line(ob0_definition, words),
         Err(AllocError) => Err(CommandFault::Memory),
     }
 }
 
 /// Reads the words of a command line according to clap's definition of `ob0`.
-fn requested<'a>(
-    definition: Command<'a>,
+fn parse_command_line<'a>(
+    ob0_definition: Command<'a>,
     words: &'a [&'a str],
 ) -> Result<CommandLine<'a>, CommandFault>
-    requires { app_of definition ≡ ob0_app }
-    ensures gives { IfOk result (Gives (map (λ w. w.now) words.entry.now)) }
+    requires { app_of ob0_definition ≡ ob0_app }
+    ensures gives { IfOk result (SpellsCommand (map (λ w. w.now) words.entry.now)) }
     ensures refuses { IfErr result (RefusesWords (map (λ w. w.now) words.entry.now)) }
 {
-    match definition.try_get_matches_from(words) {
-        Ok(matches) => Ok(line_of(&matches)),
+    match ob0_definition.try_get_matches_from(words) {
+        Ok(matches) => Ok(command_line_of(&matches)),
         Err(error) => if error.kind() == ErrorKind::OutOfMemory {
             Err(CommandFault::Memory)
         } else {
@@ -202,9 +202,9 @@ fn requested<'a>(
 }
 
 /// Returns the command line that clap's matches describe.
-fn line_of<'a>(matches: &ArgMatches<'a>) -> CommandLine<'a>
-    requires { HasNeeded (subcommand_rows_of matches.now) }
-    ensures { IsReadFrom (subcommand_rows_of matches.now) result }
+fn command_line_of<'a>(matches: &ArgMatches<'a>) -> CommandLine<'a>
+    requires { IsCompleteCommand (subcommand_rows_of matches.now) }
+    ensures { YieldsCommandLine (subcommand_rows_of matches.now) result }
 {
     match matches.subcommand() {
         Some((name, given)) => subcommand_line(name, given),
@@ -214,35 +214,35 @@ fn line_of<'a>(matches: &ArgMatches<'a>) -> CommandLine<'a>
 
 /// Returns the command line of the subcommand with this name. Its values are those that clap found.
 fn subcommand_line<'a>(name: &str, given: &ArgMatches<'a>) -> CommandLine<'a>
-    requires { NeedsAt name.now (rows_of (found_of given.now)) }
-    ensures { HoldsValues name.now (rows_of (found_of given.now)) result }
+    requires { HasNeededValues name.now (rows_of (found_of given.now)) }
+    ensures { HasFoundValues name.now (rows_of (found_of given.now)) result }
 {
     if name == "serve" {
         CommandLine::Serve
     } else if name == "check" {
         CommandLine::Check {
-            file: text_at(given, "file"),
+            file: text_value_of(given, "file"),
         }
     } else if name == "run" {
         CommandLine::Run {
-            file: text_at(given, "file"),
-            calls: bounded_at(given, "calls"),
-            turns: bounded_at(given, "turns"),
+            file: text_value_of(given, "file"),
+            calls: bounded_value_of(given, "calls"),
+            turns: bounded_value_of(given, "turns"),
         }
     } else {
         CommandLine::Rename {
-            file: text_at(given, "file"),
+            file: text_value_of(given, "file"),
             position: Position {
-                line: place_at(given, "line"),
-                character: place_at(given, "column"),
+                line: coordinate_value_of(given, "line"),
+                character: coordinate_value_of(given, "column"),
             },
-            name: text_at(given, "name"),
+            name: text_value_of(given, "name"),
         }
     }
 }
 
-fn text_at<'a>(given: &ArgMatches<'a>, id: &str) -> &'a str
-    requires { HasText id.now (rows_of (found_of given.now)) }
+fn text_value_of<'a>(given: &ArgMatches<'a>, id: &str) -> &'a str
+    requires { HasTextValue id.now (rows_of (found_of given.now)) }
     ensures { first_of id.now (rows_of (found_of given.now)) ≡ Some result.now }
 {
     match given.get_str(id) {
@@ -251,10 +251,10 @@ fn text_at<'a>(given: &ArgMatches<'a>, id: &str) -> &'a str
     }
 }
 
-fn bounded_at(given: &ArgMatches<'_>, id: &str) -> u32
-    requires { HasBounded id.now (rows_of (found_of given.now)) }
-    ensures number { IsNumber id.now (rows_of (found_of given.now)) result }
-    ensures bound { result ≤ most_of id.now }
+fn bounded_value_of(given: &ArgMatches<'_>, id: &str) -> u32
+    requires { HasBoundedValue id.now (rows_of (found_of given.now)) }
+    ensures number { HasNumberValue id.now (rows_of (found_of given.now)) result }
+    ensures bound { result ≤ max_option_value id.now }
 {
     match given.get_one::<u32>(id) {
         Some(number) => number,
@@ -262,9 +262,9 @@ fn bounded_at(given: &ArgMatches<'_>, id: &str) -> u32
     }
 }
 
-fn place_at(given: &ArgMatches<'_>, id: &str) -> u64
-    requires { HasPlace id.now (rows_of (found_of given.now)) }
-    ensures { IsNumber id.now (rows_of (found_of given.now)) result }
+fn coordinate_value_of(given: &ArgMatches<'_>, id: &str) -> u64
+    requires { HasCoordinateValue id.now (rows_of (found_of given.now)) }
+    ensures { HasNumberValue id.now (rows_of (found_of given.now)) result }
 {
     match given.get_one::<u64>(id) {
         Some(number) => number,
@@ -273,18 +273,21 @@ fn place_at(given: &ArgMatches<'_>, id: &str) -> u64
 }
 
 /// Makes clap's definition of `ob0`: four subcommands, of which one is required. clap adds `help`.
-fn definition<'a>(alloc: Global) -> Result<Command<'a>, AllocError>
+fn ob0_definition<'a>(alloc: Global) -> Result<Command<'a>, AllocError>
     ensures { IfOk result (λ c. app_of c ≡ ob0_app) }
 {
-    let with_serve = join(Ok(program(alloc)), serve_definition(alloc));
-    let with_check = join(with_serve, check_definition(alloc));
-    let with_run = join(with_check, run_definition(alloc));
-    join(with_run, rename_definition(alloc))
+    let with_serve = add_subcommand(
+        Ok(program_without_subcommands(alloc)),
+        serve_definition(alloc),
+    );
+    let with_check = add_subcommand(with_serve, check_definition(alloc));
+    let with_run = add_subcommand(with_check, run_definition(alloc));
+    add_subcommand(with_run, rename_definition(alloc))
 }
 
 /// Adds the subcommand `below` to the command `above`. If making one of the two ran out of memory,
 /// returns that error. The other one is dropped here, so that only this proof covers the drop.
-fn join<'a>(
+fn add_subcommand<'a>(
     above: Result<Command<'a>, AllocError>,
     below: Result<Command<'a>, AllocError>,
 ) -> Result<Command<'a>, AllocError>
@@ -299,7 +302,7 @@ fn join<'a>(
 }
 
 /// Adds an argument to a command. If making the command ran out of memory, returns that error.
-fn with<'a>(
+fn add_argument<'a>(
     command: Result<Command<'a>, AllocError>,
     argument: Arg<'a>,
 ) -> Result<Command<'a>, AllocError>
@@ -312,16 +315,21 @@ fn with<'a>(
 }
 
 /// Makes clap's command for `ob0`, without its subcommands.
-fn program<'a>(alloc: Global) -> Command<'a>
-    ensures { app_of result ≡ ob0_alone }
+fn program_without_subcommands<'a>(alloc: Global) -> Command<'a>
+    ensures { app_of result ≡ ob0_without_subcommands }
 {
-    bare(alloc, "ob0", "A language server for Oberon-0", STATUSES)
+    command_with_help(alloc, "ob0", "A language server for Oberon-0", STATUS_NOTES)
         .version(VERSION)
         .subcommand_required(true)
 }
 
 /// Makes a command without arguments, with the texts that help prints before and after them.
-fn bare<'a>(alloc: Global, name: &'a str, about: &'a str, notes: &'a str) -> Command<'a>
+fn command_with_help<'a>(
+    alloc: Global,
+    name: &'a str,
+    about: &'a str,
+    notes: &'a str,
+) -> Command<'a>
     ensures { app_of result ≡ new_app name.entry.now }
 {
     Command::new(alloc, name).about(about).after_help(notes)
@@ -331,15 +339,15 @@ fn bare<'a>(alloc: Global, name: &'a str, about: &'a str, notes: &'a str) -> Com
 fn serve_definition<'a>(alloc: Global) -> Result<Command<'a>, AllocError>
     ensures { IfOk result (λ c. app_of c ≡ serve_lines) }
 {
-    let with_stdio = with(Ok(serve_alone(alloc)), stdio_argument(alloc));
-    with(with_stdio, client_argument(alloc))
+    let with_stdio = add_argument(Ok(serve_without_options(alloc)), stdio_argument(alloc));
+    add_argument(with_stdio, client_argument(alloc))
 }
 
 /// Makes the subcommand `serve` without its options. Each of them may be given several times.
-fn serve_alone<'a>(alloc: Global) -> Command<'a>
+fn serve_without_options<'a>(alloc: Global) -> Command<'a>
     ensures { app_of result ≡ serve_lines_alone }
 {
-    bare(
+    command_with_help(
         alloc,
         "serve",
         "Serve one conversation with an editor over standard input and output",
@@ -372,7 +380,7 @@ fn check_definition<'a>(alloc: Global) -> Result<Command<'a>, AllocError>
     ensures { IfOk result (λ c. app_of c ≡ check_lines) }
 {
     let file = word(alloc, "file", "FILE", "The file with the module");
-    bare(
+    command_with_help(
         alloc,
         "check",
         "Print what is wrong with a module",
@@ -385,43 +393,43 @@ fn run_definition<'a>(alloc: Global) -> Result<Command<'a>, AllocError>
     ensures { IfOk result (λ c. app_of c ≡ run_lines) }
 {
     let file = word(alloc, "file", "FILE", "The file with the module");
-    let alone = bare(
+    let alone = command_with_help(
         alloc,
         "run",
         "Run a module on the numbers of standard input",
         RUN_NOTES,
     );
-    let with_file = with(Ok(alone), file);
-    let with_calls = with(with_file, calls_argument(alloc));
-    with(with_calls, turns_argument(alloc))
+    let with_file = add_argument(Ok(alone), file);
+    let with_calls = add_argument(with_file, calls_argument(alloc));
+    add_argument(with_calls, turns_argument(alloc))
 }
 
 fn rename_definition<'a>(alloc: Global) -> Result<Command<'a>, AllocError>
     ensures { IfOk result (λ c. app_of c ≡ rename_lines) }
 {
     let file = word(alloc, "file", "FILE", "The file with the module");
-    let alone = bare(
+    let alone = command_with_help(
         alloc,
         "rename",
         "Print a module with another name for one of its names",
         RENAME_NOTES,
     );
-    let with_file = with(Ok(alone), file);
+    let with_file = add_argument(Ok(alone), file);
     let line = number(
         alloc,
         "line",
         "LINE",
         "The line of the name, counted from 0",
     );
-    let with_line = with(with_file, line);
+    let with_line = add_argument(with_file, line);
     let column = number(
         alloc,
         "column",
         "COLUMN",
         "Its column, counted from 0 in UTF-16 units",
     );
-    let with_column = with(with_line, column);
-    with(with_column, word(alloc, "name", "NAME", "The new name"))
+    let with_column = add_argument(with_line, column);
+    add_argument(with_column, word(alloc, "name", "NAME", "The new name"))
 }
 
 /// Makes a required argument, which is a word. `shown` is its name in the help.

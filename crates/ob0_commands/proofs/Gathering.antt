@@ -6,12 +6,12 @@ use Rattle.std.proofs.Math.Seq.{drop-cons}
 use Rattle.std.proofs.lemmas.List.{drop_all, drop-drop, length-drop, take_all}
 use Rattle.std.proofs.lemmas.List.Folds.{drop_split}
 use Rattle.ob0_commands.proofs.Words.{Begins, after_space, first_word}
-use Rattle.ob0_commands.specs.Numbers.{EndsWord, IsListOfNumbers, WritesNumber, WritesNumbers, nothing, number, space}
+use Rattle.ob0_commands.specs.Numbers.{IsAtWordEnd, IsListOfNumbers, SpellsNumber, SpellsNumbers, nothing, number, space}
 use Rattle.ob0_scan.specs.Classes.{is_space}
 
 pub record Gathered (text : List ℕ) (at : ℕ) (ns : List ℤ) : Type 0 where
   pub within : at ≤ length text
-  pub goes_on : (more : List ℤ) → WritesNumbers (drop at text) more → WritesNumbers text (ns ++ more)
+  pub goes_on : (more : List ℤ) → SpellsNumbers (drop at text) more → SpellsNumbers text (ns ++ more)
   pub left : IsListOfNumbers text → IsListOfNumbers (drop at text)
 
 pub nothing_gathered : (text : List ℕ) → Gathered text 0 []
@@ -22,7 +22,7 @@ space_passed text at ns inside is g =
     let next : at + 1 ≡ suc at = omega arith in
     record {
       within = omega (arith, inside);
-      goes_on = λ more h. g.goes_on more (subst (λ t. WritesNumbers t more) (sym (drop-cons text at 0 inside)) (space is (subst (λ n. WritesNumbers (drop n text) more) next h)));
+      goes_on = λ more h. g.goes_on more (subst (λ t. SpellsNumbers t more) (sym (drop-cons text at 0 inside)) (space is (subst (λ n. SpellsNumbers (drop n text) more) next h)));
       left = λ all.
           let here = g.left all in
           subst (λ n. IsListOfNumbers (drop n text)) (sym next)
@@ -30,19 +30,19 @@ space_passed text at ns inside is g =
     }
 
 -- The rest after the first word is empty or begins with white space.
-pub ends_before : (text : List ℕ) → EndsWord (drop (position_or_len is_space text) text)
+pub ends_before : (text : List ℕ) → IsAtWordEnd (drop (position_or_len is_space text) text)
 ends_before [] = tt
 ends_before (b ∷ text) = go (is_space b) refl (ends_before text)
   where
-    go : (s : Bool) → is_space b ≡ s → EndsWord (drop (position_or_len is_space text) text) → EndsWord (drop (position_or_len is_space (b ∷ text)) (b ∷ text))
+    go : (s : Bool) → is_space b ≡ s → IsAtWordEnd (drop (position_or_len is_space text) text) → IsAtWordEnd (drop (position_or_len is_space (b ∷ text)) (b ∷ text))
     go true e more =
         let none : position_or_len is_space (b ∷ text) ≡ 0 = rw e refl in
-        let is : EndsWord (b ∷ text) = e in
-        subst (λ n. EndsWord (drop n (b ∷ text))) (sym none) is
+        let is : IsAtWordEnd (b ∷ text) = e in
+        subst (λ n. IsAtWordEnd (drop n (b ∷ text))) (sym none) is
     go false e more =
         let counted : position_or_len is_space (b ∷ text) ≡ 1 + position_or_len is_space text = rw e refl in
         let further : position_or_len is_space (b ∷ text) ≡ suc (position_or_len is_space text) = counted ∙ omega arith in
-        subst (λ n. EndsWord (drop n (b ∷ text))) (sym further) more
+        subst (λ n. IsAtWordEnd (drop n (b ∷ text))) (sym further) more
 
 -- The end that the code computes for the word at a place is the first white space after that place.
 word_end : (text : List ℕ) (at end : ℕ) → end ≡ at + position_or_len is_space (take (length text - at) (drop at text)) → end ≡ at + position_or_len is_space (drop at text)
@@ -60,26 +60,26 @@ word_here text at ns inside apart g all =
 
 -- If the word at a place isn't a number, the text isn't a list of numbers.
 pub word_refused : (text : List ℕ) (at end : ℕ) (ns : List ℤ) → at < length text → is_space (slice_index text at) ≡ false → end ≡ at + position_or_len is_space (take (length text - at) (drop at text))
-    → ¬ ((n : ℤ) × WritesNumber (slice_range text at end) n) → Gathered text at ns → ¬ IsListOfNumbers text
+    → ¬ ((n : ℤ) × SpellsNumber (slice_range text at end) n) → Gathered text at ns → ¬ IsListOfNumbers text
 word_refused text at end ns inside apart is none g = λ all.
     let word = word_here text at ns inside apart g all in
     let size : position_or_len is_space (drop at text) ≡ end - at = omega (arith, word_end text at end is) in
-    none (word.n, subst (λ k. WritesNumber (take k (drop at text)) word.n) size word.word)
+    none (word.n, subst (λ k. SpellsNumber (take k (drop at text)) word.n) size word.word)
 
 pub word_gathered : (text : List ℕ) (at end : ℕ) (ns : List ℤ) (n : ℤ) → at < length text → is_space (slice_index text at) ≡ false → at ≤ end → end ≤ length text → end ≡ at + position_or_len is_space (take (length text - at) (drop at text))
-    → WritesNumber (slice_range text at end) n → Gathered text at ns → Gathered text end (ns ++ n ∷ [])
+    → SpellsNumber (slice_range text at end) n → Gathered text at ns → Gathered text end (ns ++ n ∷ [])
 word_gathered text at end ns n begins apart forth inside is word g =
     let len = word_end text at end is in
-    let ends : EndsWord (drop end text) = subst EndsWord (drop-drop (position_or_len is_space (drop at text)) at text ∙ ap (λ i. drop i text) (sym len)) (ends_before (drop at text)) in
+    let ends : IsAtWordEnd (drop end text) = subst IsAtWordEnd (drop-drop (position_or_len is_space (drop at text)) at text ∙ ap (λ i. drop i text) (sym len)) (ends_before (drop at text)) in
     record {
       within = inside;
-      goes_on = λ more h. subst (WritesNumbers text) (sym (append_assoc ns (n ∷ []) more)) (g.goes_on (n ∷ more)
+      goes_on = λ more h. subst (SpellsNumbers text) (sym (append_assoc ns (n ∷ []) more)) (g.goes_on (n ∷ more)
           (number (slice_range text at end) (drop end text) n (drop_split text at end forth) word ends h));
       left = λ all.
           let rest = (word_here text at ns begins apart g all).rest in
           subst IsListOfNumbers (drop-drop (position_or_len is_space (drop at text)) at text ∙ ap (λ i. drop i text) (sym len)) rest;
     }
 
-pub all_gathered : (text : List ℕ) (at : ℕ) (ns : List ℤ) → length text ≤ at → Gathered text at ns → WritesNumbers text ns
+pub all_gathered : (text : List ℕ) (at : ℕ) (ns : List ℤ) → length text ≤ at → Gathered text at ns → SpellsNumbers text ns
 all_gathered text at ns end g =
-    subst (WritesNumbers text) (append-nil ns) (g.goes_on [] (subst (λ t. WritesNumbers t []) (sym (drop_all at text end)) nothing))
+    subst (SpellsNumbers text) (append-nil ns) (g.goes_on [] (subst (λ t. SpellsNumbers t []) (sym (drop_all at text end)) nothing))

@@ -1,7 +1,7 @@
 mod Gathering
 mod Lines
 mod Pieces
-mod Renames
+mod RenameEndsWithoutFault
 mod RunsPrinted
 mod Taken
 mod Words

@@ -8,16 +8,16 @@ use Rattle.ob0_run_machine.specs.declared.machine.Item.{Item}
 use Rattle.ob0_run_machine.specs.declared.running.End.{End}
 use Rattle.ob0_run_machine.specs.declared.running.End.TheVariants as end
 use Rattle.ob0_run_machine.specs.declared.running.Outcome.{Outcome}
-use Rattle.ob0_run.specs.Outcomes.{end_in, items_out, run_of}
+use Rattle.ob0_run.specs.Outcomes.{meaning_of_end, output_items, run_of}
 use Rattle.ob0_commands.specs.declared.faults.FileFault.{FileFault}
 use Rattle.ob0_commands.specs.declared.faults.FileFault.TheVariants as fault
-use Rattle.ob0_commands.specs.Numbers.{HasNoNumbers, IsInputOf}
-use Rattle.ob0_commands.specs.Printed.{PrintsFaults, end_line, output_text}
-use Rattle.ob0_commands.specs.Statuses.{HasNoText, StopsFor, StopsRunning, status_at}
-use Rattle.ob0_commands.specs.TextRuns.{IsLoweredTo, PrintsDone, PrintsOther, PrintsRun, TextRunsAs}
+use Rattle.ob0_commands.specs.Numbers.{IsUnusableInput, IsInputOf}
+use Rattle.ob0_commands.specs.Printed.{PrintsFaults, run_end_line, output_text}
+use Rattle.ob0_commands.specs.Statuses.{IsNonUtf8File, IsFaultOrMemory, StopsRunning, run_end_status}
+use Rattle.ob0_commands.specs.TextRuns.{IsLoweredTo, PrintsCompleteRun, PrintsErrorsOrStoppedRun, PrintsRun, TextRunsAs}
 
 -- If the status is 0, the run reached the end of the module's body.
-done : (e : End) (n : ℕ) → n ≡ status_at e → n ≡ 0 → end_in e ≡ end_in end.Done
+done : (e : End) (n : ℕ) → n ≡ run_end_status e → n ≡ 0 → meaning_of_end e ≡ meaning_of_end end.Done
 done end.Done n is zero = refl
 done end.Overflow n is zero = absurd (omega (arith, is, zero))
 done end.Divisor n is zero = absurd (omega (arith, is, zero))
@@ -27,7 +27,7 @@ done end.CallBound n is zero = absurd (omega (arith, is, zero))
 done end.TurnBound n is zero = absurd (omega (arith, is, zero))
 
 -- If the status is 1, the run had another end.
-ended_otherwise : (e : End) (n : ℕ) → n ≡ status_at e → n ≡ 1 → end_in e ≢ end_in end.Done
+ended_otherwise : (e : End) (n : ℕ) → n ≡ run_end_status e → n ≡ 1 → meaning_of_end e ≢ meaning_of_end end.Done
 ended_otherwise end.Done n is one = absurd (omega (arith, is, one))
 ended_otherwise end.Overflow n is one = λ e. cc
 ended_otherwise end.Divisor n is one = λ e. cc
@@ -37,32 +37,32 @@ ended_otherwise end.CallBound n is one = λ e. cc
 ended_otherwise end.TurnBound n is one = λ e. cc
 
 pub prints_run : (file text : List ℕ) (given : Option (List ℕ)) (c t : ℕ) (before mid after : Option (List ℕ)) (numbers input : List ℤ) (o : Outcome) (items : List Item)
-    → text ≡ file → mid ≡ before → input ≡ numbers → IfSome given (IsInputOf numbers) → TextRunsAs text input c t (run_of o) → items ≡ o.output.items → Appends mid after (output_text (items_out items))
+    → text ≡ file → mid ≡ before → input ≡ numbers → IfSome given (IsInputOf numbers) → TextRunsAs text input c t (run_of o) → items ≡ o.output.items → Appends mid after (output_text (output_items items))
     → PrintsRun file given c t before after (run_of o)
 prints_run file text given c t before mid after numbers input o items same kept is written runs all printed = record {
   input = numbers;
   written = written;
   runs = subst (λ (ns : List ℤ). TextRunsAs file ns c t (run_of o)) is (subst (λ (f : List ℕ). TextRunsAs f input c t (run_of o)) same runs);
-  printed = subst (λ (b : Option (List ℕ)). Appends b after (output_text (items_out o.output.items))) kept (subst (λ (xs : List Item). Appends mid after (output_text (items_out xs))) all printed);
+  printed = subst (λ (b : Option (List ℕ)). Appends b after (output_text (output_items o.output.items))) kept (subst (λ (xs : List Item). Appends mid after (output_text (output_items xs))) all printed);
 }
 
-pub prints_done : (file : List ℕ) (given : Option (List ℕ)) (c t n : ℕ) (before after : Option (List ℕ)) (o : Outcome) → PrintsRun file given c t before after (run_of o) → n ≡ status_at o.end → n ≡ 0
-    → PrintsDone file given c t before after
+pub prints_done : (file : List ℕ) (given : Option (List ℕ)) (c t n : ℕ) (before after : Option (List ℕ)) (o : Outcome) → PrintsRun file given c t before after (run_of o) → n ≡ run_end_status o.end → n ≡ 0
+    → PrintsCompleteRun file given c t before after
 prints_done file given c t n before after o printed is zero = (run_of o, printed, done o.end n is zero)
 
-pub prints_other : (file : List ℕ) (given : Option (List ℕ)) (c t n : ℕ) (before after : Option (List ℕ)) (o : Outcome) → PrintsRun file given c t before after (run_of o) → n ≡ status_at o.end → n ≡ 1
-    → (Said : Option (List ℕ) → Type 0) → Said (end_line o.end) → PrintsOther file given c t before after Said
-prints_other file given c t n before after o printed is one Said says =
+pub prints_other : (file : List ℕ) (given : Option (List ℕ)) (c t n : ℕ) (before after : Option (List ℕ)) (o : Outcome) → PrintsRun file given c t before after (run_of o) → n ≡ run_end_status o.end → n ≡ 1
+    → (StderrLines : Option (List ℕ) → Type 0) → StderrLines (run_end_line o.end) → PrintsErrorsOrStoppedRun file given c t before after StderrLines
+prints_other file given c t n before after o printed is one StderrLines says =
     inr (record { r = run_of o; prints = printed; otherwise = ended_otherwise o.end n is one; last = o.end; ends = refl; said = says })
 
 pub prints_wrong : (file text : List ℕ) (given : Option (List ℕ)) (c t : ℕ) (before mid after : Option (List ℕ)) → text ≡ file → mid ≡ before → PrintsFaults text mid after
-    → (Said : Option (List ℕ) → Type 0) → Said None → PrintsOther file given c t before after Said
-prints_wrong file text given c t before mid after same kept wrong Said silent =
+    → (StderrLines : Option (List ℕ) → Type 0) → StderrLines None → PrintsErrorsOrStoppedRun file given c t before after StderrLines
+prints_wrong file text given c t before mid after same kept wrong StderrLines silent =
     inl (subst (λ (b : Option (List ℕ)). PrintsFaults file b after) kept (subst (λ (f : List ℕ). PrintsFaults f mid after) same wrong), silent)
 
 -- If reading the numbers fails, `run` may stop with that fault.
-pub stops_reading : (file text : List ℕ) (program : Program) (given : Option (List ℕ)) (failed : Bool) (Otherwise : Type 0) (f : FileFault) → text ≡ file → IsLoweredTo text program → ¬ (HasNoText file)
-    → StopsFor fault.Input (HasNoNumbers given failed) Otherwise f → StopsRunning file given failed f
+pub stops_reading : (file text : List ℕ) (program : Program) (given : Option (List ℕ)) (failed : Bool) (Otherwise : Type 0) (f : FileFault) → text ≡ file → IsLoweredTo text program → ¬ (IsNonUtf8File file)
+    → IsFaultOrMemory fault.Input (IsUnusableInput given failed) Otherwise f → StopsRunning file given failed f
 stops_reading file text program given failed Otherwise f same lowered readable (inl none) =
     let module_there : IsWellTypedModule text = record { tree = lowered.tree; text_of = lowered.text_of; well_typed = lowered.well_typed } in
     inl (none.0, (subst IsWellTypedModule same module_there, none.1))

@@ -6,7 +6,7 @@ use Rattle.std.proofs.lemmas.Str.Parse.{digit_from_value}
 use Rattle.std.specs.Bool.{⊤}
 use Rattle.std.specs.List.{position_or_len}
 use Rattle.std.specs.Str.Parse.{AllDigits, IsNumeral}
-use Rattle.ob0_commands.specs.Numbers.{EndsWord, IsListOfNumbers, WritesNumber, WritesNumbers, nothing, number, space}
+use Rattle.ob0_commands.specs.Numbers.{IsAtWordEnd, IsListOfNumbers, SpellsNumber, SpellsNumbers, nothing, number, space}
 use Rattle.ob0_scan.specs.Classes.{is_space}
 
 -- Holds if each byte is from `-` to `9`.
@@ -18,7 +18,7 @@ of_digits : (ds : List ℕ) → AllDigits 10 ds → IsOfSignsAndDigits ds
 of_digits [] h = tt
 of_digits (c ∷ cs) h = let r = digit_from_value c h.0 in (omega (arith, r.0), r.1, of_digits cs h.1)
 
-pub is_plain : (word : List ℕ) (n : ℤ) → WritesNumber word n → IsOfSignsAndDigits word
+pub is_plain : (word : List ℕ) (n : ℤ) → SpellsNumber word n → IsOfSignsAndDigits word
 is_plain [] n w = tt
 is_plain (c ∷ cs) n w = by (c == 45) refl
   where
@@ -32,7 +32,7 @@ is_plain (c ∷ cs) n w = by (c == 45) refl
         let all : IsNumeral 10 (c ∷ cs) = rw no at (rw e at w.digits) in
         of_digits (c ∷ cs) all.1
 
-pub has_bytes : (word : List ℕ) (n : ℤ) → WritesNumber word n → 0 < length word
+pub has_bytes : (word : List ℕ) (n : ℤ) → SpellsNumber word n → 0 < length word
 has_bytes [] n w = absurd (omega (arith, w.digits.0))
 has_bytes (c ∷ cs) n w = omega arith
 
@@ -42,7 +42,7 @@ not_space c h = grind (arith, nat_tests)
 no_space_first : (c : ℕ) (cs : List ℕ) → is_space c ≡ true → ¬ IsOfSignsAndDigits (c ∷ cs)
 no_space_first c cs is h = let no = not_space c h.0 in absurd (cc)
 
-first_is : (word after : List ℕ) → IsOfSignsAndDigits word → EndsWord after → position_or_len is_space (word ++ after) ≡ length word
+first_is : (word after : List ℕ) → IsOfSignsAndDigits word → IsAtWordEnd after → position_or_len is_space (word ++ after) ≡ length word
 first_is [] [] h e = refl
 first_is [] (b ∷ bs) h e = rw e refl
 first_is (c ∷ cs) after h e =
@@ -51,11 +51,11 @@ first_is (c ∷ cs) after h e =
     counted ∙ ap (λ k. 1 + k) (first_is cs after h.2 e) ∙ omega arith
 
 -- If a list of numbers begins with a space, the text after the space is a list of numbers.
-pub after_space : (text : List ℕ) (ns : List ℤ) → WritesNumbers text ns → (b : ℕ) (rest : List ℕ) → text ≡ b ∷ rest → is_space b ≡ true → IsListOfNumbers rest
+pub after_space : (text : List ℕ) (ns : List ℤ) → SpellsNumbers text ns → (b : ℕ) (rest : List ℕ) → text ≡ b ∷ rest → is_space b ≡ true → IsListOfNumbers rest
 after_space text ns nothing b rest e is = absurd (cc)
 after_space text ns (space {text = more} {ns = ms} s h) b rest e is =
     let same : more ≡ rest = ap (drop 1) e in
-    (ms, subst (λ t. WritesNumbers t ms) same h)
+    (ms, subst (λ t. SpellsNumbers t ms) same h)
 after_space text ns (number [] after n cut w ends h) b rest e is = absurd (omega (arith, has_bytes [] n w))
 after_space text ns (number (c ∷ cs) after n cut w ends h) b rest e is =
     let first : b ≡ c = ap (λ t. slice_index t 0) (sym e ∙ cut) in
@@ -64,10 +64,10 @@ after_space text ns (number (c ∷ cs) after n cut w ends h) b rest e is =
 -- Holds if the bytes before the first white space spell a number, and the rest is a list of numbers.
 pub record Begins (text : List ℕ) : Type 0 where
   pub n : ℤ
-  pub word : WritesNumber (take (position_or_len is_space text) text) n
+  pub word : SpellsNumber (take (position_or_len is_space text) text) n
   pub rest : IsListOfNumbers (drop (position_or_len is_space text) text)
 
-pub first_word : (text : List ℕ) (ns : List ℤ) → WritesNumbers text ns → 0 < length text → is_space (slice_index text 0) ≡ false → Begins text
+pub first_word : (text : List ℕ) (ns : List ℤ) → SpellsNumbers text ns → 0 < length text → is_space (slice_index text 0) ≡ false → Begins text
 first_word text ns nothing some apart = absurd (omega (arith, some))
 first_word text ns (space s h) some apart = absurd (cc)
 first_word text ns (number {ns = ms} word after n cut w ends h) some apart =
@@ -76,8 +76,8 @@ first_word text ns (number {ns = ms} word after n cut w ends h) some apart =
     let left : drop (position_or_len is_space text) text ≡ after = ap (λ i. drop i text) k ∙ ap (drop (length word)) cut ∙ drop-append_seam word after in
     record {
       n = n;
-      word = subst (λ t. WritesNumber t n) (sym front) w;
-      rest = (ms, subst (λ t. WritesNumbers t ms) (sym left) h);
+      word = subst (λ t. SpellsNumber t n) (sym front) w;
+      rest = (ms, subst (λ t. SpellsNumbers t ms) (sym left) h);
     }
 
 ascii : (word : List ℕ) → IsOfSignsAndDigits word → (i : ℕ) → slice_index word i < 128
@@ -86,5 +86,5 @@ ascii [] h (suc i) = omega arith
 ascii (c ∷ cs) h zero = omega (arith, h.1)
 ascii (c ∷ cs) h (suc i) = ascii cs h.2 i
 
-pub is_ascii : (word : List ℕ) (n : ℤ) → WritesNumber word n → (i : ℕ) → slice_index word i < 128
+pub is_ascii : (word : List ℕ) (n : ℤ) → SpellsNumber word n → (i : ℕ) → slice_index word i < 128
 is_ascii word n w = ascii word (is_plain word n w)

@@ -5,8 +5,8 @@ use Rattle.std.specs.Io.KnownBytes.{Consumes}
 use Rattle.ob0_commands.specs.declared.reading.TrackedReader.{TrackedReader}
 
 -- Returns the wrapped reader.
-abbrev pub input_device : {R : Type 0} → TrackedReader R → R
-input_device input = input.device
+abbrev pub wrapped_reader : {R : Type 0} → TrackedReader R → R
+wrapped_reader input = input.device
 
 -- Returns true if a read has failed.
 abbrev pub input_failed : {R : Type 0} → TrackedReader R → Bool

@@ -2,9 +2,9 @@ pub mod Endings
 pub mod Inputs
 pub mod Numbers
 pub mod Outputs
-pub mod Performed
+pub mod CommandEffects
 pub mod Printed
 pub mod Renamed
-pub mod Said
+pub mod StderrLines
 pub mod Statuses
 pub mod TextRuns

@@ -7,33 +7,33 @@ use Rattle.ob0_scan.specs.Classes.{is_space}
 
 -- Holds if the word spells this number of 32 bits: one or more decimal digits, optionally after a
 -- `-`.
-pub record WritesNumber (word : List ℕ) (n : ℤ) : Type 0 where
+pub record SpellsNumber (word : List ℕ) (n : ℤ) : Type 0 where
   pub no_plus : slice_index word 0 ≢ 43
   pub digits : IsNumeral 10 (without_leading_sign word)
   pub value : n ≡ signed_digits_value 10 word
   pub small : fits n ≡ true
 
 -- Holds if the text after a word is empty or begins with white space.
-abbrev pub EndsWord : List ℕ → Type 0
-EndsWord [] = ⊤
-EndsWord (b ∷ bs) = IsTrue (is_space b)
+abbrev pub IsAtWordEnd : List ℕ → Type 0
+IsAtWordEnd [] = ⊤
+IsAtWordEnd (b ∷ bs) = IsTrue (is_space b)
 
 -- Holds if the text spells these numbers. Each word is a number, and words are separated by white
 -- space: space, tab, CR or LF.
-pub data WritesNumbers : List ℕ → List ℤ → Type 0 where
-  nothing : WritesNumbers [] []
+pub data SpellsNumbers : List ℕ → List ℤ → Type 0 where
+  nothing : SpellsNumbers [] []
   space : {b : ℕ} {text : List ℕ} {ns : List ℤ}
       → IsTrue (is_space b)
-      → WritesNumbers text ns
-      → WritesNumbers (b ∷ text) ns
+      → SpellsNumbers text ns
+      → SpellsNumbers (b ∷ text) ns
   number : {text : List ℕ} {ns : List ℤ} (word after : List ℕ) (n : ℤ)
       → text ≡ word ++ after
-      → WritesNumber word n
-      → EndsWord after → WritesNumbers after ns → WritesNumbers text (n ∷ ns)
+      → SpellsNumber word n
+      → IsAtWordEnd after → SpellsNumbers after ns → SpellsNumbers text (n ∷ ns)
 
 -- Holds if the text is a list of numbers.
 abbrev pub IsListOfNumbers : List ℕ → Type 0
-IsListOfNumbers text = (ns : List ℤ) × WritesNumbers text ns
+IsListOfNumbers text = (ns : List ℤ) × SpellsNumbers text ns
 
 -- The greatest length of an input, in bytes.
 abbrev pub max_input : ℕ
@@ -42,12 +42,12 @@ max_input = 16777216
 -- Holds if the text of an input spells these numbers and has at most 16,777,216 bytes.
 pub record IsInputOf (ns : List ℤ) (text : List ℕ) : Type 0 where
   pub short : length text ≤ max_input
-  pub writes : WritesNumbers text ns
+  pub writes : SpellsNumbers text ns
 
 -- Holds if the text isn't a valid input: it is too long, or isn't a list of numbers.
-abbrev pub IsNoInput : List ℕ → Type 0
-IsNoInput text = ¬ ((ns : List ℤ) × IsInputOf ns text)
+abbrev pub IsInvalidInput : List ℕ → Type 0
+IsInvalidInput text = ¬ ((ns : List ℤ) × IsInputOf ns text)
 
 -- Holds if the reader has failed, or its bytes are known and aren't a valid input.
-abbrev pub HasNoNumbers : Option (List ℕ) → Bool → Type 0
-HasNoNumbers given failed = (failed ≡ true) ⊎ IfSome given IsNoInput
+abbrev pub IsUnusableInput : Option (List ℕ) → Bool → Type 0
+IsUnusableInput given failed = (failed ≡ true) ⊎ IfSome given IsInvalidInput

@@ -2,11 +2,11 @@
 -- has failed.
 -- Rule: none; for contracts: a writer that remembers failures and flushes.
 use Rattle.std.specs.Prelude.{◌≡◌, ◌⊎◌, Bool, true}
-use Rattle.ob0_commands.specs.declared.printing.TrackedWriter.{TrackedWriter}
+use Rattle.ob0_commands.specs.declared.tracked_output.TrackedWriter.{TrackedWriter}
 
 -- Returns the wrapped writer.
-abbrev pub output_device : {W : Type 0} → TrackedWriter W → W
-output_device output = output.device
+abbrev pub wrapped_writer : {W : Type 0} → TrackedWriter W → W
+wrapped_writer output = output.device
 
 -- Returns true if a flush has succeeded since the last write of some bytes.
 abbrev pub has_flushed : {W : Type 0} → TrackedWriter W → Bool

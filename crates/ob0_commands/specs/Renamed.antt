@@ -12,10 +12,10 @@ use Rattle.ob0_text.specs.declared.position_types.Unit.{Unit}
 use Rattle.ob0_text.specs.declared.position_types.Unit.TheVariants.{Utf16}
 use Rattle.ob0_text.specs.declared.refusals.EditRefusal.{EditRefusal}
 use Rattle.ob0_edits.specs.Renamings.{IsRefusedIn, RenamesIn}
-use Rattle.ob0_commands.specs.Endings.{EndsWell}
+use Rattle.ob0_commands.specs.Endings.{EndsWithoutFault}
 use Rattle.ob0_commands.specs.Outputs.{IsFlushedOrUnchanged}
 use Rattle.ob0_commands.specs.Printed.{PrintsFaults}
-use Rattle.ob0_commands.specs.Said.{refused_line}
+use Rattle.ob0_commands.specs.StderrLines.{refusal_line}
 use Rattle.ob0_commands.specs.Statuses.{IsTextFile}
 
 -- Holds if the edits can be applied to the text, and the known bytes of the output grow by the
@@ -29,22 +29,22 @@ pub record PrintsPatched (unit : Unit) (content : List ℕ) (edits : List Edit)
 
 -- Holds if the result has edits that can be applied to the text, and the known bytes of the output
 -- grow by the edited text. Doesn't hold for a refusal.
-abbrev pub PrintsEdited : Unit
+abbrev pub PrintsEditedText : Unit
     → List ℕ
     → Result (Vec Edit Global) EditRefusal
     → Option (List ℕ)
     → Option (List ℕ)
     → Type 0
-PrintsEdited unit content (Ok edits) before after =
+PrintsEditedText unit content (Ok edits) before after =
     PrintsPatched unit content edits.items before after
-PrintsEdited unit content (Err refusal) before after = ⊥
+PrintsEditedText unit content (Err refusal) before after = ⊥
 
 -- Holds if the result is a refusal whose line is printed on standard error. Doesn't hold for edits.
-abbrev pub IsRefusal : Result (Vec Edit Global) EditRefusal
+abbrev pub PrintsRefusal : Result (Vec Edit Global) EditRefusal
     → (Option (List ℕ) → Type 0)
     → Type 0
-IsRefusal (Ok edits) Said = ⊥
-IsRefusal (Err refusal) Said = Said (Some (refused_line refusal))
+PrintsRefusal (Ok edits) StderrLines = ⊥
+PrintsRefusal (Err refusal) StderrLines = StderrLines (Some (refusal_line refusal))
 
 -- Holds if the file has a text, some edits rename the declaration at the position to the new name,
 -- and the edited text is printed. Positions count UTF-16 units.
@@ -58,44 +58,44 @@ pub record PrintsRenamed (file : List ℕ) (position : Position) (new : List ℕ
 -- Holds if the file has a text, the name is refused, the refusal is printed on standard error, and
 -- the output is unchanged.
 pub record RefusesName (file : List ℕ) (position : Position) (new : List ℕ)
-    (before after : Option (List ℕ)) (Said : Option (List ℕ) → Type 0) : Type 0 where
+    (before after : Option (List ℕ)) (StderrLines : Option (List ℕ) → Type 0) : Type 0 where
   pub has_text : IsTextFile file
   pub refusal : EditRefusal
   pub refused : IsRefusedIn Utf16 (chars file) position new refusal
   pub nothing : after ≡ before
-  pub said : Said (Some (refused_line refusal))
+  pub said : StderrLines (Some (refusal_line refusal))
 
 -- Holds if the file's errors are printed on the output and nothing on standard error, or if the
 -- name is refused.
-abbrev pub PrintsNoName : List ℕ
+abbrev pub PrintsErrorsOrRefusal : List ℕ
     → Position
     → List ℕ
     → Option (List ℕ)
     → Option (List ℕ)
     → (Option (List ℕ) → Type 0)
     → Type 0
-PrintsNoName file position new before after Said =
-    (PrintsFaults file before after × Said None)
-    ⊎ RefusesName file position new before after Said
+PrintsErrorsOrRefusal file position new before after StderrLines =
+    (PrintsFaults file before after × StderrLines None)
+    ⊎ RefusesName file position new before after StderrLines
 
 -- Holds if `rename` ends with this status. 0: the text with the new name is printed and flushed,
 -- and nothing on standard error. 1: the file's errors are printed or the name is refused, and any
 -- output is flushed.
-abbrev pub Renames : {O : Type 0}
+abbrev pub RenameEndsWithoutFault : {O : Type 0}
     → (contents : O → Option (List ℕ))
     → (is_flushed : O → Bool)
     → (before after : O)
-    → (Said : Option (List ℕ) → Type 0)
+    → (StderrLines : Option (List ℕ) → Type 0)
     → (file : List ℕ)
     → Position
     → (new : List ℕ)
     → (Both : Type 0)
     → ℕ
     → Type 0
-Renames contents is_flushed before after Said file position new =
-    EndsWell
+RenameEndsWithoutFault contents is_flushed before after StderrLines file position new =
+    EndsWithoutFault
     (PrintsRenamed file position new (contents before) (contents after)
     × (is_flushed after ≡ true)
-    × Said None)
-    (PrintsNoName file position new (contents before) (contents after) Said
+    × StderrLines None)
+    (PrintsErrorsOrRefusal file position new (contents before) (contents after) StderrLines
     × IsFlushedOrUnchanged (is_flushed after) before after)

@@ -7,14 +7,14 @@ use Rattle.ob0_language_names.specs.Names.{Name}
 use Rattle.ob0_language_types.specs.WellTyped.{WellTyped}
 use Rattle.ob0_language_runs.specs.Runs.{Run, run}
 use Rattle.ob0_analysis.specs.Diagnosed.{IsTextOf}
-use Rattle.ob0_run.specs.Outcomes.{end_in}
+use Rattle.ob0_run.specs.Outcomes.{meaning_of_end}
 use Rattle.ob0_run.specs.Programs as lowered
 use Rattle.ob0_run_lowering.specs.declared.programs.Program.{Program}
 use Rattle.ob0_run_machine.specs.declared.running.End.{End}
 use Rattle.ob0_run_machine.specs.declared.running.End.TheVariants as end
-use Rattle.ob0_commands.specs.Endings.{EndsWell}
+use Rattle.ob0_commands.specs.Endings.{EndsWithoutFault}
 use Rattle.ob0_commands.specs.Numbers.{IsInputOf}
-use Rattle.ob0_commands.specs.Printed.{PrintsFaults, end_line, output_text}
+use Rattle.ob0_commands.specs.Printed.{PrintsFaults, run_end_line, output_text}
 
 -- Holds if the text is a well-typed module and `r` is its run on this input. `c` bounds the open
 -- calls, and `t` the iterations of each loop.
@@ -41,31 +41,31 @@ pub record PrintsRun (file : List ℕ) (given : Option (List ℕ)) (c t : ℕ)
   pub printed : Appends before after (output_text r.output)
 
 -- Holds if the printed output is that of a run that reaches the end of the module's body.
-abbrev pub PrintsDone : List ℕ
+abbrev pub PrintsCompleteRun : List ℕ
     → Option (List ℕ)
     → ℕ
     → ℕ
     → Option (List ℕ)
     → Option (List ℕ)
     → Type 0
-PrintsDone file given c t before after =
-    (r : Run) × PrintsRun file given c t before after r × (r.ending ≡ end_in end.Done)
+PrintsCompleteRun file given c t before after =
+    (r : Run) × PrintsRun file given c t before after r × (r.ending ≡ meaning_of_end end.Done)
 
 -- Holds if the output of a run with an end other than Done is printed, and the line of that end is
 -- printed on standard error.
-pub record PrintsEnded (file : List ℕ) (given : Option (List ℕ)) (c t : ℕ)
-    (before after : Option (List ℕ)) (Said : Option (List ℕ) → Type 0) : Type 0 where
+pub record PrintsStoppedRun (file : List ℕ) (given : Option (List ℕ)) (c t : ℕ)
+    (before after : Option (List ℕ)) (StderrLines : Option (List ℕ) → Type 0) : Type 0 where
   pub r : Run
   pub prints : PrintsRun file given c t before after r
-  pub otherwise : r.ending ≢ end_in end.Done
+  pub otherwise : r.ending ≢ meaning_of_end end.Done
   pub last : End
-  pub ends : r.ending ≡ end_in last
-  pub said : Said (end_line last)
+  pub ends : r.ending ≡ meaning_of_end last
+  pub said : StderrLines (run_end_line last)
 
 -- Holds in two cases. Either the file's errors are printed, and nothing on standard error. Or the
 -- output of a run with an end other than Done is printed, and the line of that end on standard
 -- error.
-abbrev pub PrintsOther : List ℕ
+abbrev pub PrintsErrorsOrStoppedRun : List ℕ
     → Option (List ℕ)
     → ℕ
     → ℕ
@@ -73,28 +73,28 @@ abbrev pub PrintsOther : List ℕ
     → Option (List ℕ)
     → (Option (List ℕ) → Type 0)
     → Type 0
-PrintsOther file given c t before after Said =
-    (PrintsFaults file before after × Said None)
-    ⊎ PrintsEnded file given c t before after Said
+PrintsErrorsOrStoppedRun file given c t before after StderrLines =
+    (PrintsFaults file before after × StderrLines None)
+    ⊎ PrintsStoppedRun file given c t before after StderrLines
 
 -- Holds if `run` ends with this status. 0: the run to the end of the module's body is printed, and
 -- nothing on standard error. 1: another run or the file's errors are printed. All output is
 -- flushed.
-abbrev pub PrintsRuns : {O : Type 0}
+abbrev pub RunEndsWithoutFault : {O : Type 0}
     → (contents : O → Option (List ℕ))
     → (is_flushed : O → Bool)
     → (before after : O)
-    → (Said : Option (List ℕ) → Type 0)
+    → (StderrLines : Option (List ℕ) → Type 0)
     → (file : List ℕ)
     → (given : Option (List ℕ))
     → (c t : ℕ)
     → (Both : Type 0)
     → ℕ
     → Type 0
-PrintsRuns contents is_flushed before after Said file given c t =
-    EndsWell
-    (PrintsDone file given c t (contents before) (contents after)
+RunEndsWithoutFault contents is_flushed before after StderrLines file given c t =
+    EndsWithoutFault
+    (PrintsCompleteRun file given c t (contents before) (contents after)
     × (is_flushed after ≡ true)
-    × Said None)
-    (PrintsOther file given c t (contents before) (contents after) Said
+    × StderrLines None)
+    (PrintsErrorsOrStoppedRun file given c t (contents before) (contents after) StderrLines
     × (is_flushed after ≡ true))

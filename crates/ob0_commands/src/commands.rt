@@ -2,14 +2,14 @@
 
 ghost use Rattle.std.specs.Prelude.{◌≢◌};
 ghost use Rattle.ob0_cli.specs.declared.line.CommandLine.TheVariants.{Serve};
-ghost use Rattle.ob0_commands.specs.Performed.{PerformsOnFile};
-ghost use Rattle.ob0_commands.specs.Said.{Says};
+ghost use Rattle.ob0_commands.specs.CommandEffects.{PerformsOnFile};
+ghost use Rattle.ob0_commands.specs.StderrLines.{PrintsLine};
 
-use crate::checking::check_text;
-use crate::printing::Output;
+use crate::check_command::check_text;
 use crate::reading::Input;
 use crate::renaming::rename_text;
 use crate::running::run_text;
+use crate::tracked_output::Output;
 use ob0_cli::CommandLine;
 use std::alloc::Global;
 
@@ -26,7 +26,7 @@ pub fn perform<R: Input, O: Output, E: Output>(
 ) -> u8
     requires { line ≢ Serve }
     ensures { PerformsOnFile O.contents O.is_flushed O.has_failed out.old out.new
-        (Says E.contents E.is_flushed E.has_failed err.old err.new) file.now
+        (PrintsLine E.contents E.is_flushed E.has_failed err.old err.new) file.now
         R.remaining R.has_failed input.old input.new line.entry result }
 {
     match line {

@@ -2,10 +2,10 @@
 
 ghost use Rattle.std.specs.Prelude.{◌≡◌, ◌≤◌, Some};
 ghost use Rattle.ob0_commands.specs.Printed.{fault_line};
-ghost use Rattle.ob0_commands.specs.Said.{Says};
+ghost use Rattle.ob0_commands.specs.StderrLines.{PrintsLine};
 ghost use Rattle.ob0_commands.specs.Statuses.{status_of};
 
-use crate::printing::{Output, print};
+use crate::tracked_output::{Output, print};
 use std::alloc::{AllocError, AllocFailed};
 use thiserror::Error;
 
@@ -75,7 +75,7 @@ impl<T: Drop> From<AllocFailed<T>> for FileFault {
 pub fn print_fault<E: Output>(fault: FileFault, err: &mut E) -> u8
     ensures status { result ≡ status_of fault }
     ensures fails { 4 ≤ result }
-    ensures said { Says E.contents E.is_flushed E.has_failed err.old err.new
+    ensures said { PrintsLine E.contents E.is_flushed E.has_failed err.old err.new
         (Some (fault_line fault)) }
 {
     let _ = print(err, fault.line());

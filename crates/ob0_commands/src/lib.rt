@@ -2,16 +2,16 @@
 //! bytes of the file, a reader for the input, and writers for the output and the faults.
 #![tactic(auto)]
 
-mod checking;
+mod check_command;
 mod commands;
 mod faults;
 mod numbers;
-mod printing;
 mod reading;
 mod renaming;
 mod running;
+mod tracked_output;
 
 pub use commands::perform;
 pub use faults::{FileFault, print_fault};
-pub use printing::{Output, TrackedWriter};
 pub use reading::{Input, MAX_FILE, TrackedReader, read_file};
+pub use tracked_output::{Output, TrackedWriter};

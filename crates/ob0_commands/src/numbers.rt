@@ -13,8 +13,8 @@ ghost use Rattle.std.specs.Prelude.{◌≡◌, ◌≤◌, ℤ, IfOk, OnOk, IfErr
 ghost use Rattle.std.specs.List.{position_or_len};
 ghost use Rattle.ob0_scan.specs.Classes.{is_space};
 ghost use Rattle.ob0_commands.specs.Inputs.{TakesAtMost};
-ghost use Rattle.ob0_commands.specs.Numbers.{HasNoNumbers, IsInputOf, IsListOfNumbers, WritesNumber, WritesNumbers, max_input};
-ghost use Rattle.ob0_commands.specs.Statuses.{StopsFor};
+ghost use Rattle.ob0_commands.specs.Numbers.{IsUnusableInput, IsInputOf, IsListOfNumbers, SpellsNumber, SpellsNumbers, max_input};
+ghost use Rattle.ob0_commands.specs.Statuses.{IsFaultOrMemory};
 ghost use Rattle.ob0_commands.specs.declared.faults.FileFault.TheVariants as faults;
 
 use crate::faults::FileFault;
@@ -30,20 +30,20 @@ pub fn read_numbers<R: Input>(alloc: Global, input: &mut R) -> Result<Vec<i32>, 
     ensures limit { TakesAtMost (suc max_input) (R.remaining input.old) (R.remaining input.new) }
     ensures unfailed { OnOk result (R.has_failed input.new ≡ R.has_failed input.old) }
     ensures fault { IfErr result
-        (StopsFor faults.Input (HasNoNumbers (R.remaining input.old) (R.has_failed input.new))
+        (IsFaultOrMemory faults.Input (IsUnusableInput (R.remaining input.old) (R.has_failed input.new))
         (R.has_failed input.new ≡ R.has_failed input.old)) }
 {
     let text = read_input(alloc, input)?;
-    match numbers_in(alloc, text.as_slice())? {
+    match parse_numbers(alloc, text.as_slice())? {
         Some(numbers) => Ok(numbers),
         None => Err(FileFault::Input),
     }
 }
 
 /// Returns the numbers of a text in order, or None if one of its words isn't a number.
-fn numbers_in(alloc: Global, text: &[u8]) -> Result<Option<Vec<i32>>, AllocError>
+fn parse_numbers(alloc: Global, text: &[u8]) -> Result<Option<Vec<i32>>, AllocError>
     ensures { IfOk result (λ found. MatchOption found (¬ IsListOfNumbers text.now)
-        (λ numbers. WritesNumbers text.now numbers.items)) }
+        (λ numbers. SpellsNumbers text.now numbers.items)) }
 {
     let mut numbers = Vec::new(alloc);
     let mut at = 0;
@@ -52,7 +52,7 @@ fn numbers_in(alloc: Global, text: &[u8]) -> Result<Option<Vec<i32>>, AllocError
             at += 1;
         } else {
             let end = at + word_len(&text[at..]);
-            let Some(number) = number_of(&text[at..end]) else {
+            let Some(number) = parse_number(&text[at..end]) else {
                 return Ok(None);
             };
             numbers.push(number)?;
@@ -71,9 +71,9 @@ fn word_len(bytes: &[u8]) -> usize
 }
 
 /// Returns the number that a word spells, or None if the word isn't a number.
-fn number_of(word: &[u8]) -> Option<i32>
-    ensures { MatchOption result (¬ ((n : ℤ) × WritesNumber word.now n))
-        (λ number. WritesNumber word.now number) }
+fn parse_number(word: &[u8]) -> Option<i32>
+    ensures { MatchOption result (¬ ((n : ℤ) × SpellsNumber word.now n))
+        (λ number. SpellsNumber word.now number) }
 {
     let Ok(digits) = str::from_utf8(word) else {
         return None;

@@ -1,21 +1,21 @@
 //! Reads the bytes of a file and of an input.
 //!
 //! The commands read from an `Input`: a reader that remembers whether it has failed. So the
-//! contracts can state that the faults `File` and `Input` come from a failed read (`StopsFor`).
+//! contracts can state that the faults `File` and `Input` come from a failed read (`IsFaultOrMemory`).
 //! `TrackedReader` makes an `Input` of any reader. If the remaining bytes of a reader aren't known
 //! (`Read::remaining`), the contracts don't say which numbers are read.
 
 ghost use Rattle.std.specs.Prelude.{◌≡◌, ◌≤◌, ◌<◌, ◌||◌, ◌⊎◌, Bool, true, false, is_err, IfOk, OnOk, IfErr, IfSome, length, suc};
 ghost use Rattle.std.specs.Io.{ReadsAtMost};
 ghost use Rattle.std.specs.Io.KnownBytes.{Consumes, IsAtEnd, ReadConsumes};
-ghost use Rattle.ob0_scan.specs.Scanned.{max_text};
-ghost use Rattle.ob0_commands.specs.Inputs.{TakesAtMost, input_device, input_failed};
+ghost use Rattle.ob0_scan.specs.TextWithTokens.{max_text};
+ghost use Rattle.ob0_commands.specs.Inputs.{TakesAtMost, wrapped_reader, input_failed};
 ghost use Rattle.ob0_commands.specs.Numbers.{max_input};
-ghost use Rattle.ob0_commands.specs.Statuses.{StopsFor};
+ghost use Rattle.ob0_commands.specs.Statuses.{IsFaultOrMemory};
 ghost use Rattle.ob0_commands.specs.declared.faults.FileFault.TheVariants as faults;
 
 use crate::faults::FileFault;
-use crate::printing::PIECE_SIZE;
+use crate::tracked_output::PIECE_SIZE;
 use ob0_scan::MAX_TEXT;
 use std::alloc::Global;
 use std::io::{self, Read};
@@ -49,7 +49,7 @@ pub struct TrackedReader<R> {
 impl<R> TrackedReader<R> {
     /// Wraps a reader. It counts as not failed.
     pub fn new(device: R) -> TrackedReader<R>
-        ensures device { input_device result ≡ device }
+        ensures device { wrapped_reader result ≡ device }
         ensures works { input_failed result ≡ false }
     {
         TrackedReader {
@@ -60,12 +60,12 @@ impl<R> TrackedReader<R> {
 }
 
 impl<R: Read> Read for TrackedReader<R> {
-    ghost remaining = { λ input. R.remaining (input_device input) };
+    ghost remaining = { λ input. R.remaining (wrapped_reader input) };
 
     fn read(&mut self, buf: &mut [u8]) -> io::Result<usize>
         ensures bound { ReadsAtMost result buf.new }
-        ensures bytes { ReadConsumes (R.remaining (input_device self.old))
-            (R.remaining (input_device self.new)) result buf.new }
+        ensures bytes { ReadConsumes (R.remaining (wrapped_reader self.old))
+            (R.remaining (wrapped_reader self.new)) result buf.new }
         ensures failed { input_failed self.new ≡ (input_failed self.old || is_err result) }
     {
         match self.device.read(buf) {
@@ -95,7 +95,7 @@ pub fn read_file<R: Input>(alloc: Global, file: &mut R) -> Result<Vec<u8>, FileF
         (λ bytes. length bytes.items ≤ max_text → IsAtEnd (R.remaining file.new)) }
     ensures limit { TakesAtMost (suc max_text) (R.remaining file.old) (R.remaining file.new) }
     ensures unfailed { OnOk result (R.has_failed file.new ≡ R.has_failed file.old) }
-    ensures fault { IfErr result (StopsFor faults.File (R.has_failed file.new ≡ true)
+    ensures fault { IfErr result (IsFaultOrMemory faults.File (R.has_failed file.new ≡ true)
         (R.has_failed file.new ≡ R.has_failed file.old)) }
 {
     read_up_to(alloc, file, MAX_FILE, FileFault::File)
@@ -110,7 +110,7 @@ pub fn read_input<R: Input>(alloc: Global, input: &mut R) -> Result<Vec<u8>, Fil
     ensures end { IfOk result (λ bytes. IsAtEnd (R.remaining input.new)) }
     ensures limit { TakesAtMost (suc max_input) (R.remaining input.old) (R.remaining input.new) }
     ensures unfailed { OnOk result (R.has_failed input.new ≡ R.has_failed input.old) }
-    ensures fault { IfErr result (StopsFor faults.Input ((R.has_failed input.new ≡ true)
+    ensures fault { IfErr result (IsFaultOrMemory faults.Input ((R.has_failed input.new ≡ true)
         ⊎ IfSome (R.remaining input.old) (λ text. max_input < length text))
         (R.has_failed input.new ≡ R.has_failed input.old)) }
 {
@@ -135,7 +135,7 @@ fn read_up_to<R: Input>(
         (λ bytes. length bytes.items < most → IsAtEnd (R.remaining reader.new)) }
     ensures limit { TakesAtMost most (R.remaining reader.old) (R.remaining reader.new) }
     ensures unfailed { OnOk result (R.has_failed reader.new ≡ R.has_failed reader.old) }
-    ensures stops { IfErr result (StopsFor fault (R.has_failed reader.new ≡ true)
+    ensures stops { IfErr result (IsFaultOrMemory fault (R.has_failed reader.new ≡ true)
         (R.has_failed reader.new ≡ R.has_failed reader.old)) }
 {
     let mut bytes = Vec::new(alloc);

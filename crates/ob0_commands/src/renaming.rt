@@ -1,23 +1,23 @@
 //! Renames a declaration in a file's text, and prints the result.
 //!
-//! `rename_text` analyses the text once. The renaming uses that analysis (`rename_in` of
+//! `rename_text` analyses the text once. The renaming uses that analysis (`rename_edits` of
 //! `ob0_edits`). If the text isn't a well-typed module, the diagnostics of the same analysis are
-//! printed, with `text_of` and `print_diagnoses` as in `check`. `rename_in_text` does the work
+//! printed, with `decode_text` and `print_diagnoses` as in `check_file`. `rename_utf8_text` does the work
 //! after the test for UTF-8. It is a separate function because its proof needs a `&str`: the
-//! contract of `rename_in` is about the characters of a text, and that of `diagnoses` is about its
+//! contract of `rename_edits` is about the characters of a text, and that of `diagnoses` is about its
 //! bytes.
 
 ghost use Rattle.std.specs.Prelude.{◌≡◌, true, IfOk, IfErr, OnErr};
-ghost use Rattle.ob0_commands.specs.Endings.{EndsWell};
-ghost use Rattle.ob0_commands.specs.Performed.{RenamesInFile};
-ghost use Rattle.ob0_commands.specs.Renamed.{IsRefusal, PrintsEdited, Renames};
-ghost use Rattle.ob0_commands.specs.Said.{Says};
-ghost use Rattle.ob0_commands.specs.Statuses.{AllocatesFor, HasNoText, IsOfOutput, PrintsNothing, StopsPrinting, StopsPrintingFaults};
+ghost use Rattle.ob0_commands.specs.Endings.{EndsWithoutFault};
+ghost use Rattle.ob0_commands.specs.CommandEffects.{RenamesInFile};
+ghost use Rattle.ob0_commands.specs.Renamed.{PrintsRefusal, PrintsEditedText, RenameEndsWithoutFault};
+ghost use Rattle.ob0_commands.specs.StderrLines.{PrintsLine};
+ghost use Rattle.ob0_commands.specs.Statuses.{AllocatesOnlyIfShort, IsNonUtf8File, OutputFailureMatches, PrintsNothingUnlessWrite, StopsPrinting, StopsPrintingFaults};
 
-use crate::checking::{analyse, print_diagnoses, text_of};
+use crate::check_command::{analyse, decode_text, print_diagnoses};
 use crate::faults::{FileFault, print_fault};
-use crate::printing::{Output, print};
-use ob0_edits::rename_in;
+use crate::tracked_output::{Output, print};
+use ob0_edits::rename_edits;
 use ob0_text::{Edit, EditRefusal, Lines, Position, TextStore, patch};
 use std::alloc::Global;
 
@@ -34,7 +34,7 @@ pub fn rename_text<O: Output, E: Output>(
     err: &mut E,
 ) -> u8
     ensures { RenamesInFile O.contents O.is_flushed O.has_failed out.old out.new
-        (Says E.contents E.is_flushed E.has_failed err.old err.new) file.now position new.now
+        (PrintsLine E.contents E.is_flushed E.has_failed err.old err.new) file.now position new.now
         result }
 {
     match rename_file(alloc, file, position, new, out, err) {
@@ -52,26 +52,26 @@ fn rename_file<O: Output, E: Output>(
     out: &mut O,
     err: &mut E,
 ) -> Result<u8, FileFault>
-    ensures ends { IfOk result (Renames O.contents O.is_flushed out.old out.new
-        (Says E.contents E.is_flushed E.has_failed err.old err.new) file.now position new.now
-        (¬ HasNoText file.now × (O.has_failed out.new ≡ O.has_failed out.old))) }
+    ensures ends { IfOk result (RenameEndsWithoutFault O.contents O.is_flushed out.old out.new
+        (PrintsLine E.contents E.is_flushed E.has_failed err.old err.new) file.now position new.now
+        (¬ IsNonUtf8File file.now × (O.has_failed out.new ≡ O.has_failed out.old))) }
     ensures fault { IfErr result (StopsPrintingFaults file.now) }
     ensures failed { IfErr result
-        (IsOfOutput (O.has_failed out.old) (O.has_failed out.new)) }
-    ensures memory { IfErr result (AllocatesFor file.now) }
-    ensures kept { IfErr result (PrintsNothing out.old out.new) }
+        (OutputFailureMatches (O.has_failed out.old) (O.has_failed out.new)) }
+    ensures memory { IfErr result (AllocatesOnlyIfShort file.now) }
+    ensures kept { IfErr result (PrintsNothingUnlessWrite out.old out.new) }
     ensures unsaid { OnErr result (err.new ≡ err.old) }
 {
-    let Some(text) = text_of(file, out)? else {
+    let Some(text) = decode_text(file, out)? else {
         return Ok(1);
     };
-    rename_in_text(alloc, text, position, new, out, err)
+    rename_utf8_text(alloc, text, position, new, out, err)
 }
 
 /// Prints a text with the declaration at a position renamed, or the refusal. If the text isn't a
 /// well-typed module, prints its diagnostics. Returns the program's exit status, 0 or 1, or the
 /// fault.
-fn rename_in_text<O: Output, E: Output>(
+fn rename_utf8_text<O: Output, E: Output>(
     alloc: Global,
     text: &str,
     position: Position,
@@ -79,19 +79,19 @@ fn rename_in_text<O: Output, E: Output>(
     out: &mut O,
     err: &mut E,
 ) -> Result<u8, FileFault>
-    ensures ends { IfOk result (Renames O.contents O.is_flushed out.old out.new
-        (Says E.contents E.is_flushed E.has_failed err.old err.new) text.now position new.now
+    ensures ends { IfOk result (RenameEndsWithoutFault O.contents O.is_flushed out.old out.new
+        (PrintsLine E.contents E.is_flushed E.has_failed err.old err.new) text.now position new.now
         (O.has_failed out.new ≡ O.has_failed out.old)) }
     ensures fault { IfErr result StopsPrinting }
     ensures failed { IfErr result
-        (IsOfOutput (O.has_failed out.old) (O.has_failed out.new)) }
-    ensures kept { IfErr result (PrintsNothing out.old out.new) }
+        (OutputFailureMatches (O.has_failed out.old) (O.has_failed out.new)) }
+    ensures kept { IfErr result (PrintsNothingUnlessWrite out.old out.new) }
     ensures unsaid { OnErr result (err.new ≡ err.old) }
 {
     let store = Lines::from_str(alloc, text)?;
     let analysis = analyse(alloc, text)?;
-    match rename_in(alloc, &store, &analysis, position, new)? {
-        Some(outcome) => print_edited(alloc, &store, outcome, out, err),
+    match rename_edits(alloc, &store, &analysis, position, new)? {
+        Some(outcome) => print_rename_outcome(alloc, &store, outcome, out, err),
         None => {
             let reported = analysis.diagnoses(alloc)?;
             print_diagnoses(alloc, text, reported.as_slice(), out)?;
@@ -102,23 +102,23 @@ fn rename_in_text<O: Output, E: Output>(
 
 /// Prints the edited text to `out`, or the refusal to `err` as `refused: TEXT`. Returns the program's exit status: 0
 /// for edits, 1 for a refusal. If an allocation failed, the fault is `Memory`.
-pub fn print_edited<T: TextStore, O: Output, E: Output>(
+pub fn print_rename_outcome<T: TextStore, O: Output, E: Output>(
     alloc: Global,
     store: &T,
     edits: Result<Vec<Edit>, EditRefusal>,
     out: &mut O,
     err: &mut E,
 ) -> Result<u8, FileFault>
-    ensures ends { IfOk result (EndsWell
-        (PrintsEdited (T.unit_of store.now) (T.content store.now) edits (O.contents out.old)
+    ensures ends { IfOk result (EndsWithoutFault
+        (PrintsEditedText (T.unit_of store.now) (T.content store.now) edits (O.contents out.old)
         (O.contents out.new) × (O.is_flushed out.new ≡ true) × (err.new ≡ err.old))
-        (IsRefusal edits (Says E.contents E.is_flushed E.has_failed err.old err.new)
+        (PrintsRefusal edits (PrintsLine E.contents E.is_flushed E.has_failed err.old err.new)
         × (out.new ≡ out.old))
         (O.has_failed out.new ≡ O.has_failed out.old)) }
     ensures fault { IfErr result StopsPrinting }
     ensures failed { IfErr result
-        (IsOfOutput (O.has_failed out.old) (O.has_failed out.new)) }
-    ensures kept { IfErr result (PrintsNothing out.old out.new) }
+        (OutputFailureMatches (O.has_failed out.old) (O.has_failed out.new)) }
+    ensures kept { IfErr result (PrintsNothingUnlessWrite out.old out.new) }
     ensures unsaid { OnErr result (err.new ≡ err.old) }
 {
     match edits {

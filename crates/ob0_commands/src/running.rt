@@ -7,31 +7,31 @@
 //! of the program (`RunsAs`).
 //!
 //! The output is written in pieces of at most `PIECE_SIZE` bytes (`print_items`), so its whole text is never stored.
-//! `IsWrittenBut` separates the written text from the waiting piece. A piece is an `ArrayString`: it is on the stack
+//! `IsWrittenExcept` separates the written text from the waiting piece. A piece is an `ArrayString`: it is on the stack
 //! and doesn't grow. It is written if the next item might not fit. So nothing is allocated after the first byte is
 //! printed. (A `String` could allocate between pieces, because its contract allows that.)
 
 ghost use Rattle.std.specs.Prelude.{◌≡◌, ◌+◌, ◌≤◌, ◌++◌, true, IfOk, IfErr, IfNone, MatchOption, OnOk, OnErr, option_map, suc};
 ghost use Rattle.std.specs.Io.KnownBytes.{Appends};
 ghost use Rattle.arrayvec.specs.ArrayString.{array_string_len};
-ghost use Rattle.ob0_tree.specs.Parsed.{named_tree_of};
+ghost use Rattle.ob0_tree.specs.ParsedModule.{named_tree_of};
 ghost use Rattle.ob0_analysis.specs.Diagnosed.{IsWellTypedModule};
-ghost use Rattle.ob0_run.specs.Outcomes.{item_of, items_out, run_of};
+ghost use Rattle.ob0_run.specs.Outcomes.{item_of, output_items, run_of};
 ghost use Rattle.ob0_run.specs.Programs as lowered;
 ghost use Rattle.ob0_commands.specs.Inputs.{TakesAtMost};
 ghost use Rattle.ob0_commands.specs.Numbers.{max_input};
-ghost use Rattle.ob0_commands.specs.Performed.{RunsFile};
-ghost use Rattle.ob0_commands.specs.Printed.{IsWrittenBut, PrintsFaults, end_line, output_text, written_text};
-ghost use Rattle.ob0_commands.specs.Said.{Says};
-ghost use Rattle.ob0_commands.specs.Statuses.{AllocatesFor, HasNoText, IsOfInput, IsOfOutput, PrintsNothing, StopsPrinting, StopsRunning, status_at};
+ghost use Rattle.ob0_commands.specs.CommandEffects.{RunsFile};
+ghost use Rattle.ob0_commands.specs.Printed.{IsWrittenExcept, PrintsFaults, run_end_line, output_text, output_item_text};
+ghost use Rattle.ob0_commands.specs.StderrLines.{PrintsLine};
+ghost use Rattle.ob0_commands.specs.Statuses.{AllocatesOnlyIfShort, IsNonUtf8File, InputFailureMatches, OutputFailureMatches, PrintsNothingUnlessWrite, StopsPrinting, StopsRunning, run_end_status};
 ghost use Rattle.ob0_commands.specs.declared.faults.FileFault.TheVariants as faults;
-ghost use Rattle.ob0_commands.specs.TextRuns.{IsLoweredTo, PrintsRuns, TextRunsAs};
+ghost use Rattle.ob0_commands.specs.TextRuns.{IsLoweredTo, RunEndsWithoutFault, TextRunsAs};
 
-use crate::checking::{print_diagnoses, text_of};
+use crate::check_command::{decode_text, print_diagnoses};
 use crate::faults::{FileFault, print_fault};
 use crate::numbers::read_numbers;
-use crate::printing::{Output, PIECE_SIZE, print, write};
 use crate::reading::Input;
+use crate::tracked_output::{Output, PIECE_SIZE, print, write};
 use arrayvec::ArrayString;
 use itoa::Buffer;
 use ob0_analysis::{Analysis, Question, WellTyped, ask};
@@ -68,7 +68,7 @@ pub fn run_text<R: Input, O: Output, E: Output>(
     err: &mut E,
 ) -> u8
     ensures ends { RunsFile O.contents O.is_flushed O.has_failed out.old out.new
-        (Says E.contents E.is_flushed E.has_failed err.old err.new) file.now
+        (PrintsLine E.contents E.is_flushed E.has_failed err.old err.new) file.now
         R.remaining R.has_failed input.old input.new calls turns result }
     ensures limit { TakesAtMost (suc max_input) (R.remaining input.old) (R.remaining input.new) }
     ensures unread { ¬ IsWellTypedModule file.now → input.new ≡ input.old }
@@ -89,23 +89,23 @@ fn run_file<R: Input, O: Output, E: Output>(
     out: &mut O,
     err: &mut E,
 ) -> Result<u8, FileFault>
-    ensures ends { IfOk result (PrintsRuns O.contents O.is_flushed out.old out.new
-        (Says E.contents E.is_flushed E.has_failed err.old err.new) file.now
+    ensures ends { IfOk result (RunEndsWithoutFault O.contents O.is_flushed out.old out.new
+        (PrintsLine E.contents E.is_flushed E.has_failed err.old err.new) file.now
         (R.remaining input.old) calls turns
-        (¬ HasNoText file.now × (O.has_failed out.new ≡ O.has_failed out.old)
+        (¬ IsNonUtf8File file.now × (O.has_failed out.new ≡ O.has_failed out.old)
         × (R.has_failed input.new ≡ R.has_failed input.old))) }
     ensures limit { TakesAtMost (suc max_input) (R.remaining input.old) (R.remaining input.new) }
-    ensures read { IfErr result (IsOfInput (R.has_failed input.old) (R.has_failed input.new)) }
+    ensures read { IfErr result (InputFailureMatches (R.has_failed input.old) (R.has_failed input.new)) }
     ensures fault { IfErr result
         (StopsRunning file.now (R.remaining input.old) (R.has_failed input.new)) }
     ensures failed { IfErr result
-        (IsOfOutput (O.has_failed out.old) (O.has_failed out.new)) }
-    ensures memory { IfErr result (AllocatesFor file.now) }
-    ensures kept { IfErr result (PrintsNothing out.old out.new) }
+        (OutputFailureMatches (O.has_failed out.old) (O.has_failed out.new)) }
+    ensures memory { IfErr result (AllocatesOnlyIfShort file.now) }
+    ensures kept { IfErr result (PrintsNothingUnlessWrite out.old out.new) }
     ensures unread { ¬ IsWellTypedModule file.now → input.new ≡ input.old }
     ensures unsaid { OnErr result (err.new ≡ err.old) }
 {
-    let Some(text) = text_of(file, out)? else {
+    let Some(text) = decode_text(file, out)? else {
         return Ok(1);
     };
     let Some(program) = lower_text(alloc, text, out)? else {
@@ -113,7 +113,7 @@ fn run_file<R: Input, O: Output, E: Output>(
     };
     let numbers = read_numbers(alloc, input)?;
     let outcome = execute_module(alloc, text, &program, numbers.as_slice(), calls, turns)?;
-    print_outcome(outcome.output.as_slice(), outcome.end, out, err)
+    print_run_outcome(outcome.output.as_slice(), outcome.end, out, err)
 }
 
 /// Returns the program that a text is lowered to. If the text isn't a well-typed module, prints its diagnostics and
@@ -130,8 +130,8 @@ fn lower_text<O: Output>(
     ensures unfailed { OnOk result (O.has_failed out.new ≡ O.has_failed out.old) }
     ensures fault { IfErr result StopsPrinting }
     ensures failed { IfErr result
-        (IsOfOutput (O.has_failed out.old) (O.has_failed out.new)) }
-    ensures kept { IfErr result (PrintsNothing out.old out.new) }
+        (OutputFailureMatches (O.has_failed out.old) (O.has_failed out.new)) }
+    ensures kept { IfErr result (PrintsNothingUnlessWrite out.old out.new) }
 {
     let analysis = Analysis::of(alloc, text)?;
     match ask(alloc, &analysis, &LoweringQuestion {})? {
@@ -161,8 +161,8 @@ fn execute_module(
 }
 
 /// Returns the line, with its line ending, that reports an end other than `Done`. Returns None for `Done`.
-fn line_of(end: End) -> Option<&'static str>
-    ensures { option_map (λ line. line.now) result ≡ end_line end }
+fn run_end_line_of(end: End) -> Option<&'static str>
+    ensures { option_map (λ line. line.now) result ≡ run_end_line end }
 {
     match end {
         End::Done => None,
@@ -177,27 +177,27 @@ fn line_of(end: End) -> Option<&'static str>
 
 /// Prints a run's output to `out`, and the line of an end other than `Done` to `err`. Returns the program's exit
 /// status: 0 for `Done`, otherwise 1.
-pub fn print_outcome<O: Output, E: Output>(
+pub fn print_run_outcome<O: Output, E: Output>(
     output: &[Item],
     end: End,
     out: &mut O,
     err: &mut E,
 ) -> Result<u8, FileFault>
     ensures printed { OnOk result
-        (Appends (O.contents out.old) (O.contents out.new) (output_text (items_out output.now))) }
+        (Appends (O.contents out.old) (O.contents out.new) (output_text (output_items output.now))) }
     ensures flushed { OnOk result (O.is_flushed out.new ≡ true) }
-    ensures status { IfOk result (λ status. status ≡ status_at end) }
+    ensures status { IfOk result (λ status. status ≡ run_end_status end) }
     ensures ends { IfOk result (λ status. status ≤ 1) }
     ensures unfailed { OnOk result (O.has_failed out.new ≡ O.has_failed out.old) }
     ensures fault { IfErr result (λ fault. fault ≡ faults.Write) }
     ensures failed { OnErr result (O.has_failed out.new ≡ true) }
     ensures said { OnOk result
-        (Says E.contents E.is_flushed E.has_failed err.old err.new (end_line end)) }
+        (PrintsLine E.contents E.is_flushed E.has_failed err.old err.new (run_end_line end)) }
     ensures silent { IfOk result (λ status. status ≡ 0 → err.new ≡ err.old) }
     ensures unsaid { OnErr result (err.new ≡ err.old) }
 {
     print_items(output, out)?;
-    match line_of(end) {
+    match run_end_line_of(end) {
         Some(line) => {
             let _ = print(err, line);
             Ok(1)
@@ -207,13 +207,13 @@ pub fn print_outcome<O: Output, E: Output>(
 }
 
 /// The greatest length of an item's text, in bytes: a space, a sign and ten digits.
-const LONGEST_ITEM: usize = 12;
+const MAX_ITEM_LENGTH: usize = 12;
 
 /// Prints items, and flushes. Their text is collected in pieces on the stack, so the whole text is never stored and
 /// nothing is allocated.
 fn print_items<O: Output>(output: &[Item], out: &mut O) -> Result<(), FileFault>
     ensures printed { OnOk result
-        (Appends (O.contents out.old) (O.contents out.new) (output_text (items_out output.now))) }
+        (Appends (O.contents out.old) (O.contents out.new) (output_text (output_items output.now))) }
     ensures flushed { OnOk result (O.is_flushed out.new ≡ true) }
     ensures unfailed { OnOk result (O.has_failed out.new ≡ O.has_failed out.old) }
     ensures fault { IfErr result (λ fault. fault ≡ faults.Write) }
@@ -235,13 +235,13 @@ fn append_item<O: Output>(
     item: Item,
     out: &mut O,
 ) -> Result<(), FileFault>
-    ensures written { OnOk result (IsWrittenBut (O.contents out.old) (O.contents out.new)
-        (text.old.bytes ++ written_text (item_of item)) text.new.bytes) }
+    ensures written { OnOk result (IsWrittenExcept (O.contents out.old) (O.contents out.new)
+        (text.old.bytes ++ output_item_text (item_of item)) text.new.bytes) }
     ensures unfailed { OnOk result (O.has_failed out.new ≡ O.has_failed out.old) }
     ensures fault { IfErr result (λ fault. fault ≡ faults.Write) }
     ensures failed { OnErr result (O.has_failed out.new ≡ true) }
 {
-    if text.remaining_capacity() < LONGEST_ITEM {
+    if text.remaining_capacity() < MAX_ITEM_LENGTH {
         write(out, text.as_str())?;
         text.clear();
     }
@@ -252,7 +252,7 @@ fn append_item<O: Output>(
 /// Appends an item to a text: a space and the digits of a number, or a line feed. The text must have room for 12 bytes.
 fn push_item(text: &mut ArrayString<PIECE_SIZE>, digits: &mut Buffer, item: Item)
     requires { array_string_len text.old + 12 ≤ 8192 }
-    ensures { text.new.bytes ≡ text.old.bytes ++ written_text (item_of item) }
+    ensures { text.new.bytes ≡ text.old.bytes ++ output_item_text (item_of item) }
 {
     match item {
         Item::Number(number) => {

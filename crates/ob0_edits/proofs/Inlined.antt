@@ -1,31 +1,31 @@
 -- Proves that the edits that inline a constant leave a text whose module has the same runs.
 use Rattle.std.proofs.Common.{◌≡◌, ℕ, List, Option, Some, None, Result, Vec, Global, inl, inr, refl, subst}
 use Rattle.std.specs.Str.{chars, IsUtf8}
-use Rattle.ob0_inline.specs.Everywhere.{inlined_all}
+use Rattle.ob0_inline.specs.Everywhere.{tree_inlined_everywhere}
 use Rattle.ob0_inline.specs.Inlined.{LeavesModule}
-use Rattle.ob0_inline.specs.Uses.{inlined_here}
-use Rattle.ob0_language_runs.specs.EditLaws.{SameRuns}
+use Rattle.ob0_inline.specs.Uses.{tree_inlined_here}
+use Rattle.ob0_language_runs.specs.EditLaws.{HaveSameRuns}
 use Rattle.ob0_language_names.specs.Names.{Name}
 use Rattle.ob0_scope_table.specs.Resolution.{Resolution}
 use Rattle.ob0_text.specs.declared.edits.Edit.{Edit}
 use Rattle.ob0_text.specs.declared.position_types.Unit.{Unit}
 use Rattle.ob0_text.specs.declared.refusals.EditRefusal.{EditRefusal}
-use Rattle.ob0_tree.specs.Parsed.{Parsed, named_tree_of}
+use Rattle.ob0_tree.specs.ParsedModule.{ParsedModule, named_tree_of}
 use Rattle.ob0_tree.specs.Tree.{Tree, module_text}
 use Rattle.ob0_language_types.specs.WellTyped.{WellTyped}
-use Rattle.ob0_edits.specs.Inlinings.{AnswersInlining, FindsInlinings, Inlines, InlinesIn, IsOffered, Offers}
-use Rattle.ob0_analysis.specs.Analysed.{Finds, IsModuleIn, IsReadAs}
+use Rattle.ob0_edits.specs.Inlinings.{AnswersInlining, FindsInlineResults, IsInlineResult, InlinesIn, AreEditsUnlessRefused, OffersInlining}
+use Rattle.ob0_analysis.specs.Analysed.{AnswersIfWellTyped, IsModuleIn, IsReadAs}
 use Rattle.ob0_analysis.specs.Diagnosed.{IsTextOf, IsWellTypedModule}
 use Rattle.ob0_analysis.specs.Texts.{utf8}
-use Rattle.ob0_edits.specs.declared.inlining.Inlining.{Inlining}
-use Rattle.ob0_edits.specs.declared.inlining.Inlining.TheVariants.{Here, Everywhere}
-use Rattle.ob0_edits.specs.declared.inlining.Inlinings.{Inlinings}
+use Rattle.ob0_edits.specs.declared.inlinings.Inlining.{Inlining}
+use Rattle.ob0_edits.specs.declared.inlinings.Inlining.TheVariants.{Here, Everywhere}
+use Rattle.ob0_edits.specs.declared.inlinings.Inlinings.{Inlinings}
 use Rattle.ob0_analysis.proofs.Scanning.{is_module, utf8_of}
 
 -- ---- the edits that an answer offers
 
-pub offered_of : (how : Inlining) (unit : Unit) (text : List ℕ) (m : Parsed) (offset : ℕ) (answer : Result (Vec Edit Global) EditRefusal) (edits : Option (Vec Edit Global))
-    → AnswersInlining how unit text m offset answer → IsOffered answer edits → Inlines how unit text m offset edits
+pub offered_of : (how : Inlining) (unit : Unit) (text : List ℕ) (m : ParsedModule) (offset : ℕ) (answer : Result (Vec Edit Global) EditRefusal) (edits : Option (Vec Edit Global))
+    → AnswersInlining how unit text m offset answer → AreEditsUnlessRefused answer edits → IsInlineResult how unit text m offset edits
 offered_of how unit text m offset answer (Some edits) h is = subst (λ (a : Result (Vec Edit Global) EditRefusal). AnswersInlining how unit text m offset a) is h
 offered_of how unit text m offset answer None h (refusal, other, is) = (refusal, other, subst (λ (a : Result (Vec Edit Global) EditRefusal). AnswersInlining how unit text m offset a) is h)
 
@@ -36,7 +36,7 @@ read_as text names h = record { scan = h.scan; parsed = h.well_typed.resolved.pa
 
 -- Edits that leave the text of a module with the same runs inline the constant.
 kept : (how : Inlining) (unit : Unit) (text : List ℕ) (offset : ℕ) (edits : Vec Edit Global) (names : Resolution) (t : Tree Name module_text) → IsModuleIn (utf8 text) names
-    → LeavesModule unit text edits.items t → WellTyped t → SameRuns t (named_tree_of names.module_read) → Inlines how unit text names.module_read offset (Some edits) → InlinesIn how unit text offset edits
+    → LeavesModule unit text edits.items t → WellTyped t → HaveSameRuns t (named_tree_of names.module_read) → IsInlineResult how unit text names.module_read offset (Some edits) → InlinesIn how unit text offset edits
 kept how unit text offset edits names t h leaves well same inlines =
     let after : List ℕ = chars leaves.after.text in
     let text_of : IsTextOf t (utf8 after) =
@@ -52,22 +52,22 @@ kept how unit text offset edits names t h leaves well same inlines =
     }
 
 inlines_in : (how : Inlining) (unit : Unit) (text : List ℕ) (offset : ℕ) (edits : Vec Edit Global) (names : Resolution) → IsModuleIn (utf8 text) names
-    → Inlines how unit text names.module_read offset (Some edits) → InlinesIn how unit text offset edits
+    → IsInlineResult how unit text names.module_read offset (Some edits) → InlinesIn how unit text offset edits
 inlines_in Here unit text offset edits names h (inl (u, at, answer)) =
-    kept Here unit text offset edits names (inlined_here names.module_read u) h answer.1.leaves answer.1.well_typed answer.1.same_runs (inl (u, at, answer))
+    kept Here unit text offset edits names (tree_inlined_here names.module_read u) h answer.1.leaves answer.1.well_typed answer.1.same_runs (inl (u, at, answer))
 inlines_in Here unit text offset edits names h (inr (is, none)) = cc
 inlines_in Everywhere unit text offset edits names h (inl (c, at, answer)) =
-    kept Everywhere unit text offset edits names (inlined_all names.module_read c) h answer.1.leaves answer.1.well_typed answer.1.same_runs (inl (c, at, answer))
+    kept Everywhere unit text offset edits names (tree_inlined_everywhere names.module_read c) h answer.1.leaves answer.1.well_typed answer.1.same_runs (inl (c, at, answer))
 inlines_in Everywhere unit text offset edits names h (inr (is, none)) = cc
 
 offers : (how : Inlining) (unit : Unit) (text : List ℕ) (offset : ℕ) (edits : Option (Vec Edit Global)) (names : Resolution) → IsModuleIn (utf8 text) names
-    → Inlines how unit text names.module_read offset edits → Offers how unit text offset edits
+    → IsInlineResult how unit text names.module_read offset edits → OffersInlining how unit text offset edits
 offers how unit text offset (Some edits) names h inlines = inlines_in how unit text offset edits names h inlines
 offers how unit text offset None names h refused = record { module_read = names.module_read; read = read_as (utf8 text) names h; refused = refused }
 
 pub inlinings_found : (unit : Unit) (bytes text : List ℕ) (offset : ℕ) (found : Option Inlinings) → IsUtf8 bytes → chars bytes ≡ text
-    → Finds bytes (λ names answer. Inlines Here unit text names.module_read offset answer.here × Inlines Everywhere unit text names.module_read offset answer.everywhere) found
-    → FindsInlinings unit text offset found
+    → AnswersIfWellTyped bytes (λ names answer. IsInlineResult Here unit text names.module_read offset answer.here × IsInlineResult Everywhere unit text names.module_read offset answer.everywhere) found
+    → FindsInlineResults unit text offset found
 inlinings_found unit bytes text offset (Some found) u is h =
     let names : Resolution = h.0 in
     let module_in : IsModuleIn (utf8 text) names = subst (λ (t : List ℕ). IsModuleIn t names) (utf8_of bytes text u is) h.1 in

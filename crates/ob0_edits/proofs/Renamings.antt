@@ -1,8 +1,8 @@
 -- Proves that the edits of a renaming leave a text whose module has the same runs.
 use Rattle.std.proofs.Common.{◌≡◌, ◌⊎◌, ℕ, List, Option, Some, None, Result, Ok, Err, IfErr, Vec, Global, inl, inr, refl, subst, sym}
 use Rattle.std.specs.Str.{chars, IsUtf8}
-use Rattle.ob0_language_fields.specs.Renaming.{field_renamed}
-use Rattle.ob0_rename.specs.Answers.{AreEdits, IsRefused, RenameAnswers, WritesName}
+use Rattle.ob0_language_fields.specs.Renaming.{with_renamed_field}
+use Rattle.ob0_rename.specs.Answers.{AreRenameEdits, IsRenameRefusal, RenameAnswers, WritesName}
 use Rattle.ob0_rename.specs.Renaming.{Renaming, field_tokens_to_rename, renaming_of, tokens_to_rename}
 use Rattle.ob0_language_names.specs.Names.{Name}
 use Rattle.ob0_scope_table.specs.Resolution.{Resolution}
@@ -12,27 +12,27 @@ use Rattle.ob0_text.specs.declared.position_types.Position.{Position}
 use Rattle.ob0_text.specs.declared.position_types.Unit.{Unit}
 use Rattle.ob0_text.specs.declared.refusals.EditRefusal.{EditRefusal}
 use Rattle.ob0_text.specs.declared.refusals.EditRefusal.TheVariants.{Memory}
-use Rattle.ob0_tree.specs.Parsed.{named_tree_of}
+use Rattle.ob0_tree.specs.ParsedModule.{named_tree_of}
 use Rattle.ob0_tree.specs.Tree.{Tree, module_text}
-use Rattle.ob0_analysis.specs.Analysed.{Finds, IsModuleIn}
+use Rattle.ob0_analysis.specs.Analysed.{AnswersIfWellTyped, IsModuleIn}
 use Rattle.ob0_analysis.specs.Diagnosed.{IsTextOf, IsWellTypedModule}
 use Rattle.ob0_analysis.specs.Texts.{utf8}
-use Rattle.ob0_edits.specs.Renamings.{FindsNewName, RenamesIn, Settles}
+use Rattle.ob0_edits.specs.Renamings.{FindsRenameResult, RenamesIn, IsRenameResult}
 use Rattle.ob0_analysis.proofs.Scanning.{is_module, utf8_of}
 
 -- A refusal that isn't a failed allocation is a reason not to rename.
-not_memory : (r : Renaming) (refusal : EditRefusal) → (refusal ≡ Memory) ⊎ IsRefused r refusal → (refusal ≡ Memory → ⊥) → IsRefused r refusal
+not_memory : (r : Renaming) (refusal : EditRefusal) → (refusal ≡ Memory) ⊎ IsRenameRefusal r refusal → (refusal ≡ Memory → ⊥) → IsRenameRefusal r refusal
 not_memory r refusal (inl wants) other = absurd (other wants)
 not_memory r refusal (inr h) other = h
 
 -- If no allocation failed, the result is edits or the refusal.
-pub settled : (r : Renaming) (answer kept : Result (Vec Edit Global) EditRefusal) → RenameAnswers r answer → kept ≡ answer → IfErr kept (λ refusal. refusal ≡ Memory → ⊥) → Settles r kept
+pub settled : (r : Renaming) (answer kept : Result (Vec Edit Global) EditRefusal) → RenameAnswers r answer → kept ≡ answer → IfErr kept (λ refusal. refusal ≡ Memory → ⊥) → IsRenameResult r kept
 settled r answer (Ok edits) h is other = subst (λ (a : Result (Vec Edit Global) EditRefusal). RenameAnswers r a) (sym is) h
 settled r answer (Err refusal) h is other = not_memory r refusal (subst (λ (a : Result (Vec Edit Global) EditRefusal). RenameAnswers r a) (sym is) h) other
 
 -- If edits leave a text of a well-typed tree with the same runs, they rename in the text.
 renames_in : (unit : Unit) (text : List ℕ) (place : Position) (new : List ℕ) (edits : List Edit) (names : Resolution) → IsModuleIn (utf8 text) names
-    → AreEdits (renaming_of unit text names place new) edits → (tokens : List ℕ) (tree : Tree Name module_text) → WritesName (renaming_of unit text names place new) tokens tree edits
+    → AreRenameEdits (renaming_of unit text names place new) edits → (tokens : List ℕ) (tree : Tree Name module_text) → WritesName (renaming_of unit text names place new) tokens tree edits
     → RenamesIn unit text place new edits
 renames_in unit text place new edits names h are tokens tree made =
     let after : List ℕ = chars made.after.text in
@@ -48,17 +48,17 @@ renames_in unit text place new edits names h are tokens tree made =
       runs = record { old = is_module (utf8 text) names h; new = record { tree = tree; text_of = text_of; well_typed = made.well_typed }; same = made.same_runs };
     }
 
-renamed_in : (unit : Unit) (text : List ℕ) (place : Position) (new : List ℕ) (edits : List Edit) (names : Resolution) → IsModuleIn (utf8 text) names
-    → AreEdits (renaming_of unit text names place new) edits → RenamesIn unit text place new edits
-renamed_in unit text place new edits names h (inl (d, means, renames)) =
+renamed_writing : (unit : Unit) (text : List ℕ) (place : Position) (new : List ℕ) (edits : List Edit) (names : Resolution) → IsModuleIn (utf8 text) names
+    → AreRenameEdits (renaming_of unit text names place new) edits → RenamesIn unit text place new edits
+renamed_writing unit text place new edits names h (inl (d, means, renames)) =
     renames_in unit text place new edits names h (inl (d, means, renames)) (tokens_to_rename names.module_read d new) (renamed (named_tree_of names.module_read) d new) renames.writes
-renamed_in unit text place new edits names h (inr (k, (f, means, renames))) =
-    renames_in unit text place new edits names h (inr (k, (f, means, renames))) (field_tokens_to_rename names k f new) (field_renamed (named_tree_of names.module_read) k f new) renames.writes
+renamed_writing unit text place new edits names h (inr (k, (f, means, renames))) =
+    renames_in unit text place new edits names h (inr (k, (f, means, renames))) (field_tokens_to_rename names k f new) (with_renamed_field (named_tree_of names.module_read) k f new) renames.writes
 
 pub new_name_found : (unit : Unit) (bytes text : List ℕ) (place : Position) (new : List ℕ) (found : Option (Result (Vec Edit Global) EditRefusal)) → IsUtf8 bytes → chars bytes ≡ text
-    → Finds bytes (λ names outcome. Settles (renaming_of unit text names place new) outcome) found → FindsNewName unit text place new found
+    → AnswersIfWellTyped bytes (λ names outcome. IsRenameResult (renaming_of unit text names place new) outcome) found → FindsRenameResult unit text place new found
 new_name_found unit bytes text place new (Some (Ok edits)) u is h =
-    renamed_in unit text place new edits.items h.0 (subst (λ (t : List ℕ). IsModuleIn t h.0) (utf8_of bytes text u is) h.1) h.2
+    renamed_writing unit text place new edits.items h.0 (subst (λ (t : List ℕ). IsModuleIn t h.0) (utf8_of bytes text u is) h.1) h.2
 new_name_found unit bytes text place new (Some (Err refusal)) u is h =
     record { names = h.0; read = subst (λ (t : List ℕ). IsModuleIn t h.0) (utf8_of bytes text u is) h.1; refused = h.2 }
 new_name_found unit bytes text place new None u is h =

@@ -2,7 +2,7 @@
 -- Rule: docs/PROTOCOL.md, Requests on documents 8, 10.
 use Rattle.std.specs.Prelude.{◌≡◌, ◌<◌, ℕ, List, Option, Some, None, Result, Ok, Err, Vec, map, length}
 use Rattle.std.specs.declared.alloc.Global.{Global}
-use Rattle.ob0_scan.specs.Scanned.{max_text}
+use Rattle.ob0_scan.specs.TextWithTokens.{max_text}
 use Rattle.ob0_text.specs.Patches.{patched}
 use Rattle.ob0_text.specs.Units.{width_of}
 use Rattle.ob0_text.specs.declared.edits.Edit.{Edit}
@@ -11,7 +11,7 @@ use Rattle.ob0_text.specs.declared.position_types.Unit.{Unit}
 use Rattle.ob0_text.specs.declared.refusals.EditRefusal.{EditRefusal}
 use Rattle.ob0_text.specs.declared.refusals.EditRefusal.TheVariants.{TooLong}
 use Rattle.ob0_layout.specs.Layout.{layout}
-use Rattle.ob0_layout.specs.Gaps.{EditText, edit_text, edit_of, changed_gaps, all_gaps}
+use Rattle.ob0_layout.specs.Gaps.{EditContent, edit_content, edit_of, changed_gaps, all_gaps}
 use Rattle.ob0_layout.specs.LineRoles.{line_roles}
 use Rattle.ob0_analysis.specs.Diagnosed.{IsTextOf, IsWellTypedModule}
 use Rattle.ob0_analysis.specs.Texts.{utf8}
@@ -28,7 +28,7 @@ abbrev pub layout_changes : {text : List ℕ}
     → Indent
     → List ℕ
     → IsWellTypedModule text
-    → List EditText
+    → List EditContent
 layout_changes unit indent characters m =
     let source = m.text_of.scanned in
     map (edit_of (width_of unit) characters) (changed_gaps source.text
@@ -37,33 +37,33 @@ layout_changes unit indent characters m =
 -- Holds if these edits format a text. There is one for each gap that changes, and it replaces the
 -- whole gap. Made all at once, the edits leave the formatted text. The formatted text has the same
 -- module, with the same runs.
-pub record LaysOut (unit : Unit) (indent : Indent) (text : List ℕ)
+pub record FormatsIn (unit : Unit) (indent : Indent) (text : List ℕ)
     (edits : List Edit) : Type 0 where
   pub before : IsWellTypedModule (utf8 text)
-  pub changes : map edit_text edits ≡ layout_changes unit indent text before
+  pub changes : map edit_content edits ≡ layout_changes unit indent text before
   pub after : List ℕ
   pub made : patched (width_of unit) text edits ≡ Some after
-  pub laid_out : utf8 after ≡ layout_of indent before
+  pub is_formatted_text : utf8 after ≡ layout_of indent before
   pub same_module : IsTextOf before.tree (utf8 after)
   pub runs : RunsAsBefore (utf8 text) (utf8 after)
 
 -- holds if the formatted text of the module is longer than a text may be
-pub record IsTooLongLaidOut (indent : Indent) (text : List ℕ) : Type 0 where
+pub record IsTooLongFormatted (indent : Indent) (text : List ℕ) : Type 0 where
   pub before : IsWellTypedModule (utf8 text)
   pub long : max_text < length (layout_of indent before)
 
 -- Holds for edits that format the module. Holds for the refusal `TooLong` if the formatted text is
 -- too long, and for no other refusal.
-abbrev pub Formats : Unit → Indent → List ℕ → Result (Vec Edit Global) EditRefusal → Type 0
-Formats unit indent text (Ok edits) = LaysOut unit indent text edits.items
-Formats unit indent text (Err refusal) = (refusal ≡ TooLong) × IsTooLongLaidOut indent text
+abbrev pub IsFormatResult : Unit → Indent → List ℕ → Result (Vec Edit Global) EditRefusal → Type 0
+IsFormatResult unit indent text (Ok edits) = FormatsIn unit indent text edits.items
+IsFormatResult unit indent text (Err refusal) = (refusal ≡ TooLong) × IsTooLongFormatted indent text
 
 -- Holds if this is the result of formatting a text: edits, or the only possible refusal, `TooLong`.
 -- For None it holds if the text isn't a well-typed module.
-abbrev pub FindsLayout : Unit
+abbrev pub FindsFormatResult : Unit
     → Indent
     → List ℕ
     → Option (Result (Vec Edit Global) EditRefusal)
     → Type 0
-FindsLayout unit indent text (Some outcome) = Formats unit indent text outcome
-FindsLayout unit indent text None = ¬ IsWellTypedModule (utf8 text)
+FindsFormatResult unit indent text (Some outcome) = IsFormatResult unit indent text outcome
+FindsFormatResult unit indent text None = ¬ IsWellTypedModule (utf8 text)

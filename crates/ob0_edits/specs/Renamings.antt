@@ -13,14 +13,14 @@ use Rattle.ob0_analysis.specs.Analysed.{IsModuleIn}
 use Rattle.ob0_analysis.specs.Diagnosed.{IsWellTypedModule}
 use Rattle.ob0_analysis.specs.RunsKept.{RunsAsBefore}
 use Rattle.ob0_analysis.specs.Texts.{utf8}
-use Rattle.ob0_rename.specs.Answers.{AreEdits, IsRefused}
+use Rattle.ob0_rename.specs.Answers.{AreRenameEdits, IsRenameRefusal}
 use Rattle.ob0_rename.specs.Renaming.{Renaming, renaming_of}
 
 -- Holds for edits that rename the declaration or field at the place. Holds for the refusal of that
 -- renaming.
-abbrev pub Settles : Renaming → Result (Vec Edit Global) EditRefusal → Type 0
-Settles r (Ok edits) = AreEdits r edits.items
-Settles r (Err refusal) = IsRefused r refusal
+abbrev pub IsRenameResult : Renaming → Result (Vec Edit Global) EditRefusal → Type 0
+IsRenameResult r (Ok edits) = AreRenameEdits r edits.items
+IsRenameResult r (Err refusal) = IsRenameRefusal r refusal
 
 -- Holds if these edits rename the declaration or field at a place of a well-typed module. Made all
 -- at once, they leave a text of the renamed module, which has the same runs.
@@ -28,7 +28,7 @@ pub record RenamesIn (unit : Unit) (text : List ℕ) (place : Position) (new : L
     (edits : List Edit) : Type 0 where
   pub names : Resolution
   pub read : IsModuleIn (utf8 text) names
-  pub are_edits : AreEdits (renaming_of unit text names place new) edits
+  pub are_edits : AreRenameEdits (renaming_of unit text names place new) edits
   pub after : List ℕ
   pub made : patched (width_of unit) text edits ≡ Some after
   pub runs : RunsAsBefore (utf8 text) (utf8 after)
@@ -38,16 +38,16 @@ pub record IsRefusedIn (unit : Unit) (text : List ℕ) (place : Position) (new :
     (refusal : EditRefusal) : Type 0 where
   pub names : Resolution
   pub read : IsModuleIn (utf8 text) names
-  pub refused : IsRefused (renaming_of unit text names place new) refusal
+  pub refused : IsRenameRefusal (renaming_of unit text names place new) refusal
 
 -- Holds if this is the result of renaming in a text: edits, or the refusal. For None it holds if
 -- the text isn't a well-typed module.
-abbrev pub FindsNewName : Unit
+abbrev pub FindsRenameResult : Unit
     → List ℕ
     → Position
     → List ℕ
     → Option (Result (Vec Edit Global) EditRefusal)
     → Type 0
-FindsNewName unit text place new (Some (Ok edits)) = RenamesIn unit text place new edits.items
-FindsNewName unit text place new (Some (Err refusal)) = IsRefusedIn unit text place new refusal
-FindsNewName unit text place new None = ¬ IsWellTypedModule (utf8 text)
+FindsRenameResult unit text place new (Some (Ok edits)) = RenamesIn unit text place new edits.items
+FindsRenameResult unit text place new (Some (Err refusal)) = IsRefusedIn unit text place new refusal
+FindsRenameResult unit text place new None = ¬ IsWellTypedModule (utf8 text)

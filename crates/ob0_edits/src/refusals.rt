@@ -7,7 +7,7 @@ use std::alloc::AllocError;
 
 /// Returns these edits or this refusal unchanged. The refusal `Memory` is returned as an error
 /// instead.
-pub(crate) fn without_memory(
+pub(crate) fn memory_as_error(
     outcome: Result<Vec<Edit>, EditRefusal>,
 ) -> Result<Result<Vec<Edit>, EditRefusal>, AllocError>
     ensures { IfOk result

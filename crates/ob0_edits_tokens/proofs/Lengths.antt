@@ -3,21 +3,21 @@ use Rattle.std.proofs.Common.{◌≡◌, ℕ, suc, ◌+◌, ◌-◌, ◌<◌, �
 use Rattle.std.specs.Prelude.{codes}
 use Rattle.std.specs.Char.{is_ascii_alphanumeric}
 use Rattle.std.proofs.lemmas.List.{drop_more, drop_all, length-take}
-use Rattle.ob0_scan.specs.declared.lexeme.Reserved.{Reserved}
-use Rattle.ob0_scan.specs.declared.lexeme.Reserved.TheVariants as reserved
+use Rattle.ob0_scan.specs.declared.lexeme.ReservedWord.{ReservedWord}
+use Rattle.ob0_scan.specs.declared.lexeme.ReservedWord.TheVariants as reserved
 use Rattle.ob0_scan.specs.declared.lexeme.Token.{Token}
 use Rattle.ob0_scan.specs.Classes.{IsIdentifier, reserved_text}
-use Rattle.ob0_scan.specs.Scanned.{Scanned, IsScan, IsRangeOf, max_text}
-use Rattle.ob0_scan.proofs.Borders.{lexed_by_next_bytes}
+use Rattle.ob0_scan.specs.TextWithTokens.{TextWithTokens, IsScan, IsRangeOf, max_text}
+use Rattle.ob0_scan.proofs.Borders.{cut_depends_on_next_bytes}
 use Rattle.ob0_scan.proofs.Spans.{scan_token_ranges}
 use Rattle.ob0_text.specs.Patches.{Cut, pieced}
-use Rattle.ob0_edits_tokens.specs.Replaced.{span_at, AreNames, cut_of}
-use Rattle.ob0_edits_tokens.specs.Removed.{IsDeclaration, removal, without_text}
+use Rattle.ob0_edits_tokens.specs.Replaced.{span_at, AreIdentifierIndexes, cut_of}
+use Rattle.ob0_edits_tokens.specs.Removed.{IsDeclaration, removal_cut, text_after_removal}
 use Rattle.ob0_edits_tokens.proofs.Removals.{cleared}
 use Rattle.ob0_edits_tokens.proofs.Names.{a_name}
 use Rattle.ob0_edits_tokens.proofs.Swaps.{Chain, swapped}
 
-not_reserved : (word : Reserved) → codes "x" ≡ reserved_text word → ⊥
+not_reserved : (word : ReservedWord) → codes "x" ≡ reserved_text word → ⊥
 not_reserved reserved.Module e = cc
 not_reserved _ e = cc
 
@@ -34,9 +34,9 @@ same_chain : (tokens : List Token) (a b : List ℕ) (at : ℕ) (places : List �
 same_chain tokens a b at [] h = tt
 same_chain tokens a b at (p ∷ ps) h = (h.0, h.1, same_chain tokens a b (span_at tokens p).end ps h.2)
 
-pub chain_at : (s : Scanned) (scan : IsScan s) (new places : List ℕ) → AreNames s.tokens 0 places → Chain 0 (map (cut_of s.tokens new) places)
+pub chain_at : (s : TextWithTokens) (scan : IsScan s) (new places : List ℕ) → AreIdentifierIndexes s.tokens 0 places → Chain 0 (map (cut_of s.tokens new) places)
 chain_at s scan new places names =
-    let apart = (lexed_by_next_bytes s.text scan.lexemes).0 scan.lexed in
+    let apart = (cut_depends_on_next_bytes s.text scan.lexemes).0 scan.lexed in
     let done = swapped s.text s.tokens (codes "x") _ (a_name (codes "x") some_name) 0 0 scan.lexemes places [] scan.tokens refl (sym apart.0) apart.1 names in
     same_chain s.tokens (codes "x") new 0 places done.chain
 
@@ -51,16 +51,16 @@ unfolding pieced
 last_length text end = length-drop end text
 
 -- states that the new text is counted up to here, and that the rest of the old text begins at `end`
-pub record Counted (s : Scanned) (new places : List ℕ) (total count end i : ℕ) : Type 0 where
+pub record Counted (s : TextWithTokens) (new places : List ℕ) (total count end i : ℕ) : Type 0 where
   pub scan : IsScan s
   pub sum : count + length (pieced s.text end (map (cut_of s.tokens new) (drop i places))) ≡ total
   pub chain : Chain end (map (cut_of s.tokens new) (drop i places))
   pub inside : end ≤ length s.text
   pub short : count ≤ max_text
   pub least : ℕ
-  pub names : AreNames s.tokens least (drop i places)
+  pub names : AreIdentifierIndexes s.tokens least (drop i places)
 
-pub counted_start : (s : Scanned) → IsScan s → (new places : List ℕ) (count end : ℕ) → AreNames s.tokens 0 places → Chain end (map (cut_of s.tokens new) places) → count ≤ end → end ≤ length s.text
+pub counted_start : (s : TextWithTokens) → IsScan s → (new places : List ℕ) (count end : ℕ) → AreIdentifierIndexes s.tokens 0 places → Chain end (map (cut_of s.tokens new) places) → count ≤ end → end ≤ length s.text
     → Counted s new places (count + length (pieced s.text end (map (cut_of s.tokens new) places))) count end 0
 counted_start s scan new places count end names chain low inside = record {
   scan = scan;
@@ -72,13 +72,13 @@ counted_start s scan new places count end names chain low inside = record {
   names = names;
 }
 
-module _ (s : Scanned) (new places : List ℕ) (total count end i : ℕ) (c : Counted s new places total count end i) where
+module _ (s : TextWithTokens) (new places : List ℕ) (total count end i : ℕ) (c : Counted s new places total count end i) where
   module _ (less : i < length places) where
     here : drop i places ≡ get_or places i 0 ∷ drop (i + 1) places
     here = drop_more places i 0 less
 
-    names_here : AreNames s.tokens c.least (get_or places i 0 ∷ drop (i + 1) places)
-    names_here = subst (AreNames s.tokens c.least) here c.names
+    names_here : AreIdentifierIndexes s.tokens c.least (get_or places i 0 ∷ drop (i + 1) places)
+    names_here = subst (AreIdentifierIndexes s.tokens c.least) here c.names
 
     chain_here : Chain end (map (cut_of s.tokens new) (get_or places i 0 ∷ drop (i + 1) places))
     chain_here = subst (λ ps. Chain end (map (cut_of s.tokens new) ps)) here c.chain
@@ -123,21 +123,21 @@ module _ (s : Scanned) (new places : List ℕ) (total count end i : ℕ) (c : Co
       ap (λ n. count + n) (sym (last_length s.text end)) ∙ ap (λ ps. count + length (pieced s.text end (map (cut_of s.tokens new) ps))) (sym (drop_all i places done)) ∙ c.sum
 
 -- The removal of a declaration and the cuts after it follow one another.
-pub chain_without : (s : Scanned) (scan : IsScan s) (new places : List ℕ) (first last : ℕ) → IsDeclaration s.tokens first last → AreNames s.tokens (suc last) places → Chain 0 (removal s.tokens first last ∷ map (cut_of s.tokens new) places)
+pub chain_without : (s : TextWithTokens) (scan : IsScan s) (new places : List ℕ) (first last : ℕ) → IsDeclaration s.tokens first last → AreIdentifierIndexes s.tokens (suc last) places → Chain 0 (removal_cut s.tokens first last ∷ map (cut_of s.tokens new) places)
 chain_without s scan new places first last decl names =
-    let apart = (lexed_by_next_bytes s.text scan.lexemes).0 scan.lexed in
+    let apart = (cut_depends_on_next_bytes s.text scan.lexemes).0 scan.lexed in
     let done = cleared s.text s.tokens (codes "x") _ (a_name (codes "x") some_name) first last decl places names 0 0 scan.lexemes []
     (record { tokens_are = scan.tokens; count = refl; rest = sym apart.0; apart = apart.1 }) (omega arith) in
     (done.chain.0, done.chain.1, same_chain s.tokens (codes "x") new (span_at s.tokens last).end places done.chain.2)
 
-pub length_without : (s : Scanned) (scan : IsScan s) (new places : List ℕ) (first last : ℕ) → IsDeclaration s.tokens first last → AreNames s.tokens (suc last) places
-    → (span_at s.tokens first).start + length (pieced s.text (span_at s.tokens last).end (map (cut_of s.tokens new) places)) ≡ length (without_text s first last places new)
+pub length_without : (s : TextWithTokens) (scan : IsScan s) (new places : List ℕ) (first last : ℕ) → IsDeclaration s.tokens first last → AreIdentifierIndexes s.tokens (suc last) places
+    → (span_at s.tokens first).start + length (pieced s.text (span_at s.tokens last).end (map (cut_of s.tokens new) places)) ≡ length (text_after_removal s first last places new)
 length_without s scan new places first last decl names =
     let range = scan_token_ranges s scan first _ (omega (arith, decl.order, decl.inside)) in
-    let parts = piece_length s.text 0 (removal s.tokens first last) (map (cut_of s.tokens new) places) (omega arith) range.start.0 in
+    let parts = piece_length s.text 0 (removal_cut s.tokens first last) (map (cut_of s.tokens new) places) (omega arith) range.start.0 in
     omega (arith, parts)
 
-pub end_inside : (s : Scanned) → IsScan s → (k : ℕ) → k < length s.tokens → (span_at s.tokens k).end ≤ length s.text
+pub end_inside : (s : TextWithTokens) → IsScan s → (k : ℕ) → k < length s.tokens → (span_at s.tokens k).end ≤ length s.text
 end_inside s scan k less =
     let range : IsRangeOf s.text (span_at s.tokens k) = scan_token_ranges s scan k _ less in
     range.end.0

@@ -10,12 +10,12 @@ use Rattle.ob0_scan.specs.declared.lexeme.TokenKind.TheVariants as token
 use Rattle.ob0_scan.specs.declared.lexeme.LexemeKind.{LexemeKind}
 use Rattle.ob0_scan.specs.declared.lexeme.LexemeKind.TheVariants as lexeme
 use Rattle.ob0_scan.specs.Classes.{IsIdentifier, is_space}
-use Rattle.ob0_scan.specs.Ends.{joins, continues}
+use Rattle.ob0_scan.specs.Ends.{continues_symbol, continues_lexeme}
 use Rattle.ob0_scan.proofs.Cuts.{nonempty}
 use Rattle.ob0_edits_tokens.specs.Replaced.{ReplacesName}
 
 -- A byte that is neither `=` nor `*` continues no symbol.
-not_joined : (s : Symbol) (b : ℕ) → (b == 61) ≡ false → (b == 42) ≡ false → joins s b ≡ false
+not_joined : (s : Symbol) (b : ℕ) → (b == 61) ≡ false → (b == 42) ≡ false → continues_symbol s b ≡ false
 not_joined symbol.Less b e f = e
 not_joined symbol.Greater b e f = e
 not_joined symbol.Colon b e f = e
@@ -33,14 +33,14 @@ letter_goes_on : (b : ℕ) → IsTrue (is_ascii_alphabetic b) → is_ascii_alpha
 letter_goes_on b h = grind (arith, nat_tests)
 
 -- A lexeme that ends before a letter ends before every letter or digit.
-pub before_word : (b : ℕ) → is_ascii_alphanumeric b ≡ true → (kind : LexemeKind) (letter : ℕ) → IsTrue (is_ascii_alphabetic letter) → continues kind letter ≡ false → continues kind b ≡ false
+pub before_word : (b : ℕ) → is_ascii_alphanumeric b ≡ true → (kind : LexemeKind) (letter : ℕ) → IsTrue (is_ascii_alphabetic letter) → continues_lexeme kind letter ≡ false → continues_lexeme kind b ≡ false
 before_word b h lexeme.Space letter l e = not_space b h
 before_word b h lexeme.Comment letter l e = refl
 before_word b h (lexeme.Token (token.Symbol s)) letter l e = not_joined s b (not_this b 61 refl h) (not_this b 42 refl h)
 before_word b h _ letter l e = let clash : true ≡ false = sym (letter_goes_on letter l) ∙ e in cc
 
 -- Any lexeme ends before a `(`.
-pub before_paren : (kind : LexemeKind) → continues kind 40 ≡ false
+pub before_paren : (kind : LexemeKind) → continues_lexeme kind 40 ≡ false
 before_paren (lexeme.Token (token.Symbol s)) = not_joined s 40 refl refl
 before_paren _ = refl
 

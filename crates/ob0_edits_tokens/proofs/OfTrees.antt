@@ -8,35 +8,35 @@ use Rattle.std.specs.List.{flat_map}
 use Rattle.ob0_scan.specs.declared.lexeme.TokenKind.{TokenKind}
 use Rattle.ob0_scan.specs.declared.lexeme.TokenKind.TheVariants as token
 use Rattle.ob0_scan.specs.declared.lexeme.Token.{Token}
-use Rattle.ob0_scan.specs.Scanned.{Word, Scanned, read_in}
-use Rattle.ob0_tree.specs.Lexeme.{Terminal, Name, Number, Mark, EndOfText, kind_lexeme, relabelled}
-use Rattle.ob0_tree.specs.Places.{lexeme_of, value_of}
+use Rattle.ob0_scan.specs.TextWithTokens.{Word, TextWithTokens, word_of_token}
+use Rattle.ob0_tree.specs.Lexeme.{Terminal, Name, Number, Mark, EndOfText, terminal_of_kind, mapped_terminal}
+use Rattle.ob0_tree.specs.Places.{index_terminal, kind_value_or_zero}
 use Rattle.ob0_edits_tokens.specs.Words.{word_lexeme}
 use Rattle.ob0_tree.specs.Tree.{spell}
 use Rattle.ob0_tree.proofs.Mapped.{spell_mapped}
-use Rattle.ob0_edits_tokens.specs.Changed.{Changes, words_of, changed_words, at_each, is_among, or_itself}
+use Rattle.ob0_edits_tokens.specs.Changed.{WordChanges, words_of, changed_words, changes_at, is_among, replacement_or_word}
 use Rattle.ob0_edits_tokens.specs.Replaced as place
-use Rattle.ob0_edits_tokens.specs.Replaced.{AreNames}
+use Rattle.ob0_edits_tokens.specs.Replaced.{AreIdentifierIndexes}
 use Rattle.ob0_edits_tokens.specs.Written.{name_word}
-use Rattle.ob0_edits_tokens.specs.OfTrees.{numbered_tokens, word_at, text_of_word, number_at, renamed_at, RenamedWordsSpell}
+use Rattle.ob0_edits_tokens.specs.OfTrees.{indexed_tokens, word_at, text_of_word, number_at, renamed_word_text, RenamingKeepsSpelling}
 
 -- A property of each word with its index also holds of words between others.
-module _ (all : List Word) (ch : Changes) (f : Terminal ℕ → List (Terminal (List ℕ))) (each : (j : ℕ) → f (lexeme_of j (word_at all j).kind) ≡ map word_lexeme (or_itself (word_at all j) (ch j))) where
-  pub of_each : (k : ℕ) (done ws rest : List Word) → all ≡ done ++ (ws ++ rest) → length done ≡ k → flat_map f (numbered_tokens k ws) ≡ map word_lexeme (changed_words ch k ws)
+module _ (all : List Word) (ch : WordChanges) (f : Terminal ℕ → List (Terminal (List ℕ))) (each : (j : ℕ) → f (index_terminal j (word_at all j).kind) ≡ map word_lexeme (replacement_or_word (word_at all j) (ch j))) where
+  pub of_each : (k : ℕ) (done ws rest : List Word) → all ≡ done ++ (ws ++ rest) → length done ≡ k → flat_map f (indexed_tokens k ws) ≡ map word_lexeme (changed_words ch k ws)
   of_each k done [] rest e count = refl
   of_each k done (w ∷ ws) rest e count =
       let here : word_at all k ≡ w = (λ i. word_at (e i) (sym count i)) ∙ get_or-append_seam done w (ws ++ rest) _ in
-      let this : f (lexeme_of k w.kind) ≡ map word_lexeme (or_itself w (ch k)) =
-      ap (λ (v : Word). f (lexeme_of k v.kind)) (sym here) ∙ each k ∙ ap (λ v. map word_lexeme (or_itself v (ch k))) here in
+      let this : f (index_terminal k w.kind) ≡ map word_lexeme (replacement_or_word w (ch k)) =
+      ap (λ (v : Word). f (index_terminal k v.kind)) (sym here) ∙ each k ∙ ap (λ v. map word_lexeme (replacement_or_word v (ch k))) here in
       let more : length (done ++ (w ∷ [])) ≡ suc k = length-append done (w ∷ []) ∙ omega (arith, count) in
       ap₂ (λ xs ys. xs ++ ys) this (of_each (suc k) (done ++ (w ∷ [])) ws rest (e ∙ sym (append_assoc done (w ∷ []) (ws ++ rest))) more)
-      ∙ sym (map-append word_lexeme (or_itself w (ch k)) (changed_words ch (suc k) ws))
+      ∙ sym (map-append word_lexeme (replacement_or_word w (ch k)) (changed_words ch (suc k) ws))
 
-  pub of_all : flat_map f (numbered_tokens 0 all) ≡ map word_lexeme (changed_words ch 0 all)
+  pub of_all : flat_map f (indexed_tokens 0 all) ≡ map word_lexeme (changed_words ch 0 all)
   of_all = of_each 0 [] all [] (sym (append-nil all)) refl
 
 -- The tokens at the places are identifiers.
-names_at : (tokens : List Token) (least : ℕ) (places : List ℕ) (k : ℕ) → AreNames tokens least places → is_among k places ≡ true → (place.token_or_empty tokens k).kind ≡ token.Identifier
+names_at : (tokens : List Token) (least : ℕ) (places : List ℕ) (k : ℕ) → AreIdentifierIndexes tokens least places → is_among k places ≡ true → (place.token_or_empty tokens k).kind ≡ token.Identifier
 names_at tokens least [] k names e = absurd (cc)
 names_at tokens least (p ∷ ps) k names e = by_test (k == p) refl e (names_at tokens (suc p) ps k names.3)
   where
@@ -44,10 +44,10 @@ names_at tokens least (p ∷ ps) k names e = by_test (k == p) refl e (names_at t
     by_test true h e later = ap (λ q. (place.token_or_empty tokens q).kind) (eqb-true k p h) ∙ names.2
     by_test false h e later = later e
 
-pub word_kind : (s : Scanned) (k : ℕ) → (word_at (words_of s) k).kind ≡ (place.token_or_empty s.tokens k).kind
+pub word_kind : (s : TextWithTokens) (k : ℕ) → (word_at (words_of s) k).kind ≡ (place.token_or_empty s.tokens k).kind
 word_kind s k = of_list s.tokens k
   where
-    of_list : (ts : List Token) (k : ℕ) → (word_at (map (read_in s.text) ts) k).kind ≡ (place.token_or_empty ts k).kind
+    of_list : (ts : List Token) (k : ℕ) → (word_at (map (word_of_token s.text) ts) k).kind ≡ (place.token_or_empty ts k).kind
     of_list [] k = refl
     of_list (t ∷ ts) zero = refl
     of_list (t ∷ ts) (suc k) = of_list ts k
@@ -61,41 +61,41 @@ replaced gives others f g (Mark k) = Mark k ∷ []
 replaced gives others f g EndOfText = EndOfText ∷ []
 
 -- A token that isn't replaced is its word's token.
-stays : (w : Word) (gives : ℕ → Bool) (others : List (Terminal (List ℕ))) (f : ℕ → List ℕ) (g : ℕ → ℕ) (j : ℕ) → gives j ≡ false → f j ≡ w.text → g j ≡ value_of w.kind
-    → replaced gives others f g (lexeme_of j w.kind) ≡ word_lexeme w ∷ []
+stays : (w : Word) (gives : ℕ → Bool) (others : List (Terminal (List ℕ))) (f : ℕ → List ℕ) (g : ℕ → ℕ) (j : ℕ) → gives j ≡ false → f j ≡ w.text → g j ≡ kind_value_or_zero w.kind
+    → replaced gives others f g (index_terminal j w.kind) ≡ word_lexeme w ∷ []
 stays w gives others f g j left e h = by_kind w.kind h
   where
-    by_kind : (kind : TokenKind) → g j ≡ value_of kind → replaced gives others f g (lexeme_of j kind) ≡ kind_lexeme w.text kind ∷ []
+    by_kind : (kind : TokenKind) → g j ≡ kind_value_or_zero kind → replaced gives others f g (index_terminal j kind) ≡ terminal_of_kind w.text kind ∷ []
     by_kind token.Identifier h = ap (λ b. if b then others else Name (f j) ∷ []) left ∙ ap (λ n. Name n ∷ []) e
-    by_kind (token.Reserved r) h = refl
+    by_kind (token.ReservedWord r) h = refl
     by_kind (token.Integer n) h = ap (λ m. Number m ∷ []) h
     by_kind (token.Symbol s) h = refl
 
 -- the words of a text, with others at some places
-module _ (s : Scanned) (places : List ℕ) (vs : List Word) where
+module _ (s : TextWithTokens) (places : List ℕ) (vs : List Word) where
   abbrev pub put : Terminal ℕ → List (Terminal (List ℕ))
   put = replaced (λ k. is_among k places) (map word_lexeme vs) (text_of_word (words_of s)) (number_at (words_of s))
 
-  pub each_put : (least : ℕ) → AreNames s.tokens least places → (j : ℕ) → put (lexeme_of j (word_at (words_of s) j).kind) ≡ map word_lexeme (or_itself (word_at (words_of s) j) (at_each places vs j))
+  pub each_put : (least : ℕ) → AreIdentifierIndexes s.tokens least places → (j : ℕ) → put (index_terminal j (word_at (words_of s) j).kind) ≡ map word_lexeme (replacement_or_word (word_at (words_of s) j) (changes_at places vs j))
   each_put least names j = by_test (is_among j places) refl
     where
       by_test : (b : Bool) → is_among j places ≡ b
-          → put (lexeme_of j (word_at (words_of s) j).kind)
-          ≡ map word_lexeme (or_itself (word_at (words_of s) j) (if is_among j places then Some vs else None))
+          → put (index_terminal j (word_at (words_of s) j).kind)
+          ≡ map word_lexeme (replacement_or_word (word_at (words_of s) j) (if is_among j places then Some vs else None))
       by_test true e =
-          ap (λ k. put (lexeme_of j k)) (word_kind s j ∙ names_at s.tokens least places j names e)
+          ap (λ k. put (index_terminal j k)) (word_kind s j ∙ names_at s.tokens least places j names e)
           ∙ ap (λ b. if b then map word_lexeme vs else Name (text_of_word (words_of s) j) ∷ []) e
-          ∙ ap (λ b. map word_lexeme (or_itself (word_at (words_of s) j) (if b then Some vs else None))) (sym e)
+          ∙ ap (λ b. map word_lexeme (replacement_or_word (word_at (words_of s) j) (if b then Some vs else None))) (sym e)
       by_test false e =
           stays (word_at (words_of s) j) (λ k. is_among k places) (map word_lexeme vs) (text_of_word (words_of s)) (number_at (words_of s)) j e refl refl
-          ∙ ap (λ b. map word_lexeme (or_itself (word_at (words_of s) j) (if b then Some vs else None))) (sym e)
+          ∙ ap (λ b. map word_lexeme (replacement_or_word (word_at (words_of s) j) (if b then Some vs else None))) (sym e)
 
-  pub all_put : AreNames s.tokens 0 places → flat_map put (numbered_tokens 0 (words_of s)) ≡ map word_lexeme (changed_words (at_each places vs) 0 (words_of s))
-  all_put names = of_all (words_of s) (at_each places vs) put (each_put 0 names)
+  pub all_put : AreIdentifierIndexes s.tokens 0 places → flat_map put (indexed_tokens 0 (words_of s)) ≡ map word_lexeme (changed_words (changes_at places vs) 0 (words_of s))
+  all_put names = of_all (words_of s) (changes_at places vs) put (each_put 0 names)
 
 -- Renaming the tokens is replacing the names by the new name.
 all_renamed : (ws : List Word) (places new : List ℕ) (xs : List (Terminal ℕ))
-    → map (relabelled (renamed_at ws places new) (number_at ws)) xs ≡ flat_map (replaced (λ k. is_among k places) (Name new ∷ []) (text_of_word ws) (number_at ws)) xs
+    → map (mapped_terminal (renamed_word_text ws places new) (number_at ws)) xs ≡ flat_map (replaced (λ k. is_among k places) (Name new ∷ []) (text_of_word ws) (number_at ws)) xs
 all_renamed ws places new [] = refl
 all_renamed ws places new (Name i ∷ xs) =
     ap₂ (λ x ys. x ++ ys)
@@ -105,8 +105,8 @@ all_renamed ws places new (Number i ∷ xs) = ap (λ ys. Number (number_at ws i)
 all_renamed ws places new (Mark k ∷ xs) = ap (λ ys. Mark k ∷ ys) (all_renamed ws places new xs)
 all_renamed ws places new (EndOfText ∷ xs) = ap (λ ys. EndOfText ∷ ys) (all_renamed ws places new xs)
 
-pub renamed_words_spell : RenamedWordsSpell
-renamed_words_spell s sort t places new names e =
-    sym (spell_mapped (renamed_at (words_of s) places new) (number_at (words_of s)) t
+pub renaming_keeps_spelling : RenamingKeepsSpelling
+renaming_keeps_spelling s sort t places new names e =
+    sym (spell_mapped (renamed_word_text (words_of s) places new) (number_at (words_of s)) t
     ∙ all_renamed (words_of s) places new (spell t) ∙ ap (flat_map (put s places (name_word new ∷ []))) e
     ∙ all_put s places (name_word new ∷ []) names)

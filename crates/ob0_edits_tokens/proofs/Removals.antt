@@ -5,37 +5,37 @@ use Rattle.std.specs.Prelude.{nat_le, if◌then◌else◌, Some, None}
 use Rattle.std.specs.Char.{is_ascii_alphanumeric}
 use Rattle.std.proofs.lemmas.Bool.{lt-leb, eqb-true}
 use Rattle.std.proofs.lemmas.Bool.Decides.{nat_tests}
-use Rattle.ob0_scan.specs.declared.lexeme.Reserved.TheVariants as reserved
+use Rattle.ob0_scan.specs.declared.lexeme.ReservedWord.TheVariants as reserved
 use Rattle.ob0_scan.specs.declared.lexeme.Symbol.TheVariants as symbol
 use Rattle.ob0_scan.specs.declared.lexeme.TokenKind.{TokenKind}
 use Rattle.ob0_scan.specs.declared.lexeme.TokenKind.TheVariants as token
 use Rattle.ob0_scan.specs.declared.lexeme.LexemeKind.{LexemeKind}
 use Rattle.ob0_scan.specs.declared.lexeme.LexemeKind.TheVariants as lexeme
 use Rattle.ob0_scan.specs.declared.lexeme.Token.{Token}
-use Rattle.ob0_scan.specs.Classes.{Belongs, IsIdentifier, is_space}
+use Rattle.ob0_scan.specs.Classes.{IsLexemeOfKind, IsIdentifier, is_space}
 use Rattle.ob0_scan.specs.Lexed.{Lexeme, joined}
-use Rattle.ob0_scan.specs.Ends.{continues, AreApart}
-use Rattle.ob0_scan.specs.Scanned.{Word, word_of, words, span_from, token_at, tokens_from}
+use Rattle.ob0_scan.specs.Ends.{continues_lexeme, EachEndsBeforeNext}
+use Rattle.ob0_scan.specs.TextWithTokens.{Word, word_of, words_of_lexemes, span_from, token_at, tokens_from}
 use Rattle.ob0_scan.proofs.Cuts.{nonempty}
 use Rattle.ob0_scan.proofs.Runs.{letter_or_digit}
 use Rattle.ob0_text.specs.Patches.{Cut, pieced}
-use Rattle.ob0_edits_tokens.specs.Changed.{Changes, changed_words, at_each, or_itself}
+use Rattle.ob0_edits_tokens.specs.Changed.{WordChanges, changed_words, changes_at, replacement_or_word}
 use Rattle.ob0_edits_tokens.specs.Replaced as place
-use Rattle.ob0_edits_tokens.specs.Replaced.{AreNames, span_at, cut_of, ReplacesName}
-use Rattle.ob0_edits_tokens.specs.Removed.{without_words, IsDeclaration, removal}
+use Rattle.ob0_edits_tokens.specs.Replaced.{AreIdentifierIndexes, span_at, cut_of, ReplacesName}
+use Rattle.ob0_edits_tokens.specs.Removed.{changes_with_removal, IsDeclaration, removal_cut}
 use Rattle.ob0_edits_tokens.proofs.Swaps.{Chain, chain_from, AllClear, Swapped, swapped, pieced_keep, pieced_here, same_first, first_of, byte_at, further, here_token, make_token, make_word, no_break, not_among}
 use Rattle.ob0_edits_tokens.proofs.Merges.{begins_with_space, MeetsLoosely, merged}
 
 -- holds if a lexeme of this kind may precede a declaration in a CONST section
 abbrev pub OfBorder : LexemeKind → Type 0
 OfBorder (lexeme.Token token.Identifier) = ⊥
-OfBorder (lexeme.Token (token.Reserved w)) = w ≡ reserved.Const
+OfBorder (lexeme.Token (token.ReservedWord w)) = w ≡ reserved.Const
 OfBorder (lexeme.Token (token.Integer n)) = ⊥
 OfBorder (lexeme.Token (token.Symbol s)) = s ≡ symbol.Semicolon
 OfBorder _ = Unit {0}
 
 -- After the declaration only the other changes matter.
-pub past_last : (first last : ℕ) (ch : Changes) (j : ℕ) (xs : List Word) → last < j → changed_words (without_words first last ch) j xs ≡ changed_words ch j xs
+pub past_last : (first last : ℕ) (ch : WordChanges) (j : ℕ) (xs : List Word) → last < j → changed_words (changes_with_removal first last ch) j xs ≡ changed_words ch j xs
 past_last first last ch j [] h = refl
 past_last first last ch j (x ∷ xs) h =
     let out : (nat_le first j && nat_le j last) ≡ false = ap (λ b. nat_le first j && b) (lt-leb j last h) ∙ none (nat_le first j) in
@@ -45,18 +45,18 @@ past_last first last ch j (x ∷ xs) h =
     none true = refl
     none false = refl
 
-gone : (first last k : ℕ) (ch : Changes) → first ≤ k → k ≤ last → without_words first last ch k ≡ Some []
+gone : (first last k : ℕ) (ch : WordChanges) → first ≤ k → k ≤ last → changes_with_removal first last ch k ≡ Some []
 gone first last k ch h e = rw (le-leb first k h, le-leb k last e) refl
 
-not_gone : (first last k : ℕ) (ch : Changes) → k < first → without_words first last ch k ≡ ch k
+not_gone : (first last k : ℕ) (ch : WordChanges) → k < first → changes_with_removal first last ch k ≡ ch k
 not_gone first last k ch h = rw (lt-leb first k h) refl
 
-module _ (text : List ℕ) (tokens : List Token) (new : List ℕ) (ws : List Word) (replaces : ReplacesName new ws) (first last : ℕ) (decl : IsDeclaration tokens first last) (places : List ℕ) (names : AreNames tokens (suc last) places) where
-  abbrev changes : Changes
-  changes = without_words first last (at_each places ws)
+module _ (text : List ℕ) (tokens : List Token) (new : List ℕ) (ws : List Word) (replaces : ReplacesName new ws) (first last : ℕ) (decl : IsDeclaration tokens first last) (places : List ℕ) (names : AreIdentifierIndexes tokens (suc last) places) where
+  abbrev changes : WordChanges
+  changes = changes_with_removal first last (changes_at places ws)
 
   abbrev cuts : List Cut
-  cuts = removal tokens first last ∷ map (cut_of tokens new) places
+  cuts = removal_cut tokens first last ∷ map (cut_of tokens new) places
 
   -- states the place of a walk over the lexemes: its offset, the index of the next token, and the
   -- tokens before it
@@ -64,7 +64,7 @@ module _ (text : List ℕ) (tokens : List Token) (new : List ℕ) (ws : List Wor
     pub tokens_are : tokens ≡ done ++ tokens_from at ls
     pub count : length done ≡ k
     pub rest : drop at text ≡ joined ls
-    pub apart : AreApart ls
+    pub apart : EachEndsBeforeNext ls
 
   next_gap : (at k : ℕ) (l : Lexeme) (ls : List Lexeme) (done : List Token) (kind : LexemeKind) → l.kind ≡ kind → token_at kind (span_from at (length l.text)) ≡ [] → At at k (l ∷ ls) done → At (at + length l.text) k ls done
   next_gap at k l ls done kind f none a = record {
@@ -96,9 +96,9 @@ module _ (text : List ℕ) (tokens : List Token) (new : List ℕ) (ws : List Wor
     up : at < after
     ends : (span_at tokens last).end ≡ after
     byte : get_or text (after - 1) 0 ≡ 59
-    read : changed_words changes k (words ls) ≡ changed_words (at_each places ws) (suc last) (words rest)
+    read : changed_words changes k (words_of_lexemes ls) ≡ changed_words (changes_at places ws) (suc last) (words_of_lexemes rest)
 
-  skip_more : (at k m : ℕ) (l : Lexeme) (ls : List Lexeme) → changed_words changes k (word_of l l.kind ++ words ls) ≡ changed_words changes m (words ls) → After (at + length l.text) m ls → After at k (l ∷ ls)
+  skip_more : (at k m : ℕ) (l : Lexeme) (ls : List Lexeme) → changed_words changes k (word_of l l.kind ++ words_of_lexemes ls) ≡ changed_words changes m (words_of_lexemes ls) → After (at + length l.text) m ls → After at k (l ∷ ls)
   skip_more at k m l ls same b = record {
     after = b.after;
     rest = b.rest;
@@ -109,15 +109,15 @@ module _ (text : List ℕ) (tokens : List Token) (new : List ℕ) (ws : List Wor
     read = same ∙ b.read;
   }
 
-  words_gone : (k : ℕ) (l : Lexeme) (ls : List Lexeme) (kind : TokenKind) → l.kind ≡ lexeme.Token kind → first ≤ k → k ≤ last → changed_words changes k (word_of l l.kind ++ words ls) ≡ changed_words changes (suc k) (words ls)
+  words_gone : (k : ℕ) (l : Lexeme) (ls : List Lexeme) (kind : TokenKind) → l.kind ≡ lexeme.Token kind → first ≤ k → k ≤ last → changed_words changes k (word_of l l.kind ++ words_of_lexemes ls) ≡ changed_words changes (suc k) (words_of_lexemes ls)
   words_gone k l ls kind f h e =
-      ap (λ x. changed_words changes k (word_of l x ++ words ls)) f ∙ ap (λ o. or_itself (make_word kind l.text) o ++ changed_words changes (suc k) (words ls)) (gone first last k (at_each places ws) h e)
+      ap (λ x. changed_words changes k (word_of l x ++ words_of_lexemes ls)) f ∙ ap (λ o. replacement_or_word (make_word kind l.text) o ++ changed_words changes (suc k) (words_of_lexemes ls)) (gone first last k (changes_at places ws) h e)
 
   skip_end : (at : ℕ) (l : Lexeme) (ls : List Lexeme) (done : List Token) (kind : TokenKind) → l.kind ≡ lexeme.Token kind → At at last (l ∷ ls) done → After at last (l ∷ ls)
   skip_end at l ls done kind f a =
       let here = token_here at last l ls done kind f a in
       let semicolon : kind ≡ token.Symbol symbol.Semicolon = sym (ap (λ (t : Token). t.kind) here) ∙ decl.end in
-      let shape : l.text ≡ 59 ∷ [] = subst (λ x. Belongs x l.text) (f ∙ ap lexeme.Token semicolon) a.apart.0.belongs in
+      let shape : l.text ≡ 59 ∷ [] = subst (λ x. IsLexemeOfKind x l.text) (f ∙ ap lexeme.Token semicolon) a.apart.0.belongs in
       let long : length l.text ≡ 1 = ap length shape in
       let next = next_token at last l ls done kind f a in
       let at_byte : at + length l.text - 1 ≡ at + 0 = omega (arith, long) in
@@ -128,7 +128,7 @@ module _ (text : List ℕ) (tokens : List Token) (new : List ℕ) (ws : List Wor
         up = omega (arith, long);
         ends = ap (λ (t : Token). t.span.end) here;
         byte = ap (λ n. get_or text n 0) at_byte ∙ byte_at text at 0 ∙ ap (λ t. get_or t 0 0) a.rest ∙ ap (λ t. get_or (t ++ joined ls) 0 0) shape;
-        read = words_gone last l ls kind f (omega (arith, decl.order)) (omega arith) ∙ past_last first last (at_each places ws) (suc last) (words ls) (omega arith);
+        read = words_gone last l ls kind f (omega (arith, decl.order)) (omega arith) ∙ past_last first last (changes_at places ws) (suc last) (words_of_lexemes ls) (omega arith);
       }
 
   skip : (at k : ℕ) (ls : List Lexeme) (done : List Token) → At at k ls done → first ≤ k → k ≤ last → After at k ls
@@ -137,8 +137,8 @@ module _ (text : List ℕ) (tokens : List Token) (new : List ℕ) (ws : List Wor
     where
       by_kind : (kind : LexemeKind) → l.kind ≡ kind → ((before : List Token) → At (at + length l.text) k ls before → After (at + length l.text) k ls)
           → ((before : List Token) → At (at + length l.text) (suc k) ls before → suc k ≤ last → After (at + length l.text) (suc k) ls) → After at k (l ∷ ls)
-      by_kind lexeme.Space f same more = skip_more at k k l ls (ap (λ x. changed_words changes k (word_of l x ++ words ls)) f) (same done (next_gap at k l ls done lexeme.Space f refl a))
-      by_kind lexeme.Comment f same more = skip_more at k k l ls (ap (λ x. changed_words changes k (word_of l x ++ words ls)) f) (same done (next_gap at k l ls done lexeme.Comment f refl a))
+      by_kind lexeme.Space f same more = skip_more at k k l ls (ap (λ x. changed_words changes k (word_of l x ++ words_of_lexemes ls)) f) (same done (next_gap at k l ls done lexeme.Space f refl a))
+      by_kind lexeme.Comment f same more = skip_more at k k l ls (ap (λ x. changed_words changes k (word_of l x ++ words_of_lexemes ls)) f) (same done (next_gap at k l ls done lexeme.Comment f refl a))
       by_kind (lexeme.Token kind) f same more = by_test (k == last) refl
         where
           by_test : (b : Bool) → (k == last) ≡ b → After at k (l ∷ ls)
@@ -153,14 +153,14 @@ module _ (text : List ℕ) (tokens : List Token) (new : List ℕ) (ws : List Wor
   -- lexemes at the places
   pub record Cleared (at k : ℕ) (ls : List Lexeme) : Type 0 where
     pub lexemes : List Lexeme
-    pub apart : AreApart lexemes
-    pub read : words lexemes ≡ changed_words changes k (words ls)
+    pub apart : EachEndsBeforeNext lexemes
+    pub read : words_of_lexemes lexemes ≡ changed_words changes k (words_of_lexemes ls)
     pub whole : joined lexemes ≡ pieced text at cuts
-    pub front : (kind : LexemeKind) → (k ≡ first → OfBorder kind) → continues kind (get_or (joined ls) 0 0) ≡ false → MeetsLoosely kind lexemes
+    pub front : (kind : LexemeKind) → (k ≡ first → OfBorder kind) → continues_lexeme kind (get_or (joined ls) 0 0) ≡ false → MeetsLoosely kind lexemes
     pub chain : Chain at cuts
     pub clear : AllClear text cuts
 
-  keep : (at k m : ℕ) (l : Lexeme) (ls : List Lexeme) (done : List Token) → At at k (l ∷ ls) done → changed_words changes k (words (l ∷ ls)) ≡ word_of l l.kind ++ changed_words changes m (words ls)
+  keep : (at k m : ℕ) (l : Lexeme) (ls : List Lexeme) (done : List Token) → At at k (l ∷ ls) done → changed_words changes k (words_of_lexemes (l ∷ ls)) ≡ word_of l l.kind ++ changed_words changes m (words_of_lexemes ls)
       → (m ≡ first → OfBorder l.kind) → Cleared (at + length l.text) m ls → Cleared at k (l ∷ ls)
   keep at k m l ls done a same border tail =
       let one = merged l tail.lexemes a.apart.0.belongs tail.apart (tail.front l.kind border a.apart.0.ends) in
@@ -170,7 +170,7 @@ module _ (text : List ℕ) (tokens : List Token) (new : List ℕ) (ws : List Wor
         apart = one.apart;
         read = one.read ∙ ap (λ t. word_of l l.kind ++ t) tail.read ∙ sym same;
         whole = one.whole ∙ ap (λ t. l.text ++ t) tail.whole ∙ sym (pieced_keep text at l.text (joined ls) cuts a.rest tail.chain);
-        front = λ kind may h. inl (ap (λ t. continues kind (get_or t 0 0)) one.whole ∙ ap (continues kind) (same_first l.text (joined tail.lexemes) (joined ls) some) ∙ h);
+        front = λ kind may h. inl (ap (λ t. continues_lexeme kind (get_or t 0 0)) one.whole ∙ ap (continues_lexeme kind) (same_first l.text (joined tail.lexemes) (joined ls) some) ∙ h);
         chain = chain_from (at + length l.text) at cuts (omega arith) tail.chain;
         clear = tail.clear;
       }
@@ -181,7 +181,7 @@ module _ (text : List ℕ) (tokens : List Token) (new : List ℕ) (ws : List Wor
       let following = skip at k (l ∷ ls) done a (omega (arith, now)) (omega (arith, now, decl.order)) in
       let here = ap (place.token_or_empty tokens) (sym now) ∙ token_here at k l ls done kind f a in
       let name : kind ≡ token.Identifier = sym (ap (λ (t : Token). t.kind) here) ∙ decl.name in
-      let belongs : IsIdentifier l.text = subst (λ x. Belongs x l.text) (f ∙ ap lexeme.Token name) a.apart.0.belongs in
+      let belongs : IsIdentifier l.text = subst (λ x. IsLexemeOfKind x l.text) (f ∙ ap lexeme.Token name) a.apart.0.belongs in
       let some : 0 < length l.text = nonempty l.kind l.text a.apart.0.belongs in
       let head : get_or (joined (l ∷ ls)) 0 0 ≡ get_or l.text 0 0 = first_of l.text (joined ls) some in
       let letter : is_ascii_alphanumeric (get_or (joined (l ∷ ls)) 0 0) ≡ true = ap is_ascii_alphanumeric head ∙ letter_or_digit (get_or l.text 0 0) belongs.word.letter in
@@ -192,7 +192,7 @@ module _ (text : List ℕ) (tokens : List Token) (new : List ℕ) (ws : List Wor
         lexemes = following.tail.lexemes;
         apart = following.tail.apart;
         read = following.tail.read ∙ sym following.read;
-        whole = following.tail.whole ∙ sym (pieced_here text at (removal tokens first last) following.after (map (cut_of tokens new) places) from following.ends);
+        whole = following.tail.whole ∙ sym (pieced_here text at (removal_cut tokens first last) following.after (map (cut_of tokens new) places) from following.ends);
         front = λ other may h. loosely other (may now) following.tail.lexemes following.tail.apart letter h;
         chain = (omega (arith, from), omega (arith, from, following.ends, following.up), subst (λ n. Chain n (map (cut_of tokens new) places)) (sym following.ends) following.tail.chain);
         clear = (
@@ -204,7 +204,7 @@ module _ (text : List ℕ) (tokens : List Token) (new : List ℕ) (ws : List Wor
         );
       }
     where
-      loosely : (other : LexemeKind) → OfBorder other → (ns : List Lexeme) → AreApart ns → is_ascii_alphanumeric (get_or (joined (l ∷ ls)) 0 0) ≡ true → continues other (get_or (joined (l ∷ ls)) 0 0) ≡ false → MeetsLoosely other ns
+      loosely : (other : LexemeKind) → OfBorder other → (ns : List Lexeme) → EachEndsBeforeNext ns → is_ascii_alphanumeric (get_or (joined (l ∷ ls)) 0 0) ≡ true → continues_lexeme other (get_or (joined (l ∷ ls)) 0 0) ≡ false → MeetsLoosely other ns
       loosely lexeme.Space border ns apart letter h = by_test (is_space (get_or (joined ns) 0 0)) refl
         where
           by_test : (b : Bool) → is_space (get_or (joined ns) 0 0) ≡ b → MeetsLoosely lexeme.Space ns
@@ -212,9 +212,9 @@ module _ (text : List ℕ) (tokens : List Token) (new : List ℕ) (ws : List Wor
           by_test false e = inl e
       loosely lexeme.Comment border ns apart letter h = inl refl
       loosely (lexeme.Token token.Identifier) border ns apart letter h = absurd border
-      loosely (lexeme.Token (token.Reserved w)) border ns apart letter h = let clash : true ≡ false = sym letter ∙ h in absurd (cc)
+      loosely (lexeme.Token (token.ReservedWord w)) border ns apart letter h = let clash : true ≡ false = sym letter ∙ h in absurd (cc)
       loosely (lexeme.Token (token.Integer n)) border ns apart letter h = absurd border
-      loosely (lexeme.Token (token.Symbol s)) border ns apart letter h = inl (ap (λ x. continues (lexeme.Token (token.Symbol x)) (get_or (joined ns) 0 0)) border)
+      loosely (lexeme.Token (token.Symbol s)) border ns apart letter h = inl (ap (λ x. continues_lexeme (lexeme.Token (token.Symbol x)) (get_or (joined ns) 0 0)) border)
 
   before_first : (k : ℕ) (kind : TokenKind) → (place.token_or_empty tokens k).kind ≡ kind → suc k ≡ first → OfBorder (lexeme.Token kind)
   before_first k kind e now = ⊎_elim (λ h. subst (λ x. OfBorder (lexeme.Token x)) (sym h ∙ e) refl) (λ h. subst (λ x. OfBorder (lexeme.Token x)) (sym h ∙ e) refl) (decl.following k now)
@@ -226,19 +226,19 @@ module _ (text : List ℕ) (tokens : List Token) (new : List ℕ) (ws : List Wor
       by_kind : (kind : LexemeKind) → l.kind ≡ kind → ((before : List Token) → At (at + length l.text) k ls before → Cleared (at + length l.text) k ls)
           → ((before : List Token) → At (at + length l.text) (suc k) ls before → suc k ≤ first → Cleared (at + length l.text) (suc k) ls) → Cleared at k (l ∷ ls)
       by_kind lexeme.Space f same more =
-          keep at k k l ls done a (ap (λ x. changed_words changes k (word_of l x ++ words ls)) f ∙ ap (λ x. word_of l x ++ changed_words changes k (words ls)) (sym f)) (λ e. subst OfBorder (sym f) tt) (same done (next_gap at k l ls done lexeme.Space f refl a))
+          keep at k k l ls done a (ap (λ x. changed_words changes k (word_of l x ++ words_of_lexemes ls)) f ∙ ap (λ x. word_of l x ++ changed_words changes k (words_of_lexemes ls)) (sym f)) (λ e. subst OfBorder (sym f) tt) (same done (next_gap at k l ls done lexeme.Space f refl a))
       by_kind lexeme.Comment f same more =
-          keep at k k l ls done a (ap (λ x. changed_words changes k (word_of l x ++ words ls)) f ∙ ap (λ x. word_of l x ++ changed_words changes k (words ls)) (sym f)) (λ e. subst OfBorder (sym f) tt) (same done (next_gap at k l ls done lexeme.Comment f refl a))
+          keep at k k l ls done a (ap (λ x. changed_words changes k (word_of l x ++ words_of_lexemes ls)) f ∙ ap (λ x. word_of l x ++ changed_words changes k (words_of_lexemes ls)) (sym f)) (λ e. subst OfBorder (sym f) tt) (same done (next_gap at k l ls done lexeme.Comment f refl a))
       by_kind (lexeme.Token kind) f same more = by_test (k == first) refl
         where
           by_test : (b : Bool) → (k == first) ≡ b → Cleared at k (l ∷ ls)
           by_test true e = remove at k l ls done kind f (eqb-true k first e) a
           by_test false e =
               let on : suc k ≤ first = grind (arith, nat_tests) in
-              let stays : changes k ≡ None = not_gone first last k (at_each places ws) on
+              let stays : changes k ≡ None = not_gone first last k (changes_at places ws) on
               ∙ ap (λ b. if b then Some ws else None) (not_among tokens (suc last) k places names (omega (arith, on, decl.order))) in
               let here = token_here at k l ls done kind f a in
               keep at k (suc k) l ls done a
-              (ap (λ x. changed_words changes k (word_of l x ++ words ls)) f ∙ ap (λ o. or_itself (make_word kind l.text) o ++ changed_words changes (suc k) (words ls)) stays ∙ ap (λ x. word_of l x ++ changed_words changes (suc k) (words ls)) (sym f))
+              (ap (λ x. changed_words changes k (word_of l x ++ words_of_lexemes ls)) f ∙ ap (λ o. replacement_or_word (make_word kind l.text) o ++ changed_words changes (suc k) (words_of_lexemes ls)) stays ∙ ap (λ x. word_of l x ++ changed_words changes (suc k) (words_of_lexemes ls)) (sym f))
               (λ now. subst OfBorder (sym f) (before_first k kind (ap (λ (t : Token). t.kind) here) now))
               (more (done ++ (make_token kind (span_from at (length l.text)) ∷ [])) (next_token at k l ls done kind f a) on)

@@ -12,34 +12,34 @@ use Rattle.ob0_scan.specs.declared.lexeme.LexemeKind.TheVariants as lexeme
 use Rattle.ob0_scan.specs.declared.lexeme.Token.{Token}
 use Rattle.ob0_scan.specs.declared.lexeme.Span.{Span}
 use Rattle.std.proofs.lemmas.Bool.Decides.{nat_tests}
-use Rattle.ob0_scan.specs.Classes.{Belongs, IsIdentifier}
+use Rattle.ob0_scan.specs.Classes.{IsLexemeOfKind, IsIdentifier}
 use Rattle.ob0_scan.specs.Lexed.{Lexeme, joined}
-use Rattle.ob0_scan.specs.Ends.{continues, AreApart}
-use Rattle.ob0_scan.specs.Scanned.{Word, word_of, words, span_from, token_at, tokens_from}
+use Rattle.ob0_scan.specs.Ends.{continues_lexeme, EachEndsBeforeNext}
+use Rattle.ob0_scan.specs.TextWithTokens.{Word, word_of, words_of_lexemes, span_from, token_at, tokens_from}
 use Rattle.ob0_scan.proofs.Cuts.{nonempty}
 use Rattle.ob0_scan.proofs.Reusing.{joined_append}
 use Rattle.ob0_text.specs.Patches.{Cut, pieced}
-use Rattle.ob0_edits_tokens.specs.Changed.{changed_words, at_each, is_among, or_itself}
+use Rattle.ob0_edits_tokens.specs.Changed.{changed_words, changes_at, is_among, replacement_or_word}
 use Rattle.ob0_edits_tokens.specs.Replaced as place
-use Rattle.ob0_edits_tokens.specs.Replaced.{AreNames, span_at, cut_of, AreInOrder, ReplacesName}
+use Rattle.ob0_edits_tokens.specs.Replaced.{AreIdentifierIndexes, span_at, cut_of, AreInOrder, ReplacesName}
 use Rattle.ob0_edits_tokens.proofs.Ends.{append_apart}
 
 abbrev pub make_word : TokenKind → List ℕ → Word
 make_word kind text = record { kind = kind; text = text }
 
-pub words-append : (xs ys : List Lexeme) → words (xs ++ ys) ≡ words xs ++ words ys
-words-append [] ys = refl
-words-append (x ∷ xs) ys = ap (λ t. word_of x x.kind ++ t) (words-append xs ys) ∙ sym (append_assoc (word_of x x.kind) (words xs) (words ys))
+pub words_of_lexemes-append : (xs ys : List Lexeme) → words_of_lexemes (xs ++ ys) ≡ words_of_lexemes xs ++ words_of_lexemes ys
+words_of_lexemes-append [] ys = refl
+words_of_lexemes-append (x ∷ xs) ys = ap (λ t. word_of x x.kind ++ t) (words_of_lexemes-append xs ys) ∙ sym (append_assoc (word_of x x.kind) (words_of_lexemes xs) (words_of_lexemes ys))
 
 -- No index below the least is among the places.
-pub not_among : (tokens : List Token) (least k : ℕ) (places : List ℕ) → AreNames tokens least places → k < least → is_among k places ≡ false
+pub not_among : (tokens : List Token) (least k : ℕ) (places : List ℕ) → AreIdentifierIndexes tokens least places → k < least → is_among k places ≡ false
 not_among tokens least k [] names below = refl
 not_among tokens least k (p ∷ ps) names below =
     let other : (k == p) ≡ false = false_from_ne_true (k == p) (λ e. absurd (omega (arith, eqb-true k p e, names.0))) in
     rw (other) (not_among tokens (suc p) k ps names.3 (omega (arith, names.0)))
 
 -- A place that the walk has passed no longer matters.
-past : (p : ℕ) (ps : List ℕ) (ws : List Word) (j : ℕ) (xs : List Word) → p < j → changed_words (at_each (p ∷ ps) ws) j xs ≡ changed_words (at_each ps ws) j xs
+past : (p : ℕ) (ps : List ℕ) (ws : List Word) (j : ℕ) (xs : List Word) → p < j → changed_words (changes_at (p ∷ ps) ws) j xs ≡ changed_words (changes_at ps ws) j xs
 past p ps ws j [] h = refl
 past p ps ws j (x ∷ xs) h =
     let other : (j == p) ≡ false = false_from_ne_true (j == p) (λ e. absurd (omega (arith, eqb-true j p e))) in
@@ -118,23 +118,23 @@ module _ (text : List ℕ) (tokens : List Token) (new : List ℕ) (ws : List Wor
   -- token has the index k
   pub record Swapped (at k : ℕ) (ls : List Lexeme) (places : List ℕ) : Type 0 where
     pub lexemes : List Lexeme
-    pub apart : AreApart lexemes
-    pub read : words lexemes ≡ changed_words (at_each places ws) k (words ls)
+    pub apart : EachEndsBeforeNext lexemes
+    pub read : words_of_lexemes lexemes ≡ changed_words (changes_at places ws) k (words_of_lexemes ls)
     pub whole : joined lexemes ≡ pieced text at (map (cut_of tokens new) places)
-    pub front : (kind : LexemeKind) → continues kind (get_or (joined ls) 0 0) ≡ false → continues kind (get_or (joined lexemes) 0 0) ≡ false
+    pub front : (kind : LexemeKind) → continues_lexeme kind (get_or (joined ls) 0 0) ≡ false → continues_lexeme kind (get_or (joined lexemes) 0 0) ≡ false
     pub chain : Chain at (map (cut_of tokens new) places)
     pub clear : AllClear text (map (cut_of tokens new) places)
 
   -- A lexeme that isn't at a place is kept.
-  keep : (at k m : ℕ) (l : Lexeme) (ls : List Lexeme) (places : List ℕ) → drop at text ≡ joined (l ∷ ls) → AreApart (l ∷ ls)
-      → changed_words (at_each places ws) k (words (l ∷ ls)) ≡ word_of l l.kind ++ changed_words (at_each places ws) m (words ls)
+  keep : (at k m : ℕ) (l : Lexeme) (ls : List Lexeme) (places : List ℕ) → drop at text ≡ joined (l ∷ ls) → EachEndsBeforeNext (l ∷ ls)
+      → changed_words (changes_at places ws) k (words_of_lexemes (l ∷ ls)) ≡ word_of l l.kind ++ changed_words (changes_at places ws) m (words_of_lexemes ls)
       → Swapped (at + length l.text) m ls places → Swapped at k (l ∷ ls) places
   keep at k m l ls places e apart same tail = record {
     lexemes = l ∷ tail.lexemes;
     apart = (record { belongs = apart.0.belongs; ends = tail.front l.kind apart.0.ends }, tail.apart);
     read = ap (λ t. word_of l l.kind ++ t) tail.read ∙ sym same;
     whole = ap (λ t. l.text ++ t) tail.whole ∙ sym (pieced_keep text at l.text (joined ls) (map (cut_of tokens new) places) e tail.chain);
-    front = λ kind h. ap (continues kind) (same_first l.text (joined tail.lexemes) (joined ls) (nonempty l.kind l.text apart.0.belongs)) ∙ h;
+    front = λ kind h. ap (continues_lexeme kind) (same_first l.text (joined tail.lexemes) (joined ls) (nonempty l.kind l.text apart.0.belongs)) ∙ h;
     chain = chain_from (at + length l.text) at (map (cut_of tokens new) places) (omega arith) tail.chain;
     clear = tail.clear;
   }
@@ -145,20 +145,20 @@ module _ (text : List ℕ) (tokens : List Token) (new : List ℕ) (ws : List Wor
       ap (λ ts. place.token_or_empty ts k) e ∙ ap (λ n. place.token_or_empty (done ++ (t ∷ more)) n) (sym count) ∙ get_or-append_seam done t more _
 
   -- The token at a place is replaced.
-  swap : (at k : ℕ) (l : Lexeme) (ls : List Lexeme) (ps : List ℕ) → drop at text ≡ joined (l ∷ ls) → AreApart (l ∷ ls)
+  swap : (at k : ℕ) (l : Lexeme) (ls : List Lexeme) (ps : List ℕ) → drop at text ≡ joined (l ∷ ls) → EachEndsBeforeNext (l ∷ ls)
       → l.kind ≡ lexeme.Token token.Identifier → span_at tokens k ≡ span_from at (length l.text)
       → Swapped (at + length l.text) (suc k) ls ps → Swapped at k (l ∷ ls) (k ∷ ps)
   swap at k l ls ps e apart name span tail =
-      let belongs : IsIdentifier l.text = subst (λ x. Belongs x l.text) name apart.0.belongs in
+      let belongs : IsIdentifier l.text = subst (λ x. IsLexemeOfKind x l.text) name apart.0.belongs in
       let some : 0 < length l.text = nonempty l.kind l.text apart.0.belongs in
       let stops : is_ascii_alphanumeric (get_or (joined tail.lexemes) 0 0) ≡ false =
-      tail.front (lexeme.Token token.Identifier) (ap (λ x. continues x (get_or (joined ls) 0 0)) (sym name) ∙ apart.0.ends) in
+      tail.front (lexeme.Token token.Identifier) (ap (λ x. continues_lexeme x (get_or (joined ls) 0 0)) (sym name) ∙ apart.0.ends) in
       let from : (span_at tokens k).start ≡ at = ap (λ s. s.start) span in
       let to : (span_at tokens k).end ≡ at + length l.text = ap (λ s. s.end) span in
-      let following : List Word = changed_words (at_each (k ∷ ps) ws) (suc k) (words ls) in
-      let gone : changed_words (at_each (k ∷ ps) ws) k (words (l ∷ ls)) ≡ ws ++ following =
-      ap (λ x. changed_words (at_each (k ∷ ps) ws) k (word_of l x ++ words ls)) name
-      ∙ ap (λ b. or_itself (make_word token.Identifier l.text) (if b || is_among k ps then Some ws else None) ++ following) (eq-eqb k k refl) in
+      let following : List Word = changed_words (changes_at (k ∷ ps) ws) (suc k) (words_of_lexemes ls) in
+      let gone : changed_words (changes_at (k ∷ ps) ws) k (words_of_lexemes (l ∷ ls)) ≡ ws ++ following =
+      ap (λ x. changed_words (changes_at (k ∷ ps) ws) k (word_of l x ++ words_of_lexemes ls)) name
+      ∙ ap (λ b. replacement_or_word (make_word token.Identifier l.text) (if b || is_among k ps then Some ws else None) ++ following) (eq-eqb k k refl) in
       let last_at : (span_at tokens k).end - 1 ≡ at + (length l.text - 1) = omega (arith, to, some) in
       let begins : get_or (joined (l ∷ ls)) 0 0 ≡ get_or l.text 0 0 = first_of l.text (joined ls) some in
       let begun : get_or (joined (replaces.lexemes ++ tail.lexemes)) 0 0 ≡ get_or new 0 0 =
@@ -166,9 +166,9 @@ module _ (text : List ℕ) (tokens : List Token) (new : List ℕ) (ws : List Wor
       record {
         lexemes = replaces.lexemes ++ tail.lexemes;
         apart = append_apart replaces.lexemes tail.lexemes (replaces.apart (get_or (joined tail.lexemes) 0 0) stops) tail.apart;
-        read = words-append replaces.lexemes tail.lexemes ∙ ap₂ (λ xs ys. xs ++ ys) replaces.read tail.read ∙ ap (λ t. ws ++ t) (sym (past k ps ws (suc k) (words ls) (omega arith))) ∙ sym gone;
+        read = words_of_lexemes-append replaces.lexemes tail.lexemes ∙ ap₂ (λ xs ys. xs ++ ys) replaces.read tail.read ∙ ap (λ t. ws ++ t) (sym (past k ps ws (suc k) (words_of_lexemes ls) (omega arith))) ∙ sym gone;
         whole = joined_append replaces.lexemes tail.lexemes ∙ ap₂ (λ xs ys. xs ++ ys) replaces.whole tail.whole ∙ sym (pieced_here text at (cut_of tokens new k) (at + length l.text) (map (cut_of tokens new) ps) from to);
-        front = λ kind h. ap (continues kind) begun ∙ replaces.front kind (get_or l.text 0 0) belongs.word.letter (sym (ap (continues kind) begins) ∙ h);
+        front = λ kind h. ap (continues_lexeme kind) begun ∙ replaces.front kind (get_or l.text 0 0) belongs.word.letter (sym (ap (continues_lexeme kind) begins) ∙ h);
         chain = (omega (arith, from), omega (arith, from, to, some), subst (λ n. Chain n (map (cut_of tokens new) ps)) (sym to) tail.chain);
         clear = (
           record {
@@ -184,15 +184,15 @@ module _ (text : List ℕ) (tokens : List Token) (new : List ℕ) (ws : List Wor
 
   -- holds if the lexemes after the first one can be replaced
   abbrev Later : ℕ → List Lexeme → Type 0
-  Later at ls = (m : ℕ) (qs : List ℕ) (before : List Token) → tokens ≡ before ++ tokens_from at ls → length before ≡ m → AreNames tokens m qs → Swapped at m ls qs
+  Later at ls = (m : ℕ) (qs : List ℕ) (before : List Token) → tokens ≡ before ++ tokens_from at ls → length before ≡ m → AreIdentifierIndexes tokens m qs → Swapped at m ls qs
 
-  module _ (at k : ℕ) (l : Lexeme) (ls : List Lexeme) (done : List Token) (te : tokens ≡ done ++ tokens_from at (l ∷ ls)) (count : length done ≡ k) (e : drop at text ≡ joined (l ∷ ls)) (apart : AreApart (l ∷ ls)) (later : Later (at + length l.text) ls) where
-    gap : (kind : LexemeKind) → l.kind ≡ kind → word_of l kind ≡ [] → token_at kind (span_from at (length l.text)) ≡ [] → (places : List ℕ) → AreNames tokens k places → Swapped at k (l ∷ ls) places
+  module _ (at k : ℕ) (l : Lexeme) (ls : List Lexeme) (done : List Token) (te : tokens ≡ done ++ tokens_from at (l ∷ ls)) (count : length done ≡ k) (e : drop at text ≡ joined (l ∷ ls)) (apart : EachEndsBeforeNext (l ∷ ls)) (later : Later (at + length l.text) ls) where
+    gap : (kind : LexemeKind) → l.kind ≡ kind → word_of l kind ≡ [] → token_at kind (span_from at (length l.text)) ≡ [] → (places : List ℕ) → AreIdentifierIndexes tokens k places → Swapped at k (l ∷ ls) places
     gap kind f no_word no_token places names =
         let none : word_of l l.kind ≡ [] = ap (word_of l) f ∙ no_word in
         let same : tokens ≡ done ++ tokens_from (at + length l.text) ls =
         te ∙ ap (λ x. done ++ (token_at x (span_from at (length l.text)) ++ tokens_from (at + length l.text) ls)) f ∙ ap (λ x. done ++ (x ++ tokens_from (at + length l.text) ls)) no_token in
-        keep at k k l ls places e apart (ap (λ x. changed_words (at_each places ws) k (x ++ words ls)) none ∙ ap (λ x. x ++ changed_words (at_each places ws) k (words ls)) (sym none)) (later k places done same count names)
+        keep at k k l ls places e apart (ap (λ x. changed_words (changes_at places ws) k (x ++ words_of_lexemes ls)) none ∙ ap (λ x. x ++ changed_words (changes_at places ws) k (words_of_lexemes ls)) (sym none)) (later k places done same count names)
 
     module _ (kind : TokenKind) (f : l.kind ≡ lexeme.Token kind) where
       this : Token
@@ -208,42 +208,42 @@ module _ (text : List ℕ) (tokens : List Token) (new : List ℕ) (ws : List Wor
       count_following : length (done ++ (this ∷ [])) ≡ suc k
       count_following = length-append done (this ∷ []) ∙ omega (arith, count)
 
-      stays : (places : List ℕ) → is_among k places ≡ false → AreNames tokens (suc k) places → Swapped at k (l ∷ ls) places
+      stays : (places : List ℕ) → is_among k places ≡ false → AreIdentifierIndexes tokens (suc k) places → Swapped at k (l ∷ ls) places
       stays places other names =
-          let same : changed_words (at_each places ws) k (words (l ∷ ls)) ≡ word_of l l.kind ++ changed_words (at_each places ws) (suc k) (words ls) =
-          ap (λ x. changed_words (at_each places ws) k (word_of l x ++ words ls)) f
-          ∙ ap (λ b. or_itself (make_word kind l.text) (if b then Some ws else None) ++ changed_words (at_each places ws) (suc k) (words ls)) other
-          ∙ ap (λ x. word_of l x ++ changed_words (at_each places ws) (suc k) (words ls)) (sym f) in
+          let same : changed_words (changes_at places ws) k (words_of_lexemes (l ∷ ls)) ≡ word_of l l.kind ++ changed_words (changes_at places ws) (suc k) (words_of_lexemes ls) =
+          ap (λ x. changed_words (changes_at places ws) k (word_of l x ++ words_of_lexemes ls)) f
+          ∙ ap (λ b. replacement_or_word (make_word kind l.text) (if b then Some ws else None) ++ changed_words (changes_at places ws) (suc k) (words_of_lexemes ls)) other
+          ∙ ap (λ x. word_of l x ++ changed_words (changes_at places ws) (suc k) (words_of_lexemes ls)) (sym f) in
           keep at k (suc k) l ls places e apart same (later (suc k) places (done ++ (this ∷ [])) tokens_following count_following names)
 
-      goes : (ps : List ℕ) → (place.token_or_empty tokens k).kind ≡ token.Identifier → AreNames tokens (suc k) ps → Swapped at k (l ∷ ls) (k ∷ ps)
+      goes : (ps : List ℕ) → (place.token_or_empty tokens k).kind ≡ token.Identifier → AreIdentifierIndexes tokens (suc k) ps → Swapped at k (l ∷ ls) (k ∷ ps)
       unfolding this
       goes ps name names =
           let here : place.token_or_empty tokens k ≡ this = here_token k done (tokens_from (at + length l.text) ls) this tokens_here count in
           swap at k l ls ps e apart (f ∙ ap lexeme.Token (sym (ap (λ t. t.kind) here) ∙ name)) (ap (λ t. t.span) here)
           (later (suc k) ps (done ++ (this ∷ [])) tokens_following count_following names)
 
-      at_token : (places : List ℕ) → AreNames tokens k places → Swapped at k (l ∷ ls) places
+      at_token : (places : List ℕ) → AreIdentifierIndexes tokens k places → Swapped at k (l ∷ ls) places
       at_token [] names = stays [] refl tt
       at_token (p ∷ ps) names = by_test (k == p) refl
         where
           by_test : (b : Bool) → (k == p) ≡ b → Swapped at k (l ∷ ls) (p ∷ ps)
           by_test true h =
               let same : k ≡ p = eqb-true k p h in
-              subst (λ q. Swapped at k (l ∷ ls) (q ∷ ps)) same (goes ps (ap (λ q. (place.token_or_empty tokens q).kind) same ∙ names.2) (subst (λ q. AreNames tokens (suc q) ps) (sym same) names.3))
+              subst (λ q. Swapped at k (l ∷ ls) (q ∷ ps)) same (goes ps (ap (λ q. (place.token_or_empty tokens q).kind) same ∙ names.2) (subst (λ q. AreIdentifierIndexes tokens (suc q) ps) (sym same) names.3))
           by_test false h =
               let more : suc k ≤ p = grind (arith, nat_tests) in
-              let after : AreNames tokens (suc k) (p ∷ ps) = (more, names.1, names.2, names.3) in
+              let after : AreIdentifierIndexes tokens (suc k) (p ∷ ps) = (more, names.1, names.2, names.3) in
               stays (p ∷ ps) (not_among tokens (suc k) k (p ∷ ps) after (omega arith)) after
 
-    at_lexeme : (kind : LexemeKind) → l.kind ≡ kind → (places : List ℕ) → AreNames tokens k places → Swapped at k (l ∷ ls) places
+    at_lexeme : (kind : LexemeKind) → l.kind ≡ kind → (places : List ℕ) → AreIdentifierIndexes tokens k places → Swapped at k (l ∷ ls) places
     at_lexeme lexeme.Space f = gap lexeme.Space f refl refl
     at_lexeme lexeme.Comment f = gap lexeme.Comment f refl refl
     at_lexeme (lexeme.Token kind) f = at_token kind f
 
   -- The lexemes after a place can be replaced. The first token of these has the index k.
   pub swapped : (at k : ℕ) (ls : List Lexeme) (places : List ℕ) (done : List Token) → tokens ≡ done ++ tokens_from at ls → length done ≡ k
-      → drop at text ≡ joined ls → AreApart ls → AreNames tokens k places → Swapped at k ls places
+      → drop at text ≡ joined ls → EachEndsBeforeNext ls → AreIdentifierIndexes tokens k places → Swapped at k ls places
   swapped at k [] [] done te count e apart names = record { lexemes = []; apart = tt; read = refl; whole = sym e ∙ pieced_end text at; front = λ kind h. h; chain = tt; clear = tt }
   swapped at k [] (p ∷ ps) done te count e apart names =
       absurd (omega (arith, names.0, names.1, count, ap length (te ∙ append-nil done)))

@@ -12,7 +12,7 @@ use Rattle.ob0_text.specs.declared.position_types.Unit as counting
 use Rattle.ob0_text.specs.Units.{width_of}
 use Rattle.ob0_text.proofs.Widths.{wide}
 use Rattle.ob0_text.specs.Texts.{CR, LF, before, position_of, byte_len, IsInsideEnding}
-use Rattle.ob0_text.specs.Patches.{Cut, place, cut_at, are_apart, all_apart, is_before, put_in_order, in_text_order, pieced, patched_by_cuts}
+use Rattle.ob0_text.specs.Patches.{Cut, place, cut_at, are_disjoint, all_apart, is_before, insert_in_order, in_text_order, pieced, patched_by_cuts}
 use Rattle.ob0_text.proofs.RoundTrip.{places_go_back}
 use Rattle.ob0_text.proofs.Prefixes.{border_at}
 use Rattle.ob0_text.proofs.CutOrder.{bytes_further}
@@ -31,11 +31,11 @@ chained at [] order = tt
 chained at (c ∷ cs) order = (order.0, omega (arith, order.1), chained c.to cs order.2)
 
 -- states that the first k characters end at this offset
-pub record IsPlace (bytes : List ℕ) (offset : ℕ) (k : ℕ) : Type 0 where
+pub record CanCountFrom (bytes : List ℕ) (offset : ℕ) (k : ℕ) : Type 0 where
   pub inside : k ≤ length (chars bytes)
   pub here : byte_len (take k (chars bytes)) ≡ offset
 
-pub place_at : (bytes : List ℕ) → IsUtf8 bytes → (offset : ℕ) → IsCharBoundary bytes offset → (k : ℕ) × IsPlace bytes offset k
+pub place_at : (bytes : List ℕ) → IsUtf8 bytes → (offset : ℕ) → IsCharBoundary bytes offset → (k : ℕ) × CanCountFrom bytes offset k
 place_at bytes u offset border =
     let front : IsUtf8 (take offset bytes) = IsUtf8-take bytes offset u border in
     let parts : chars bytes ≡ chars (take offset bytes) ++ chars (drop offset bytes) =
@@ -83,7 +83,7 @@ module _ (unit : counting.Unit) (bytes : List ℕ) (u : IsUtf8 bytes) where
   text = chars bytes
 
   -- The position of a place that isn't inside a line ending leads back to that place.
-  goes_to : (offset k : ℕ) → IsPlace bytes offset k → (IsEnding bytes offset → ⊥) → place (width_of unit) (chars bytes) (position_of (width_of unit) (chars bytes) offset) ≡ k
+  goes_to : (offset k : ℕ) → CanCountFrom bytes offset k → (IsEnding bytes offset → ⊥) → place (width_of unit) (chars bytes) (position_of (width_of unit) (chars bytes) offset) ≡ k
   unfolding place
   goes_to offset k p clear =
       let outside : IsInsideEnding (chars bytes) k → ⊥ = λ inside. clear (subst (λ b. IsEnding b offset) (encodes-chars bytes u) (ending_bytes (chars bytes) offset k p.here inside)) in
@@ -93,13 +93,13 @@ module _ (unit : counting.Unit) (bytes : List ℕ) (u : IsUtf8 bytes) where
 
   -- states that a cut in bytes and a cut in characters are the same
   pub record IsSameCut (b c : Cut) : Type 0 where
-    pub from : IsPlace bytes b.from c.from
-    pub to : IsPlace bytes b.to c.to
+    pub from : CanCountFrom bytes b.from c.from
+    pub to : CanCountFrom bytes b.to c.to
     pub new : c.new ≡ chars b.new
     pub utf8 : IsUtf8 b.new
 
   -- If a place isn't after another in bytes, it isn't after it in characters.
-  up_in_chars : (x y k m : ℕ) → IsPlace bytes x k → IsPlace bytes y m → x ≤ y → k ≤ m
+  up_in_chars : (x y k m : ℕ) → CanCountFrom bytes x k → CanCountFrom bytes y m → x ≤ y → k ≤ m
   up_in_chars x y k m p q h = by_test (nat_le k m) refl
     where
       by_test : (t : Bool) → nat_le k m ≡ t → k ≤ m
@@ -121,8 +121,8 @@ module _ (unit : counting.Unit) (bytes : List ℕ) (u : IsUtf8 bytes) where
       let low : min (place (width_of unit) (chars bytes) range.start) (place (width_of unit) (chars bytes) range.end) ≡ p.0 = (λ i. min (a i) (b i)) ∙ omega (arith, order) in
       let high : max (place (width_of unit) (chars bytes) range.start) (place (width_of unit) (chars bytes) range.end) ≡ q.0 = (λ i. max (a i) (b i)) ∙ omega (arith, order) in
       record {
-        from = subst (IsPlace bytes from) (sym low) p.1;
-        to = subst (IsPlace bytes to) (sym high) q.1;
+        from = subst (CanCountFrom bytes from) (sym low) p.1;
+        to = subst (CanCountFrom bytes to) (sym high) q.1;
         new = refl;
         utf8 = good;
       }
@@ -132,7 +132,7 @@ module _ (unit : counting.Unit) (bytes : List ℕ) (u : IsUtf8 bytes) where
   AreSame (b ∷ bs) (c ∷ cs) = IsSameCut b c × AreSame bs cs
   AreSame _ _ = ⊥
 
-  chain_in_chars : (at k : ℕ) (bs cs : List Cut) → IsPlace bytes at k → AreSame bs cs → Chain at bs → Chain k cs
+  chain_in_chars : (at k : ℕ) (bs cs : List Cut) → CanCountFrom bytes at k → AreSame bs cs → Chain at bs → Chain k cs
   unfolding AreSame
   chain_in_chars at k [] [] p same chain = tt
   chain_in_chars at k (b ∷ bs) (c ∷ cs) p same chain =
@@ -144,10 +144,10 @@ module _ (unit : counting.Unit) (bytes : List ℕ) (u : IsUtf8 bytes) where
     pub utf8 : IsUtf8 made
     pub same : chars made ≡ text
 
-  border : (at k : ℕ) → IsPlace bytes at k → IsCharBoundary bytes at
+  border : (at k : ℕ) → CanCountFrom bytes at k → IsCharBoundary bytes at
   border at k p = subst (IsCharBoundary bytes) p.here (border_at bytes u k)
 
-  pub pieces : (at k : ℕ) (bs cs : List Cut) → IsPlace bytes at k → AreSame bs cs → Chain at bs → IsTextOf (pieced bytes at bs) (pieced (chars bytes) k cs)
+  pub pieces : (at k : ℕ) (bs cs : List Cut) → CanCountFrom bytes at k → AreSame bs cs → Chain at bs → IsTextOf (pieced bytes at bs) (pieced (chars bytes) k cs)
   unfolding AreSame pieced
   pieces at k [] [] p same chain = record {
     utf8 = IsUtf8-drop bytes at u (border at k p);
@@ -168,18 +168,18 @@ module _ (unit : counting.Unit) (bytes : List ℕ) (u : IsUtf8 bytes) where
   pieces at k _ _ p same chain = absurd same
 
 -- Inserting a cut before cuts that follow it puts it first.
-first_stays : (c : Cut) (cs : List Cut) → c.from ≤ c.to → Chain c.to cs → put_in_order c cs ≡ c ∷ cs
+first_stays : (c : Cut) (cs : List Cut) → c.from ≤ c.to → Chain c.to cs → insert_in_order c cs ≡ c ∷ cs
 first_stays c [] some chain = refl
 first_stays c (d ∷ ds) some chain =
     let after : is_before d c ≡ false = grind (arith, nat_tests) in
-    ap (λ b. if b then d ∷ put_in_order c ds else c ∷ d ∷ ds) after
+    ap (λ b. if b then d ∷ insert_in_order c ds else c ∷ d ∷ ds) after
 
 order_stays : (at : ℕ) (cs : List Cut) → Chain at cs → in_text_order cs ≡ cs
 unfolding in_text_order
 order_stays at [] chain = refl
-order_stays at (c ∷ cs) chain = ap (put_in_order c) (order_stays c.to cs chain.2) ∙ first_stays c cs chain.1 chain.2
+order_stays at (c ∷ cs) chain = ap (insert_in_order c) (order_stays c.to cs chain.2) ∙ first_stays c cs chain.1 chain.2
 
-apart_from_later : (c : Cut) (at : ℕ) (cs : List Cut) → c.to ≤ at → Chain at cs → list_all (are_apart c) cs ≡ true
+apart_from_later : (c : Cut) (at : ℕ) (cs : List Cut) → c.to ≤ at → Chain at cs → list_all (are_disjoint c) cs ≡ true
 apart_from_later c at [] h chain = refl
 apart_from_later c at (d ∷ ds) h chain =
     rw (le-leb c.to d.from (omega (arith, chain.0)), apart_from_later c d.to ds (omega (arith, chain.0, chain.1)) chain.2) refl
@@ -197,6 +197,6 @@ patched_in_order text cs chain =
 -- Cuts in bytes leave the same text as the same cuts in characters.
 pub patched_by_same : (unit : counting.Unit) (bytes : List ℕ) (u : IsUtf8 bytes) (bs cs : List Cut) → AreSame unit bytes u bs cs → Chain 0 bs → IsUtf8 (pieced bytes 0 bs) × (patched_by_cuts (chars bytes) cs ≡ Some (chars (pieced bytes 0 bs)))
 patched_by_same unit bytes u bs cs same chain =
-    let start : IsPlace bytes 0 0 = record { inside = omega arith; here = refl } in
+    let start : CanCountFrom bytes 0 0 = record { inside = omega arith; here = refl } in
     let made = pieces unit bytes u 0 0 bs cs start same chain in
     (made.utf8, patched_in_order (chars bytes) cs (chain_in_chars unit bytes u 0 0 bs cs start same chain) ∙ ap Some (sym made.same))

@@ -6,8 +6,8 @@ use Rattle.std.specs.Char.{is_ascii_alphanumeric, is_ascii_digit}
 use Rattle.std.proofs.lemmas.Fmt.{decimal_by_steps}
 use Rattle.std.proofs.lemmas.Bool.Decides.{nat_tests}
 use Rattle.std.proofs.lemmas.Bool.{ltb-true}
-use Rattle.ob0_scan.specs.declared.lexeme.Reserved.{Reserved}
-use Rattle.ob0_scan.specs.declared.lexeme.Reserved.TheVariants as reserved
+use Rattle.ob0_scan.specs.declared.lexeme.ReservedWord.{ReservedWord}
+use Rattle.ob0_scan.specs.declared.lexeme.ReservedWord.TheVariants as reserved
 use Rattle.ob0_scan.specs.declared.lexeme.Symbol.TheVariants as symbol
 use Rattle.ob0_scan.specs.declared.lexeme.TokenKind.TheVariants as token
 use Rattle.ob0_scan.specs.declared.lexeme.LexemeKind.TheVariants as lexeme
@@ -116,13 +116,13 @@ a_value (negsuc n) h = by_test (nat_lt n 2147483647) refl
     by_test true e = a_negative n (ltb-true n 2147483647 e)
     by_test false e = the_least
 
-true_free : (word : Reserved) → codes "TRUE" ≡ reserved_text word → ⊥
+true_free : (word : ReservedWord) → codes "TRUE" ≡ reserved_text word → ⊥
 true_free reserved.Type e = omega (arith, ap (λ t. get_or t 1 0) e)
 true_free reserved.Then e = omega (arith, ap (λ t. get_or t 1 0) e)
 true_free reserved.Else e = omega (arith, ap (λ t. get_or t 0 0) e)
 true_free _ e = omega (arith, ap length e)
 
-false_free : (word : Reserved) → codes "FALSE" ≡ reserved_text word → ⊥
+false_free : (word : ReservedWord) → codes "FALSE" ≡ reserved_text word → ⊥
 false_free reserved.Begin e = omega (arith, ap (λ t. get_or t 0 0) e)
 false_free reserved.Const e = omega (arith, ap (λ t. get_or t 0 0) e)
 false_free reserved.Elsif e = omega (arith, ap (λ t. get_or t 0 0) e)

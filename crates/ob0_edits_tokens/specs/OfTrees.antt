@@ -1,20 +1,20 @@
 -- The relation between the words of a text and a tree over their indexes.
 -- Rule: none; for contracts of edit makers.
 use Rattle.std.specs.Prelude.{◌≡◌, ℕ, suc, if◌then◌else◌, List, [], ◌∷◌, map, slice_index_or}
-use Rattle.ob0_scan.specs.Scanned.{Word, Scanned}
+use Rattle.ob0_scan.specs.TextWithTokens.{Word, TextWithTokens}
 use Rattle.ob0_tree.specs.Lexeme.{Terminal}
-use Rattle.ob0_tree.specs.Places.{lexeme_of, value_of}
+use Rattle.ob0_tree.specs.Places.{index_terminal, kind_value_or_zero}
 use Rattle.ob0_edits_tokens.specs.Words.{word_lexeme}
 use Rattle.ob0_tree.specs.Tree.{Tree, Sort, spell, mapped}
-use Rattle.ob0_edits_tokens.specs.Changed.{words_of, changed_words, at_each, is_among}
-use Rattle.ob0_edits_tokens.specs.Replaced.{AreNames}
+use Rattle.ob0_edits_tokens.specs.Changed.{words_of, changed_words, changes_at, is_among}
+use Rattle.ob0_edits_tokens.specs.Replaced.{AreIdentifierIndexes}
 use Rattle.ob0_edits_tokens.specs.Written.{name_word}
 
 -- Returns the words as the tokens that a tree over word indexes spells: each name or integer is the
 -- index of its word. The first word has the index `k`.
-abbrev pub numbered_tokens : ℕ → List Word → List (Terminal ℕ)
-numbered_tokens k [] = []
-numbered_tokens k (w ∷ ws) = lexeme_of k w.kind ∷ numbered_tokens (suc k) ws
+abbrev pub indexed_tokens : ℕ → List Word → List (Terminal ℕ)
+indexed_tokens k [] = []
+indexed_tokens k (w ∷ ws) = index_terminal k w.kind ∷ indexed_tokens (suc k) ws
 
 -- returns the word with this index; if there is none, a name without text
 abbrev pub word_at : List Word → ℕ → Word
@@ -26,20 +26,20 @@ text_of_word ws k = (word_at ws k).text
 
 -- returns the value of the word with this index, or 0 if it isn't an integer or doesn't exist
 abbrev pub number_at : List Word → ℕ → ℕ
-number_at ws k = value_of (word_at ws k).kind
+number_at ws k = kind_value_or_zero (word_at ws k).kind
 
 -- returns the new name if the index is one of the places, otherwise the text of the word with this
 -- index
-abbrev pub renamed_at : List Word → List ℕ → List ℕ → ℕ → List ℕ
-renamed_at ws places new k = if is_among k places then new else text_of_word ws k
+abbrev pub renamed_word_text : List Word → List ℕ → List ℕ → ℕ → List ℕ
+renamed_word_text ws places new k = if is_among k places then new else text_of_word ws k
 
 -- Holds if renaming keeps the spelling of trees: if a tree with word indexes as its names and
 -- integers spells the words of a text, it still does after tree and words get a new name at the
 -- same places.
-abbrev pub RenamedWordsSpell : Type 0
-RenamedWordsSpell =
-    (s : Scanned) (sort : Sort) (t : Tree ℕ sort) (places new : List ℕ)
-    → AreNames s.tokens 0 places
-    → spell t ≡ numbered_tokens 0 (words_of s)
-    → map word_lexeme (changed_words (at_each places (name_word new ∷ [])) 0 (words_of s))
-    ≡ spell (mapped (renamed_at (words_of s) places new) (number_at (words_of s)) t)
+abbrev pub RenamingKeepsSpelling : Type 0
+RenamingKeepsSpelling =
+    (s : TextWithTokens) (sort : Sort) (t : Tree ℕ sort) (places new : List ℕ)
+    → AreIdentifierIndexes s.tokens 0 places
+    → spell t ≡ indexed_tokens 0 (words_of s)
+    → map word_lexeme (changed_words (changes_at places (name_word new ∷ [])) 0 (words_of s))
+    ≡ spell (mapped (renamed_word_text (words_of s) places new) (number_at (words_of s)) t)

@@ -8,8 +8,8 @@ use Rattle.ob0_scan.specs.declared.lexeme.LexemeKind.{LexemeKind}
 use Rattle.ob0_scan.specs.declared.lexeme.Span.{Span}
 use Rattle.ob0_scan.specs.declared.lexeme.Token.{Token}
 use Rattle.ob0_scan.specs.Lexed.{Lexeme, joined}
-use Rattle.ob0_scan.specs.Ends.{continues, EndsBefore}
-use Rattle.ob0_scan.specs.Scanned.{Word, words, Scanned, IsScan}
+use Rattle.ob0_scan.specs.Ends.{continues_lexeme, EndsBefore}
+use Rattle.ob0_scan.specs.TextWithTokens.{Word, words_of_lexemes, TextWithTokens, IsScan}
 use Rattle.ob0_text.specs.declared.edits.Edit.{Edit}
 use Rattle.ob0_text.specs.declared.position_types.Range.{Range}
 use Rattle.ob0_text.specs.declared.position_types.Unit as counting
@@ -31,13 +31,13 @@ span_at tokens p = (token_or_empty tokens p).span
 
 -- Holds if the places are indexes of identifiers among the tokens, in ascending order. The first
 -- one is at least `least`.
-abbrev pub AreNames : List Token → ℕ → List ℕ → Type 0
-AreNames tokens least [] = Unit {0}
-AreNames tokens least (p ∷ ps) =
+abbrev pub AreIdentifierIndexes : List Token → ℕ → List ℕ → Type 0
+AreIdentifierIndexes tokens least [] = Unit {0}
+AreIdentifierIndexes tokens least (p ∷ ps) =
     (least ≤ p)
     × (p < length tokens)
     × ((token_or_empty tokens p).kind ≡ token.Identifier)
-    × AreNames tokens (suc p) ps
+    × AreIdentifierIndexes tokens (suc p) ps
 
 -- returns the cut that replaces a token by the new text, with places counted in bytes
 abbrev pub cut_of : List Token → List ℕ → ℕ → Cut
@@ -45,8 +45,8 @@ cut_of tokens new p =
     record { from = (span_at tokens p).start; to = (span_at tokens p).end; new = new }
 
 -- Returns the text after the token at each of the places is replaced by `new`.
-abbrev pub with_text_at : Scanned → List ℕ → List ℕ → List ℕ
-with_text_at s places new = pieced s.text 0 (map (cut_of s.tokens new) places)
+abbrev pub text_after_replacement : TextWithTokens → List ℕ → List ℕ → List ℕ
+text_after_replacement s places new = pieced s.text 0 (map (cut_of s.tokens new) places)
 
 -- Holds if each cut begins at or after the end of the previous cut, and removes at least one byte.
 -- The first cut begins at or after `at`.
@@ -56,10 +56,10 @@ AreInOrder at (c ∷ cs) = (at ≤ c.from) × (c.from < c.to) × AreInOrder c.to
 
 -- Holds if the text of each lexeme belongs to its kind, and no lexeme can continue with the byte
 -- after it. The byte `byte` follows the last lexeme.
-abbrev pub AreApartBefore : List Lexeme → ℕ → Type 0
-AreApartBefore [] byte = Unit {0}
-AreApartBefore (l ∷ lexemes) byte =
-    EndsBefore l (slice_index (joined lexemes ++ (byte ∷ [])) 0) × AreApartBefore lexemes byte
+abbrev pub LexemesEndBefore : List Lexeme → ℕ → Type 0
+LexemesEndBefore [] byte = Unit {0}
+LexemesEndBefore (l ∷ lexemes) byte =
+    EndsBefore l (slice_index (joined lexemes ++ (byte ∷ [])) 0) × LexemesEndBefore lexemes byte
 
 -- Holds if the text `new`, whose words are `ws`, may replace any identifier. A lexeme before it
 -- that can't continue with a letter can't continue with its first byte either. Its own lexemes stay
@@ -67,13 +67,13 @@ AreApartBefore (l ∷ lexemes) byte =
 pub record ReplacesName (new : List ℕ) (ws : List Word) : Type 0 where
   pub lexemes : List Lexeme
   pub whole : joined lexemes ≡ new
-  pub read : words lexemes ≡ ws
+  pub read : words_of_lexemes lexemes ≡ ws
   pub some : 0 < length new
   pub front : (kind : LexemeKind) (letter : ℕ)
       → IsTrue (is_ascii_alphabetic letter)
-      → continues kind letter ≡ false
-      → continues kind (slice_index new 0) ≡ false
-  pub apart : (byte : ℕ) → is_ascii_alphanumeric byte ≡ false → AreApartBefore lexemes byte
+      → continues_lexeme kind letter ≡ false
+      → continues_lexeme kind (slice_index new 0) ≡ false
+  pub apart : (byte : ℕ) → is_ascii_alphanumeric byte ≡ false → LexemesEndBefore lexemes byte
 
 -- Returns the range of an edit, and its text in bytes.
 abbrev pub parts : Edit → Range × List ℕ
@@ -86,7 +86,7 @@ edit_at unit text tokens new p = (range_of (width_of unit) text (span_at tokens 
 -- Holds if the text after the edits can be scanned and has these words.
 pub record LeavesWords
     (unit : counting.Unit) (text : List ℕ) (edits : List Edit) (ws : List Word) : Type 0 where
-  pub after : Scanned
+  pub after : TextWithTokens
   pub scan : IsScan after
   pub made : patched (width_of unit) text edits ≡ Some (chars after.text)
   pub words_are : words_of after ≡ ws

@@ -2,7 +2,7 @@
 
 ghost use Rattle.std.specs.Prelude.{ℕ, List, [], ◌∷◌};
 ghost use Rattle.ob0_scan.specs.Classes.{IsIdentifier};
-ghost use Rattle.ob0_edits_tokens.specs.OfTrees.{RenamedWordsSpell};
+ghost use Rattle.ob0_edits_tokens.specs.OfTrees.{RenamingKeepsSpelling};
 ghost use Rattle.ob0_edits_tokens.specs.Replaced.{ReplacesName};
 ghost use Rattle.ob0_edits_tokens.specs.Written.{name_word};
 
@@ -13,6 +13,6 @@ pub fn names_replace_names()
 
 /// Proves that renaming keeps the spelling of trees: a tree that spells some words still does after
 /// both get a new name at the same places.
-pub fn renamed_words_spell()
-    ensures { RenamedWordsSpell }
+pub fn renaming_keeps_spelling()
+    ensures { RenamingKeepsSpelling }
 {}

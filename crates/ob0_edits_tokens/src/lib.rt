@@ -4,7 +4,7 @@
 
 pub mod laws;
 mod positions;
-mod replacing;
+mod token_edits;
 
 pub use positions::ranges;
-pub use replacing::{edits_for, edits_without, range_of};
+pub use token_edits::{range_of, removal_edits, replacement_edits};

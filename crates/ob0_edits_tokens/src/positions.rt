@@ -10,7 +10,7 @@ use ob0_text::{Range, TextStore};
 use std::alloc::{AllocError, Global};
 
 /// The number of spans that are converted at once, so that the buffers stay small.
-const PART: usize = 16_384;
+const SPANS_AT_ONCE: usize = 16_384;
 
 /// Returns the ranges of spans, in the same order. If the spans are in text order, one pass over
 /// the text finds them.
@@ -25,7 +25,7 @@ pub fn ranges<T: TextStore>(
     let mut ranges = Vec::with_capacity(alloc, spans.len())?;
     while ranges.len() < spans.len() {
         let from = ranges.len();
-        let part = &spans[from..spans.len().min(from + PART)];
+        let part = &spans[from..spans.len().min(from + SPANS_AT_ONCE)];
         add_ranges(alloc, store, part, &mut ranges)?;
     }
     Ok(ranges)

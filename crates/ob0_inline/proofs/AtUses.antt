@@ -8,13 +8,13 @@ use Rattle.ob0_text.specs.declared.edits.Edit.{Edit}
 use Rattle.ob0_text.specs.declared.position_types.Unit as counting
 use Rattle.ob0_text.specs.declared.refusals.EditRefusal.{EditRefusal}
 use Rattle.ob0_text.specs.declared.refusals.EditRefusal.TheVariants.{Memory, Shadowed}
-use Rattle.ob0_tree.specs.Parsed.{named_tree_of}
+use Rattle.ob0_tree.specs.ParsedModule.{named_tree_of}
 use Rattle.ob0_tree.specs.Tree.{Tree, module_text, spell}
-use Rattle.ob0_edits_tokens.specs.Changed.{at_each, changed_words, words_of}
+use Rattle.ob0_edits_tokens.specs.Changed.{changes_at, changed_words, words_of}
 use Rattle.ob0_edits_tokens.specs.Words.{word_lexeme}
 use Rattle.ob0_edits_tokens.proofs.OfTrees.{all_put, put}
-use Rattle.ob0_edits_tokens.specs.Replaced.{AreNames, edit_at, parts, with_text_at}
-use Rattle.ob0_language_names.specs.Inlining.{only}
+use Rattle.ob0_edits_tokens.specs.Replaced.{AreIdentifierIndexes, edit_at, parts, text_after_replacement}
+use Rattle.ob0_language_names.specs.Inlining.{single_occurrence}
 use Rattle.ob0_language_names.specs.Names.{Name}
 use Rattle.ob0_language_names.specs.Occurrences.{binds}
 use Rattle.ob0_language_types.proofs.Leaves.{same_ordinal-true}
@@ -22,21 +22,21 @@ use Rattle.ob0_language_types.proofs.Literals.{some_inverse}
 use Rattle.ob0_scope_table.specs.Resolution.{IsResolution, Resolution, ordinal_in}
 use Rattle.ob0_scope_table.proofs.Bound.{bound_at}
 use Rattle.ob0_scope.specs.declared.naming.Named as named
-use Rattle.ob0_scope.specs.Listing.{is_name_on}
+use Rattle.ob0_scope.specs.Listing.{is_identifier_on}
 use Rattle.ob0_scope.specs.NamesAtPlaces.{name_on}
 use Rattle.ob0_scope.proofs.Placed.{name_found, named_so}
 use Rattle.ob0_language_types.specs.ConstantValues.{value_of_constant}
 use Rattle.ob0_types.specs.CheckedModules.{IsWellTyped}
-use Rattle.ob0_language_types.specs.EditLaws.{AreUsesOf, ConstantsAreAlone, IsConstantWritten, IsScalar, IsPredeclaredTruth}
-use Rattle.ob0_language_types.specs.Written.{written_value}
-use Rattle.ob0_language_runs.specs.EditLaws.{InliningKeepsModules}
+use Rattle.ob0_language_types.specs.EditLaws.{AreUsesOf, ConstantUsesAreFactors, IsConstantWritten, IsScalar, MeansPredeclaredTruth}
+use Rattle.ob0_language_types.specs.Written.{value_literal}
+use Rattle.ob0_language_runs.specs.EditLaws.{InliningKeepsTypingAndRuns}
 use Rattle.ob0_language_values.specs.declared.scalar.Scalar.{Scalar}
 use Rattle.ob0_language_values.specs.declared.scalar.Scalar.TheVariants as scalar
 use Rattle.ob0_language_values.specs.Scalars.{scalar_value}
-use Rattle.ob0_inline.specs.declared.uses.Use.{Use}
-use Rattle.ob0_inline.specs.Everywhere.{IsAlone}
+use Rattle.ob0_inline.specs.declared.uses.ConstantUse.{ConstantUse}
+use Rattle.ob0_inline.specs.Everywhere.{UsesAreFactors}
 use Rattle.ob0_inline.specs.Inlined.{LeavesModule}
-use Rattle.ob0_inline.specs.Uses.{InlinesHere, IsUse, IsUseAt, inlined_here, is_predeclared_truth, refusal_here}
+use Rattle.ob0_inline.specs.Uses.{InlinesHere, IsUse, IsUseAt, tree_inlined_here, is_predeclared_truth, refusal_here}
 use Rattle.ob0_inline.specs.Values.{value_factor, value_text, value_words}
 use Rattle.ob0_inline.proofs.ModuleTexts.{spelled_by_words, value_spelled}
 use Rattle.ob0_inline.proofs.Refusals.{MakeText, Refused, other_is_first, refused_first}
@@ -44,11 +44,11 @@ use Rattle.ob0_inline.proofs.UsesAreIdentifiers.{AreBound, one_identifier, one_p
 
 -- the text that is written for a value, and whether the name in it is the predeclared one
 
-pub literal_of : (value : Scalar) → written_value (scalar_value value) ≡ Some (value_factor value)
+pub literal_of : (value : Scalar) → value_literal (scalar_value value) ≡ Some (value_factor value)
 literal_of (scalar.Truth true) = refl
 literal_of _ = refl
 
-pub shown_is : (m : Tree Name module_text) (k : ℕ) (value : Scalar) → is_predeclared_truth m k value ≡ true → IsPredeclaredTruth m k (scalar_value value)
+pub shown_is : (m : Tree Name module_text) (k : ℕ) (value : Scalar) → is_predeclared_truth m k value ≡ true → MeansPredeclaredTruth m k (scalar_value value)
 shown_is m k (scalar.Number n) e = tt
 shown_is m k (scalar.Truth true) e = same_ordinal-true _ 2 e
 shown_is m k (scalar.Truth false) e = same_ordinal-true _ 3 e
@@ -66,11 +66,11 @@ some_named token ordinal (Some i) ordinals e = go (ordinal_in ordinals i) refl e
         ap (ordinal_in ordinals) (sym (ap (λ o. (elim o as (λ _. named.Named) [ Some n ↦ n | None ↦ record { token = 0; ordinal = 0 } ]).token) same))
         ∙ (q ∙ ap (λ o. Some ((elim o as (λ _. named.Named) [ Some n ↦ n | None ↦ record { token = 0; ordinal = 0 } ]).ordinal)) same)
 
-pub use_is : (r : Resolution) → IsResolution r → (offset : ℕ) (u : Use) → IsUseAt r.module_read offset u → IsUse r.module_read u
+pub use_is : (r : Resolution) → IsResolution r → (offset : ℕ) (u : ConstantUse) → IsUseAt r.module_read offset u → IsUse r.module_read u
 use_is r is offset u h =
     let m = r.module_read in
     let ordinal : ordinal_in r.ordinals u.token ≡ Some u.constant =
-    some_named u.token u.constant (position_from (is_name_on offset) 0 m.source.tokens) r.ordinals (name_found r offset is ∙ h.named) in
+    some_named u.token u.constant (position_from (is_identifier_on offset) 0 m.source.tokens) r.ordinals (name_found r offset is ∙ h.named) in
     let there : slice_get r.uses u.occurrence ≡ Some u.token = ap (λ us. slice_get us u.occurrence) is.occurring ∙ h.occurs in
     record {
       occurs = h.occurs;
@@ -78,11 +78,11 @@ use_is r is offset u h =
       has_value = h.has_value;
     }
 
-module _ (r : Resolution) (is : IsResolution r) (u : Use) (use_so : IsUse r.module_read u) where
+module _ (r : Resolution) (is : IsResolution r) (u : ConstantUse) (use_so : IsUse r.module_read u) where
   there : slice_get r.uses u.occurrence ≡ Some u.token
   there = ap (λ us. slice_get us u.occurrence) is.occurring ∙ use_so.occurs
 
-  pub are_names : AreNames r.module_read.source.tokens 0 (u.token ∷ [])
+  pub are_names : AreIdentifierIndexes r.module_read.source.tokens 0 (u.token ∷ [])
   unfolding there
   are_names =
       let one = one_identifier r.module_read.source.tokens r.uses u.occurrence u.token (uses_are_identifiers r is) there in
@@ -93,66 +93,66 @@ module _ (r : Resolution) (is : IsResolution r) (u : Use) (use_so : IsUse r.modu
   are_bound = (((u.occurrence, there), bound_at r is u.occurrence (Some u.token) (sym there) ∙ use_so.bound), tt)
 
   -- The words, with the value's words in place of the use, spell the inlined module.
-  pub here_spelled : IsAlone r.module_read u.constant
-      → map word_lexeme (changed_words (at_each (u.token ∷ []) (value_words u.value)) 0 (words_of r.module_read.source)) ≡ spell (inlined_here r.module_read u)
+  pub here_spelled : UsesAreFactors r.module_read u.constant
+      → map word_lexeme (changed_words (changes_at (u.token ∷ []) (value_words u.value)) 0 (words_of r.module_read.source)) ≡ spell (tree_inlined_here r.module_read u)
   here_spelled alone =
       let s = r.module_read.source in
       let places = u.token ∷ [] in
       let vs = value_words u.value in
       sym (all_put s places vs are_names) ∙ ap (flat_map (put s places vs)) (sym (spelled_by_words r.module_read is.parsed))
-      ∙ uses_spelled r is u.constant (value_factor u.value) places are_bound (only u.occurrence)
+      ∙ uses_spelled r is u.constant (value_factor u.value) places are_bound (single_occurrence u.occurrence)
       (λ j i e. or-false (i == u.token) ∙ one_place 0 (length s.tokens) r.uses j u.occurrence i u.token (uses_ascend r is) e there) alone vs (value_spelled u.value)
 
-module _ (r : Resolution) (well : IsWellTyped r) (u : Use) (use_so : IsUse r.module_read u) where
+module _ (r : Resolution) (well : IsWellTyped r) (u : ConstantUse) (use_so : IsUse r.module_read u) where
   written : IsScalar (scalar_value u.value) → IsConstantWritten (named_tree_of r.module_read) u.constant (scalar_value u.value) (value_factor u.value)
   written fits_so = record { value = use_so.has_value; scalar = fits_so; literal = literal_of u.value }
 
-  pub is_alone : ConstantsAreAlone → IsScalar (scalar_value u.value) → IsAlone r.module_read u.constant
+  pub is_alone : ConstantUsesAreFactors → IsScalar (scalar_value u.value) → UsesAreFactors r.module_read u.constant
   is_alone law fits_so = law (named_tree_of r.module_read) u.constant (scalar_value u.value) (value_factor u.value) (written fits_so) well.well_typed
 
-  shown_so : is_predeclared_truth (named_tree_of r.module_read) u.occurrence u.value ≡ true → IsPredeclaredTruth (named_tree_of r.module_read) u.occurrence (scalar_value u.value)
+  shown_so : is_predeclared_truth (named_tree_of r.module_read) u.occurrence u.value ≡ true → MeansPredeclaredTruth (named_tree_of r.module_read) u.occurrence (scalar_value u.value)
   shown_so e = shown_is (named_tree_of r.module_read) u.occurrence u.value e
 
-  uses_so : is_predeclared_truth (named_tree_of r.module_read) u.occurrence u.value ≡ true → AreUsesOf (named_tree_of r.module_read) u.constant (scalar_value u.value) (only u.occurrence)
+  uses_so : is_predeclared_truth (named_tree_of r.module_read) u.occurrence u.value ≡ true → AreUsesOf (named_tree_of r.module_read) u.constant (scalar_value u.value) (single_occurrence u.occurrence)
   uses_so e =
       let m = named_tree_of r.module_read in
       record {
         bound = λ k h. ap (binds m) (eqb-true k u.occurrence h) ∙ use_so.bound;
-        seen = λ k h. subst (λ n. IsPredeclaredTruth m n (scalar_value u.value)) (sym (eqb-true k u.occurrence h)) (shown_so e);
+        seen = λ k h. subst (λ n. MeansPredeclaredTruth m n (scalar_value u.value)) (sym (eqb-true k u.occurrence h)) (shown_so e);
       }
 
   -- The edits leave the inlined module.
-  pub inlines : InliningKeepsModules → IsScalar (scalar_value u.value) → (unit : counting.Unit) (text : List ℕ) (edits : List Edit)
+  pub inlines : InliningKeepsTypingAndRuns → IsScalar (scalar_value u.value) → (unit : counting.Unit) (text : List ℕ) (edits : List Edit)
       → map parts edits ≡ edit_at unit text r.module_read.source.tokens (value_text u.value) u.token ∷ []
-      → LeavesModule unit text edits (inlined_here r.module_read u)
+      → LeavesModule unit text edits (tree_inlined_here r.module_read u)
       → is_predeclared_truth (named_tree_of r.module_read) u.occurrence u.value ≡ true → InlinesHere unit text r.module_read u edits
   inlines law fits_so unit text edits made leaves shown =
-      let kept = law (named_tree_of r.module_read) u.constant (scalar_value u.value) (value_factor u.value) (only u.occurrence) (written fits_so) (uses_so shown) well.well_typed in
+      let kept = law (named_tree_of r.module_read) u.constant (scalar_value u.value) (value_factor u.value) (single_occurrence u.occurrence) (written fits_so) (uses_so shown) well.well_typed in
       record { here = made; leaves = leaves; well_typed = kept.0; same_runs = kept.1 }
 
 -- the facts about a use's edits, or about their refusal, for any reading of the module
 
-abbrev pub new_text : Resolution → Use → List ℕ
-new_text r u = with_text_at r.module_read.source (u.token ∷ []) (value_text u.value)
+abbrev pub new_text : Resolution → ConstantUse → List ℕ
+new_text r u = text_after_replacement r.module_read.source (u.token ∷ []) (value_text u.value)
 
-pub record Made (r : Resolution) (u : Use) (unit : counting.Unit) (text : List ℕ) (edits : List Edit) : Type 0 where
+pub record Made (r : Resolution) (u : ConstantUse) (unit : counting.Unit) (text : List ℕ) (edits : List Edit) : Type 0 where
   pub edits_are : map parts edits ≡ edit_at unit text r.module_read.source.tokens (value_text u.value) u.token ∷ []
-  pub make_text : MakeText (IsAlone r.module_read u.constant) (new_text r u) (inlined_here r.module_read u) unit text edits
+  pub make_text : MakeText (UsesAreFactors r.module_read u.constant) (new_text r u) (tree_inlined_here r.module_read u) unit text edits
 
-abbrev pub IsRefused : Resolution → Use → EditRefusal → Type 0
-IsRefused r u refusal = Refused (IsAlone r.module_read u.constant) (new_text r u) (inlined_here r.module_read u) refusal
+abbrev pub IsRefused : Resolution → ConstantUse → EditRefusal → Type 0
+IsRefused r u refusal = Refused (UsesAreFactors r.module_read u.constant) (new_text r u) (tree_inlined_here r.module_read u) refusal
 
-module _ (r : Resolution) (well : IsWellTyped r) (u : Use) (use_so : IsUse r.module_read u) (law : ConstantsAreAlone) (scalar_so : IsScalar (scalar_value u.value)) where
+module _ (r : Resolution) (well : IsWellTyped r) (u : ConstantUse) (use_so : IsUse r.module_read u) (law : ConstantUsesAreFactors) (scalar_so : IsScalar (scalar_value u.value)) where
   abbrev hidden : Bool → Option EditRefusal
   hidden shown = if shown then None else Some Shadowed
 
   made_first : (unit : counting.Unit) (text : List ℕ) (edits : List Edit) → Made r u unit text edits → (shown : Bool) → is_predeclared_truth (named_tree_of r.module_read) u.occurrence u.value ≡ shown
       → refusal_here r.module_read u ≡ hidden shown
   made_first unit text edits h shown e =
-      other_is_first (IsAlone r.module_read u.constant) (is_alone r well u use_so law scalar_so) (new_text r u) (inlined_here r.module_read u) (hidden (is_predeclared_truth (named_tree_of r.module_read) u.occurrence u.value)) unit text edits h.make_text
+      other_is_first (UsesAreFactors r.module_read u.constant) (is_alone r well u use_so law scalar_so) (new_text r u) (tree_inlined_here r.module_read u) (hidden (is_predeclared_truth (named_tree_of r.module_read) u.occurrence u.value)) unit text edits h.make_text
       ∙ ap hidden e
 
-  pub answer_ok : InliningKeepsModules → (unit : counting.Unit) (text : List ℕ) (edits : List Edit) → Made r u unit text edits → is_predeclared_truth (named_tree_of r.module_read) u.occurrence u.value ≡ true
+  pub answer_ok : InliningKeepsTypingAndRuns → (unit : counting.Unit) (text : List ℕ) (edits : List Edit) → Made r u unit text edits → is_predeclared_truth (named_tree_of r.module_read) u.occurrence u.value ≡ true
       → (refusal_here r.module_read u ≡ None) × InlinesHere unit text r.module_read u edits
   answer_ok keeps unit text edits h shown =
       (made_first unit text edits h true shown, inlines r well u use_so keeps scalar_so unit text edits h.edits_are (h.make_text.leaves (is_alone r well u use_so law scalar_so)) shown)
@@ -163,7 +163,7 @@ module _ (r : Resolution) (well : IsWellTyped r) (u : Use) (use_so : IsUse r.mod
 
   pub answer_refused : (refusal : EditRefusal) → IsRefused r u refusal → (refusal_here r.module_read u ≡ Some refusal) ⊎ (refusal ≡ Memory)
   answer_refused =
-      refused_first (IsAlone r.module_read u.constant) (is_alone r well u use_so law scalar_so) (new_text r u) (inlined_here r.module_read u) (hidden (is_predeclared_truth (named_tree_of r.module_read) u.occurrence u.value))
+      refused_first (UsesAreFactors r.module_read u.constant) (is_alone r well u use_so law scalar_so) (new_text r u) (tree_inlined_here r.module_read u) (hidden (is_predeclared_truth (named_tree_of r.module_read) u.occurrence u.value))
 
 -- A search finds the first entry that is this token, with its index.
 pub found_there : (token j k : ℕ) (is : List ℕ) → position_from (λ i. i == token) j is ≡ Some k → (n : ℕ) × (k ≡ j + n) × (slice_get is n ≡ Some token)
@@ -202,12 +202,12 @@ use_found r well offset found k value e at has_value =
       has_value = sym has_value;
     }
 
-pub use_is_one : (r : Resolution) → IsWellTyped r → (offset : ℕ) (made u : Use) → IsUseAt r.module_read offset made → Some made ≡ Some u → IsUse r.module_read u
+pub use_is_one : (r : Resolution) → IsWellTyped r → (offset : ℕ) (made u : ConstantUse) → IsUseAt r.module_read offset made → Some made ≡ Some u → IsUse r.module_read u
 use_is_one r well offset made u h e =
-    subst (IsUse r.module_read) (ap (λ (o : Option Use). elim o as (λ _. Use) [ Some n ↦ n | None ↦ made ]) e) (use_is r well.resolved offset made h)
+    subst (IsUse r.module_read) (ap (λ (o : Option ConstantUse). elim o as (λ _. ConstantUse) [ Some n ↦ n | None ↦ made ]) e) (use_is r well.resolved offset made h)
 
 pub no_use : (r : Resolution) → IsWellTyped r → (offset : ℕ) (found : named.Named) → Some found ≡ name_on r.module_read offset
-    → position_from (λ i. i == found.token) 0 r.uses ≡ None → (u : Use) → IsUseAt r.module_read offset u → ⊥
+    → position_from (λ i. i == found.token) 0 r.uses ≡ None → (u : ConstantUse) → IsUseAt r.module_read offset u → ⊥
 no_use r well offset found e none u h =
     not_there found.token 0 u.occurrence r.uses none
     (ap (λ us. slice_get us u.occurrence) well.resolved.occurring ∙ (h.occurs ∙ ap Some (sym (named_token found u.token u.constant (e ∙ h.named)))))

@@ -9,24 +9,24 @@ use Rattle.std.proofs.lemmas.Str.{encodes-chars}
 use Rattle.ob0_edits_tokens.specs.Changed.{words_of}
 use Rattle.ob0_edits_tokens.specs.Words.{word_lexeme}
 use Rattle.ob0_tree.specs.Lexeme.{Terminal, EndOfText}
-use Rattle.ob0_scan.specs.Scanned.{Scanned, read_in}
-use Rattle.ob0_tree.specs.Module.{text_lexemes}
-use Rattle.ob0_tree.specs.Parsed.{Parsed, IsParsed, named_tree_of}
+use Rattle.ob0_scan.specs.TextWithTokens.{TextWithTokens, word_of_token}
+use Rattle.ob0_tree.specs.Module.{terminals_of_text}
+use Rattle.ob0_tree.specs.ParsedModule.{ParsedModule, IsParsed, named_tree_of}
 use Rattle.ob0_tree.specs.Tree.{Tree, module_text, nesting, spell}
-use Rattle.ob0_parse.specs.RefusedBy.{NoneBegins}
+use Rattle.ob0_parse.specs.IsRightParseRefusal.{NoModuleBegins}
 use Rattle.ob0_parse_descent.proofs.Unique.{same}
 
 -- A module with the tokens of a tree has that tree, so the tree is nested at most 100 deep.
-pub shallow_where_parsed : (s : Scanned) (t : Tree (List ℕ) module_text) → text_lexemes s ≡ spell t → (m : Parsed) → m.source ≡ s → IsParsed m → nesting t ≤ 100
+pub shallow_where_parsed : (s : TextWithTokens) (t : Tree (List ℕ) module_text) → terminals_of_text s ≡ spell t → (m : ParsedModule) → m.source ≡ s → IsParsed m → nesting t ≤ 100
 shallow_where_parsed s t spelled m source parsed =
-    let there : text_lexemes s ≡ spell (named_tree_of m) = ap text_lexemes (sym source) ∙ parsed.module_of.spelled in
+    let there : terminals_of_text s ≡ spell (named_tree_of m) = ap terminals_of_text (sym source) ∙ parsed.module_of.spelled in
     let one : named_tree_of m ≡ t = (same (named_tree_of m) t [] [] tt tt (append-nil (spell (named_tree_of m)) ∙ (sym there ∙ (spelled ∙ sym (append-nil (spell t)))))).0 in
     subst (λ (u : Tree (List ℕ) module_text). nesting u ≤ 100) one parsed.module_of.shallow
 
 -- If no module begins with the tree's tokens up to some token, the tree is nested deeper than 100.
-pub deep_where_refused : (s : Scanned) (t : Tree (List ℕ) module_text) → text_lexemes s ≡ spell t → (i : ℕ) → NoneBegins s i → nesting t ≤ 100 → ⊥
+pub deep_where_refused : (s : TextWithTokens) (t : Tree (List ℕ) module_text) → terminals_of_text s ≡ spell t → (i : ℕ) → NoModuleBegins s i → nesting t ≤ 100 → ⊥
 deep_where_refused s t spelled i none low =
-    let all : List (Terminal (List ℕ)) = text_lexemes s ++ (EndOfText ∷ []) in
+    let all : List (Terminal (List ℕ)) = terminals_of_text s ++ (EndOfText ∷ []) in
     none t (drop (i + 1) all) low (ap (λ xs. xs ++ (EndOfText ∷ [])) (sym spelled) ∙ sym (take-append-drop (i + 1) all))
 
 pub shallow_is : (n : ℕ) → n ≤ 100 → true ≡ nat_le n 100
@@ -49,5 +49,5 @@ held (Some xs) = xs
 pub same_bytes : (a b : List ℕ) (made : Option (List ℕ)) → IsUtf8 a → IsUtf8 b → made ≡ Some (chars a) → made ≡ Some (chars b) → a ≡ b
 same_bytes a b made u v e f = sym (encodes-chars a u) ∙ (ap encode_utf8_all (ap held (sym e ∙ f)) ∙ encodes-chars b v)
 
-pub lexemes_of_words : (s : Scanned) → text_lexemes s ≡ map word_lexeme (words_of s)
-lexemes_of_words s = sym (map-map word_lexeme (read_in s.text) s.tokens)
+pub lexemes_of_words : (s : TextWithTokens) → terminals_of_text s ≡ map word_lexeme (words_of s)
+lexemes_of_words s = sym (map-map word_lexeme (word_of_token s.text) s.tokens)

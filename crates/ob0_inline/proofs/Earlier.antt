@@ -2,14 +2,14 @@
 -- ordinal after the part.
 use Rattle.std.proofs.Common.{ℕ, suc, ◌<◌, ◌≤◌, true, false, Option, Some, None, List, [], ◌∷◌, ◌++◌, map, sym, subst, arith}
 use Rattle.ob0_tree.specs.Tree.{Sort, Tree, block, constant, constants, declares, declares_constant, declares_constants, declares_procedure, declares_type, declares_types, declares_variable, declares_variables, end, formals, further_section, has_body, item, items, maybe, more, none, occurrences, one, procedure, section, some_formals, then_section, type_name, type_names, value_section, variable, variable_section, variables}
-use Rattle.ob0_language_names.specs.Names.{Name, as_names, same_name}
-use Rattle.ob0_language_names.specs.Parts.{constant_names, formal_names, formal_sections, named_types, names_listed, procedure_name, section_constants, section_names, section_types, section_variables, variable_names}
-use Rattle.ob0_language_names.specs.Scopes.{Labels, Scope, after_block, after_names, after_procedure, after_procedures, body_scope, declare_names, declare_procedure_names, first_procedure, first_type, first_variable, label_of, ordinal_of, procedures_scope, relabel_block, relabel_constant_section, relabel_constants, relabel_formals, relabel_procedure, relabel_procedures, relabel_section, relabel_sections, relabel_type_section, relabel_types, relabel_uses, relabel_variable_section, relabel_variables, types_scope, variables_scope}
-use Rattle.ob0_language_names.proofs.OccurrenceNames.{occurrences-with_names}
-use Rattle.ob0_language_names.proofs.Ordinals.{after_names-append, le-after_block, le-after_names, le-after_procedure, le-after_procedures}
+use Rattle.ob0_language_names.specs.Names.{Name, naming_by_spelling, same_name}
+use Rattle.ob0_language_names.specs.Parts.{constant_names, formal_names, formal_sections, declared_type_names, names_in_list, procedure_name, section_constants, section_names, section_types, section_variables, variable_names}
+use Rattle.ob0_language_names.specs.Scopes.{Labelling, Scope, ordinal_after_block, ordinal_after_names, ordinal_after_procedure, ordinal_after_procedures, body_scope, declare_names, declare_procedure_names, first_procedure_ordinal, first_type_ordinal, first_variable_ordinal, label_of, ordinal_of, procedures_scope, relabel_block, relabel_constant_section, relabel_constants, relabel_formals, relabel_procedure, relabel_procedures, relabel_section, relabel_sections, relabel_type_section, relabel_types, relabel_uses, relabel_variable_section, relabel_variables, types_scope, variables_scope}
+use Rattle.ob0_language_names.proofs.OccurrenceNames.{occurrences-map_names}
+use Rattle.ob0_language_names.proofs.Ordinals.{ordinal_after_names-append, le-ordinal_after_block, le-ordinal_after_names, le-ordinal_after_procedure, le-ordinal_after_procedures}
 
 -- labels that have only ordinals, and no names
-abbrev pub forget : {N : Type 0} → Labels N (Option ℕ)
+abbrev pub forget : {N : Type 0} → Labelling N (Option ℕ)
 forget ordinal x = ordinal
 
 abbrev pub IsLow : ℕ → Option ℕ → Type 0
@@ -40,136 +40,136 @@ pub low_append : (n : ℕ) (xs ys : List (Option ℕ)) → AllLow n xs → AllLo
 low_append n [] ys h g = g
 low_append n (x ∷ xs) ys h g = (h.0, low_append n xs ys h.1 g)
 
-ordinal_low : (n : ℕ) (scope : Scope Name) (x : Name) → ScopeLow n scope → IsLow n (ordinal_of as_names scope x)
+ordinal_low : (n : ℕ) (scope : Scope Name) (x : Name) → ScopeLow n scope → IsLow n (ordinal_of naming_by_spelling scope x)
 ordinal_low n [] x h = tt
 ordinal_low n (b ∷ scope) x h =
-    elim (same_name x b.0) as (λ v. IsLow n (elim v [ true ↦ Some b.1 | false ↦ ordinal_of as_names scope x ])) [ true ↦ h.0 | false ↦ ordinal_low n scope x h.1 ]
+    elim (same_name x b.0) as (λ v. IsLow n (elim v [ true ↦ Some b.1 | false ↦ ordinal_of naming_by_spelling scope x ])) [ true ↦ h.0 | false ↦ ordinal_low n scope x h.1 ]
 
-names_low : (n : ℕ) (scope : Scope Name) (xs : List Name) → ScopeLow n scope → AllLow n (map (label_of as_names forget scope) xs)
+names_low : (n : ℕ) (scope : Scope Name) (xs : List Name) → ScopeLow n scope → AllLow n (map (label_of naming_by_spelling forget scope) xs)
 names_low n scope [] h = tt
 names_low n scope (x ∷ xs) h = (ordinal_low n scope x h, names_low n scope xs h)
 
-pub uses_low : {s : Sort} (n : ℕ) (scope : Scope Name) (t : Tree Name s) → ScopeLow n scope → AllLow n (occurrences (relabel_uses as_names forget scope t))
-uses_low n scope t h = subst (AllLow n) (sym (occurrences-with_names (label_of as_names forget scope) (forget None) t)) (names_low n scope (occurrences t) h)
+pub uses_low : {s : Sort} (n : ℕ) (scope : Scope Name) (t : Tree Name s) → ScopeLow n scope → AllLow n (occurrences (relabel_uses naming_by_spelling forget scope t))
+uses_low n scope t h = subst (AllLow n) (sym (occurrences-map_names (label_of naming_by_spelling forget scope) (forget None) t)) (names_low n scope (occurrences t) h)
 
-pub declared_low : (k : ℕ) (xs : List Name) (scope : Scope Name) → ScopeLow k scope → ScopeLow (after_names k xs) (declare_names k xs scope)
+pub declared_low : (k : ℕ) (xs : List Name) (scope : Scope Name) → ScopeLow k scope → ScopeLow (ordinal_after_names k xs) (declare_names k xs scope)
 declared_low k [] scope h = h
 declared_low k (x ∷ xs) scope h = declared_low (suc k) xs ((x, k) ∷ scope) (omega arith, scope_raised k (suc k) scope (omega arith) h)
 
-pub constants_low : (scope : Scope Name) (k : ℕ) (cs : Tree Name (items constant)) → ScopeLow k scope → AllLow (after_names k (constant_names cs)) (occurrences (relabel_constants as_names forget scope k cs))
+pub constants_low : (scope : Scope Name) (k : ℕ) (cs : Tree Name (items constant)) → ScopeLow k scope → AllLow (ordinal_after_names k (constant_names cs)) (occurrences (relabel_constants naming_by_spelling forget scope k cs))
 constants_low scope k end h = tt
 constants_low scope k (more (declares_constant x e) cs) h =
-    let up = le-after_names (suc k) (constant_names cs) in
-    low_append (after_names (suc k) (constant_names cs)) (occurrences (relabel_uses as_names forget scope e)) (occurrences (relabel_constants as_names forget ((x, k) ∷ scope) (suc k) cs))
-    (raised k (after_names (suc k) (constant_names cs)) (occurrences (relabel_uses as_names forget scope e)) (omega (arith, up)) (uses_low k scope e h))
+    let up = le-ordinal_after_names (suc k) (constant_names cs) in
+    low_append (ordinal_after_names (suc k) (constant_names cs)) (occurrences (relabel_uses naming_by_spelling forget scope e)) (occurrences (relabel_constants naming_by_spelling forget ((x, k) ∷ scope) (suc k) cs))
+    (raised k (ordinal_after_names (suc k) (constant_names cs)) (occurrences (relabel_uses naming_by_spelling forget scope e)) (omega (arith, up)) (uses_low k scope e h))
     (constants_low ((x, k) ∷ scope) (suc k) cs (omega arith, scope_raised k (suc k) scope (omega arith) h))
 
-pub types_low : (scope : Scope Name) (k : ℕ) (ts : Tree Name (items type_name)) → ScopeLow k scope → AllLow (after_names k (named_types ts)) (occurrences (relabel_types as_names forget scope k ts))
+pub types_low : (scope : Scope Name) (k : ℕ) (ts : Tree Name (items type_name)) → ScopeLow k scope → AllLow (ordinal_after_names k (declared_type_names ts)) (occurrences (relabel_types naming_by_spelling forget scope k ts))
 types_low scope k end h = tt
 types_low scope k (more (declares_type x t) ts) h =
-    let up = le-after_names (suc k) (named_types ts) in
-    low_append (after_names (suc k) (named_types ts)) (occurrences (relabel_uses as_names forget scope t)) (occurrences (relabel_types as_names forget ((x, k) ∷ scope) (suc k) ts))
-    (raised k (after_names (suc k) (named_types ts)) (occurrences (relabel_uses as_names forget scope t)) (omega (arith, up)) (uses_low k scope t h))
+    let up = le-ordinal_after_names (suc k) (declared_type_names ts) in
+    low_append (ordinal_after_names (suc k) (declared_type_names ts)) (occurrences (relabel_uses naming_by_spelling forget scope t)) (occurrences (relabel_types naming_by_spelling forget ((x, k) ∷ scope) (suc k) ts))
+    (raised k (ordinal_after_names (suc k) (declared_type_names ts)) (occurrences (relabel_uses naming_by_spelling forget scope t)) (omega (arith, up)) (uses_low k scope t h))
     (types_low ((x, k) ∷ scope) (suc k) ts (omega arith, scope_raised k (suc k) scope (omega arith) h))
 
-pub variables_low : (scope : Scope Name) (k : ℕ) (gs : Tree Name (items variable)) → ScopeLow k scope → AllLow (after_names k (variable_names gs)) (occurrences (relabel_variables as_names forget scope k gs))
+pub variables_low : (scope : Scope Name) (k : ℕ) (gs : Tree Name (items variable)) → ScopeLow k scope → AllLow (ordinal_after_names k (variable_names gs)) (occurrences (relabel_variables naming_by_spelling forget scope k gs))
 variables_low scope k end h = tt
 variables_low scope k (more (declares_variable ns t) gs) h =
-    let xs = names_listed ns in
-    let n = after_names k xs in
-    let last = after_names n (variable_names gs) in
-    let up1 = le-after_names k xs in
-    let up2 = le-after_names n (variable_names gs) in
-    subst (λ m. AllLow m (occurrences (relabel_variables as_names forget scope k (more (declares_variable ns t) gs)))) (sym (after_names-append k xs (variable_names gs)))
-    (low_append last (occurrences (relabel_uses as_names forget scope t)) (occurrences (relabel_variables as_names forget (declare_names k xs scope) n gs))
-    (raised k last (occurrences (relabel_uses as_names forget scope t)) (omega (arith, up1, up2)) (uses_low k scope t h))
+    let xs = names_in_list ns in
+    let n = ordinal_after_names k xs in
+    let last = ordinal_after_names n (variable_names gs) in
+    let up1 = le-ordinal_after_names k xs in
+    let up2 = le-ordinal_after_names n (variable_names gs) in
+    subst (λ m. AllLow m (occurrences (relabel_variables naming_by_spelling forget scope k (more (declares_variable ns t) gs)))) (sym (ordinal_after_names-append k xs (variable_names gs)))
+    (low_append last (occurrences (relabel_uses naming_by_spelling forget scope t)) (occurrences (relabel_variables naming_by_spelling forget (declare_names k xs scope) n gs))
+    (raised k last (occurrences (relabel_uses naming_by_spelling forget scope t)) (omega (arith, up1, up2)) (uses_low k scope t h))
     (variables_low (declare_names k xs scope) n gs (declared_low k xs scope h)))
 
-section_low : (scope : Scope Name) (k j : ℕ) (s : Tree Name section) → ScopeLow k scope → AllLow k (occurrences (relabel_section as_names forget scope j s))
+section_low : (scope : Scope Name) (k j : ℕ) (s : Tree Name section) → ScopeLow k scope → AllLow k (occurrences (relabel_section naming_by_spelling forget scope j s))
 section_low scope k j (value_section ns t) h = uses_low k scope t h
 section_low scope k j (variable_section ns t) h = uses_low k scope t h
 
-pub sections_low : (scope : Scope Name) (k : ℕ) (fs : Tree Name (items further_section)) → ScopeLow k scope → AllLow (after_names k (formal_names fs)) (occurrences (relabel_sections as_names forget scope k fs))
+pub sections_low : (scope : Scope Name) (k : ℕ) (fs : Tree Name (items further_section)) → ScopeLow k scope → AllLow (ordinal_after_names k (formal_names fs)) (occurrences (relabel_sections naming_by_spelling forget scope k fs))
 sections_low scope k end h = tt
 sections_low scope k (more (then_section s) fs) h =
     let xs = section_names s in
-    let n = after_names k xs in
-    let last = after_names n (formal_names fs) in
-    let up1 = le-after_names k xs in
-    let up2 = le-after_names n (formal_names fs) in
-    subst (λ m. AllLow m (occurrences (relabel_sections as_names forget scope k (more (then_section s) fs)))) (sym (after_names-append k xs (formal_names fs)))
-    (low_append last (occurrences (relabel_section as_names forget scope k s)) (occurrences (relabel_sections as_names forget (declare_names k xs scope) n fs))
-    (raised k last (occurrences (relabel_section as_names forget scope k s)) (omega (arith, up1, up2)) (section_low scope k k s h))
+    let n = ordinal_after_names k xs in
+    let last = ordinal_after_names n (formal_names fs) in
+    let up1 = le-ordinal_after_names k xs in
+    let up2 = le-ordinal_after_names n (formal_names fs) in
+    subst (λ m. AllLow m (occurrences (relabel_sections naming_by_spelling forget scope k (more (then_section s) fs)))) (sym (ordinal_after_names-append k xs (formal_names fs)))
+    (low_append last (occurrences (relabel_section naming_by_spelling forget scope k s)) (occurrences (relabel_sections naming_by_spelling forget (declare_names k xs scope) n fs))
+    (raised k last (occurrences (relabel_section naming_by_spelling forget scope k s)) (omega (arith, up1, up2)) (section_low scope k k s h))
     (sections_low (declare_names k xs scope) n fs (declared_low k xs scope h)))
 
-pub formals_low : (scope : Scope Name) (k : ℕ) (fs : Tree Name (maybe formals)) → ScopeLow k scope → AllLow (after_names k (formal_names (formal_sections fs))) (occurrences (relabel_formals as_names forget scope k fs))
+pub formals_low : (scope : Scope Name) (k : ℕ) (fs : Tree Name (maybe formals)) → ScopeLow k scope → AllLow (ordinal_after_names k (formal_names (formal_sections fs))) (occurrences (relabel_formals naming_by_spelling forget scope k fs))
 formals_low scope k (one (some_formals s fs)) h = sections_low scope k (more (then_section s) fs) h
 formals_low scope k _ h = tt
 
-pub constant_section_low : (scope : Scope Name) (k : ℕ) (cs : Tree Name (maybe constants)) → ScopeLow k scope → AllLow (after_names k (constant_names (section_constants cs))) (occurrences (relabel_constant_section as_names forget scope k cs))
+pub constant_section_low : (scope : Scope Name) (k : ℕ) (cs : Tree Name (maybe constants)) → ScopeLow k scope → AllLow (ordinal_after_names k (constant_names (section_constants cs))) (occurrences (relabel_constant_section naming_by_spelling forget scope k cs))
 constant_section_low scope k none h = tt
 constant_section_low scope k (one (declares_constants cs)) h = constants_low scope k cs h
 
-pub type_section_low : (scope : Scope Name) (k : ℕ) (ts : Tree Name (maybe type_names)) → ScopeLow k scope → AllLow (after_names k (named_types (section_types ts))) (occurrences (relabel_type_section as_names forget scope k ts))
+pub type_section_low : (scope : Scope Name) (k : ℕ) (ts : Tree Name (maybe type_names)) → ScopeLow k scope → AllLow (ordinal_after_names k (declared_type_names (section_types ts))) (occurrences (relabel_type_section naming_by_spelling forget scope k ts))
 type_section_low scope k none h = tt
 type_section_low scope k (one (declares_types ts)) h = types_low scope k ts h
 
-pub variable_section_low : (scope : Scope Name) (k : ℕ) (vs : Tree Name (maybe variables)) → ScopeLow k scope → AllLow (after_names k (variable_names (section_variables vs))) (occurrences (relabel_variable_section as_names forget scope k vs))
+pub variable_section_low : (scope : Scope Name) (k : ℕ) (vs : Tree Name (maybe variables)) → ScopeLow k scope → AllLow (ordinal_after_names k (variable_names (section_variables vs))) (occurrences (relabel_variable_section naming_by_spelling forget scope k vs))
 variable_section_low scope k none h = tt
 variable_section_low scope k (one (declares_variables vs)) h = variables_low scope k vs h
 
-pub procedures_below : (k : ℕ) (ps : Tree Name (items procedure)) (scope : Scope Name) → ScopeLow k scope → ScopeLow (after_procedures k ps) (declare_procedure_names k ps scope)
+pub procedures_below : (k : ℕ) (ps : Tree Name (items procedure)) (scope : Scope Name) → ScopeLow k scope → ScopeLow (ordinal_after_procedures k ps) (declare_procedure_names k ps scope)
 procedures_below k end scope h = h
 procedures_below k (more p rest) scope h =
-    let up = le-after_procedure (suc k) p in
-    procedures_below (after_procedure (suc k) p) rest ((procedure_name p, k) ∷ scope) (omega (arith, up), scope_raised k (after_procedure (suc k) p) scope (omega (arith, up)) h)
+    let up = le-ordinal_after_procedure (suc k) p in
+    procedures_below (ordinal_after_procedure (suc k) p) rest ((procedure_name p, k) ∷ scope) (omega (arith, up), scope_raised k (ordinal_after_procedure (suc k) p) scope (omega (arith, up)) h)
 
 mutual
-  pub block_low : (scope : Scope Name) (k : ℕ) (b : Tree Name block) → ScopeLow k scope → AllLow (after_block k b) (occurrences (relabel_block as_names forget scope k b))
+  pub block_low : (scope : Scope Name) (k : ℕ) (b : Tree Name block) → ScopeLow k scope → AllLow (ordinal_after_block k b) (occurrences (relabel_block naming_by_spelling forget scope k b))
   block_low scope k (has_body (declares cs ts vs ps) statements) h =
       let b : Tree Name block = has_body (declares cs ts vs ps) statements in
       let xs = constant_names (section_constants cs) in
-      let ys = named_types (section_types ts) in
+      let ys = declared_type_names (section_types ts) in
       let zs = variable_names (section_variables vs) in
-      let n = after_block k b in
+      let n = ordinal_after_block k b in
       let h1 = declared_low k xs scope h in
-      let h2 = declared_low (after_names k xs) ys (types_scope k b scope) h1 in
-      let h3 = declared_low (after_names (after_names k xs) ys) zs (variables_scope k b scope) h2 in
-      let h4 = procedures_below (first_procedure k b) ps (procedures_scope k b scope) h3 in
-      let up2 = le-after_names (after_names k xs) ys in
-      let up3 = le-after_names (after_names (after_names k xs) ys) zs in
-      let up4 = le-after_procedures (first_procedure k b) ps in
-      let lc = occurrences (relabel_constant_section as_names forget scope k cs) in
-      let lt = occurrences (relabel_type_section as_names forget (types_scope k b scope) (first_type k b) ts) in
-      let lv = occurrences (relabel_variable_section as_names forget (variables_scope k b scope) (first_variable k b) vs) in
-      let lp = occurrences (relabel_procedures as_names forget (procedures_scope k b scope) (first_procedure k b) ps) in
-      low_append n (lc ++ (lt ++ (lv ++ lp))) (occurrences (relabel_uses as_names forget (body_scope k b scope) statements))
-      (low_append n lc (lt ++ (lv ++ lp)) (raised (after_names k xs) n lc (omega (arith, up2, up3, up4)) (constant_section_low scope k cs h))
-      (low_append n lt (lv ++ lp) (raised (after_names (after_names k xs) ys) n lt (omega (arith, up3, up4)) (type_section_low (types_scope k b scope) (first_type k b) ts h1))
-      (low_append n lv lp (raised (first_procedure k b) n lv (omega (arith, up4)) (variable_section_low (variables_scope k b scope) (first_variable k b) vs h2))
-      (procedures_low (procedures_scope k b scope) (first_procedure k b) ps h3))))
+      let h2 = declared_low (ordinal_after_names k xs) ys (types_scope k b scope) h1 in
+      let h3 = declared_low (ordinal_after_names (ordinal_after_names k xs) ys) zs (variables_scope k b scope) h2 in
+      let h4 = procedures_below (first_procedure_ordinal k b) ps (procedures_scope k b scope) h3 in
+      let up2 = le-ordinal_after_names (ordinal_after_names k xs) ys in
+      let up3 = le-ordinal_after_names (ordinal_after_names (ordinal_after_names k xs) ys) zs in
+      let up4 = le-ordinal_after_procedures (first_procedure_ordinal k b) ps in
+      let lc = occurrences (relabel_constant_section naming_by_spelling forget scope k cs) in
+      let lt = occurrences (relabel_type_section naming_by_spelling forget (types_scope k b scope) (first_type_ordinal k b) ts) in
+      let lv = occurrences (relabel_variable_section naming_by_spelling forget (variables_scope k b scope) (first_variable_ordinal k b) vs) in
+      let lp = occurrences (relabel_procedures naming_by_spelling forget (procedures_scope k b scope) (first_procedure_ordinal k b) ps) in
+      low_append n (lc ++ (lt ++ (lv ++ lp))) (occurrences (relabel_uses naming_by_spelling forget (body_scope k b scope) statements))
+      (low_append n lc (lt ++ (lv ++ lp)) (raised (ordinal_after_names k xs) n lc (omega (arith, up2, up3, up4)) (constant_section_low scope k cs h))
+      (low_append n lt (lv ++ lp) (raised (ordinal_after_names (ordinal_after_names k xs) ys) n lt (omega (arith, up3, up4)) (type_section_low (types_scope k b scope) (first_type_ordinal k b) ts h1))
+      (low_append n lv lp (raised (first_procedure_ordinal k b) n lv (omega (arith, up4)) (variable_section_low (variables_scope k b scope) (first_variable_ordinal k b) vs h2))
+      (procedures_low (procedures_scope k b scope) (first_procedure_ordinal k b) ps h3))))
       (uses_low n (body_scope k b scope) statements h4)
 
-  pub procedures_low : (scope : Scope Name) (k : ℕ) (ps : Tree Name (items procedure)) → ScopeLow k scope → AllLow (after_procedures k ps) (occurrences (relabel_procedures as_names forget scope k ps))
+  pub procedures_low : (scope : Scope Name) (k : ℕ) (ps : Tree Name (items procedure)) → ScopeLow k scope → AllLow (ordinal_after_procedures k ps) (occurrences (relabel_procedures naming_by_spelling forget scope k ps))
   procedures_low scope k end h = tt
   procedures_low scope k (more p rest) h =
-      let n = after_procedure (suc k) p in
-      let last = after_procedures n rest in
-      let up = le-after_procedure (suc k) p in
-      let up2 = le-after_procedures n rest in
-      let lp = occurrences (relabel_procedure as_names forget scope k p) in
-      low_append last lp (occurrences (relabel_procedures as_names forget ((procedure_name p, k) ∷ scope) n rest))
+      let n = ordinal_after_procedure (suc k) p in
+      let last = ordinal_after_procedures n rest in
+      let up = le-ordinal_after_procedure (suc k) p in
+      let up2 = le-ordinal_after_procedures n rest in
+      let lp = occurrences (relabel_procedure naming_by_spelling forget scope k p) in
+      low_append last lp (occurrences (relabel_procedures naming_by_spelling forget ((procedure_name p, k) ∷ scope) n rest))
       (raised n last lp up2 (procedure_low scope k p h))
       (procedures_low ((procedure_name p, k) ∷ scope) n rest (omega (arith, up), scope_raised k n scope (omega (arith, up)) h))
 
-  pub procedure_low : (scope : Scope Name) (k : ℕ) (p : Tree Name (item procedure)) → ScopeLow k scope → AllLow (after_procedure (suc k) p) (occurrences (relabel_procedure as_names forget scope k p))
+  pub procedure_low : (scope : Scope Name) (k : ℕ) (p : Tree Name (item procedure)) → ScopeLow k scope → AllLow (ordinal_after_procedure (suc k) p) (occurrences (relabel_procedure naming_by_spelling forget scope k p))
   procedure_low scope k (declares_procedure x fs b closing) h =
       let xs = formal_names (formal_sections fs) in
-      let n = after_names (suc k) xs in
-      let last = after_block n b in
+      let n = ordinal_after_names (suc k) xs in
+      let last = ordinal_after_block n b in
       let h1 = scope_raised k (suc k) scope (omega arith) h in
       let h2 = declared_low (suc k) xs ((x, k) ∷ scope) (omega arith, h1) in
-      let lf = occurrences (relabel_formals as_names forget scope (suc k) fs) in
-      low_append last lf (occurrences (relabel_block as_names forget (declare_names (suc k) xs ((x, k) ∷ scope)) n b))
-      (raised n last lf (le-after_block n b) (formals_low scope (suc k) fs h1))
+      let lf = occurrences (relabel_formals naming_by_spelling forget scope (suc k) fs) in
+      low_append last lf (occurrences (relabel_block naming_by_spelling forget (declare_names (suc k) xs ((x, k) ∷ scope)) n b))
+      (raised n last lf (le-ordinal_after_block n b) (formals_low scope (suc k) fs h1))
       (block_low (declare_names (suc k) xs ((x, k) ∷ scope)) n b h2)

@@ -9,25 +9,25 @@ use Rattle.ob0_scan.specs.declared.lexeme.Symbol.TheVariants as symbol
 use Rattle.ob0_scan.specs.declared.lexeme.Token.{Token}
 use Rattle.ob0_scan.specs.declared.lexeme.TokenKind.{TokenKind}
 use Rattle.ob0_scan.specs.declared.lexeme.TokenKind.TheVariants as kind
-use Rattle.ob0_scan.specs.Scanned.{Scanned, read_in}
+use Rattle.ob0_scan.specs.TextWithTokens.{TextWithTokens, word_of_token}
 use Rattle.ob0_tree.specs.declared.tree.Role.TheVariants as role
 use Rattle.ob0_tree.specs.Lexeme.{Terminal, Mark}
 use Rattle.ob0_tree.specs.Lexeme as lexeme
-use Rattle.ob0_tree.specs.Parsed.{Parsed, named_tree_of, tree_of}
-use Rattle.ob0_tree.specs.Places.{lexeme_of}
+use Rattle.ob0_tree.specs.ParsedModule.{ParsedModule, named_tree_of, tree_of}
+use Rattle.ob0_tree.specs.Places.{index_terminal}
 use Rattle.ob0_tree.specs.Places as leaf
 use Rattle.ob0_tree.specs.Tree.{identifiers, occurrences, spell}
-use Rattle.ob0_edits_tokens.specs.Changed.{at_each, changed_words, words_of}
-use Rattle.ob0_edits_tokens.specs.OfTrees.{numbered_tokens}
-use Rattle.ob0_edits_tokens.specs.Removed.{IsDeclaration, without_words}
-use Rattle.ob0_edits_tokens.specs.Replaced.{AreNames}
+use Rattle.ob0_edits_tokens.specs.Changed.{changes_at, changed_words, words_of}
+use Rattle.ob0_edits_tokens.specs.OfTrees.{indexed_tokens}
+use Rattle.ob0_edits_tokens.specs.Removed.{IsDeclaration, changes_with_removal}
+use Rattle.ob0_edits_tokens.specs.Replaced.{AreIdentifierIndexes}
 use Rattle.ob0_edits_tokens.specs.Words.{word_lexeme}
-use Rattle.ob0_language_names.specs.Names.{Label, Name, as_names, declared, same_label}
+use Rattle.ob0_language_names.specs.Names.{Label, Name, naming_by_spelling, declared, same_label}
 use Rattle.ob0_language_names.specs.Occurrences.{bindings}
 use Rattle.ob0_language_names.specs.Parts.{module_block}
 use Rattle.ob0_language_types.proofs.Literals.{some_inverse}
-use Rattle.ob0_scope_table.specs.Resolution.{IsResolution, Resolution, declaring_only, label_at, ordinal_in, token_declaring}
-use Rattle.ob0_language_names.specs.Scopes.{as_label, same_ordinal}
+use Rattle.ob0_scope_table.specs.Resolution.{IsResolution, Resolution, declaring_names, label_at, ordinal_in, declaration_token}
+use Rattle.ob0_language_names.specs.Scopes.{label_from_ordinal, same_ordinal}
 use Rattle.ob0_scope_table.proofs.Bound.{bindings_by_table}
 use Rattle.ob0_language_names.proofs.OccurrenceNames.{length-map}
 use Rattle.ob0_language_names.proofs.Peeling.{heads}
@@ -36,21 +36,21 @@ use Rattle.ob0_language_values.specs.Scalars.{scalar_value}
 use Rattle.ob0_language_values.specs.Values.{Value}
 use Rattle.ob0_inline.specs.declared.constants.NamedConstant.{NamedConstant}
 use Rattle.ob0_inline.specs.Declarations.{is_semicolon}
-use Rattle.ob0_inline.specs.Everywhere.{IsConstant, IsAlone, inlined_all, uses_of}
+use Rattle.ob0_inline.specs.Everywhere.{IsConstant, UsesAreFactors, tree_inlined_everywhere, uses_of}
 use Rattle.ob0_inline.specs.Values.{value_factor, value_words}
 use Rattle.ob0_inline.proofs.EverywhereAt.{bound_tokens, late_here, uses_are_names, words_everywhere}
 use Rattle.ob0_inline.proofs.ModuleTexts.{spelled_by_words, value_spelled}
 use Rattle.ob0_scope_table.proofs.Declared.{module_declared, names_in}
 use Rattle.ob0_inline.proofs.TakenOut.{NoEnd, Taken, gone_module}
-use Rattle.ob0_inline.proofs.WordsLeft.{first_token, is_declaration, last_token, mark_kind, name_is_first}
+use Rattle.ob0_inline.proofs.WordsLeft.{first_bound_token, is_declaration, last_token, mark_kind, name_is_first}
 
 -- Finds the uses by the table of ordinals.
 
-label_same : (o : Option ℕ) (x : Name) (d : ℕ) → same_label (as_label as_names o x) (declared d) ≡ same_ordinal o d
+label_same : (o : Option ℕ) (x : Name) (d : ℕ) → same_label (label_from_ordinal naming_by_spelling o x) (declared d) ≡ same_ordinal o d
 label_same None x d = refl
 label_same (Some k) x d = refl
 
-uses_kept : (source : Scanned) (ordinals : List (Option ℕ)) (d : ℕ) (is : List ℕ)
+uses_kept : (source : TextWithTokens) (ordinals : List (Option ℕ)) (d : ℕ) (is : List ℕ)
     → map (λ (u : ℕ × Label). u.0) (filter (λ u. same_label u.1 (declared d)) (zip is (map (label_at source ordinals) is))) ≡ bound_tokens ordinals d is
 uses_kept source ordinals d [] = refl
 uses_kept source ordinals d (i ∷ is) =
@@ -78,7 +78,7 @@ as_many_bindings r is =
 
 -- Finds the first `;` among tokens.
 
-not_end : (k : ℕ) (q : TokenKind) (x : Terminal ℕ) (xs : List (Terminal ℕ)) → lexeme_of k q ≡ x → NoEnd (x ∷ xs) → is_semicolon q ≡ false
+not_end : (k : ℕ) (q : TokenKind) (x : Terminal ℕ) (xs : List (Terminal ℕ)) → index_terminal k q ≡ x → NoEnd (x ∷ xs) → is_semicolon q ≡ false
 not_end k (kind.Symbol s) x xs e n = (subst (λ y. NoEnd (y ∷ xs)) (sym e) n).0
 not_end k _ x xs e n = refl
 
@@ -86,7 +86,7 @@ others_no_end : (x : Terminal ℕ) (xs : List (Terminal ℕ)) → NoEnd (x ∷ x
 others_no_end (Mark k) xs n = n.1
 others_no_end _ xs n = n
 
-first_end : (text : List ℕ) (k j : ℕ) (ts : List Token) (xs ys : List (Terminal ℕ)) → numbered_tokens k (map (read_in text) ts) ≡ xs ++ (Mark (kind.Symbol symbol.Semicolon) ∷ ys) → NoEnd xs
+first_end : (text : List ℕ) (k j : ℕ) (ts : List Token) (xs ys : List (Terminal ℕ)) → indexed_tokens k (map (word_of_token text) ts) ≡ xs ++ (Mark (kind.Symbol symbol.Semicolon) ∷ ys) → NoEnd xs
     → position_from (λ t. is_semicolon t.kind) j ts ≡ Some (j + length xs)
 first_end text k j [] [] ys e n = absurd (cc)
 first_end text k j [] (x ∷ xs) ys e n = absurd (cc)
@@ -98,11 +98,11 @@ first_end text k j (t ∷ ts) (x ∷ xs) ys e n =
     ∙ (first_end text (suc k) (j + 1) ts xs ys (heads e).1 (others_no_end x xs n) ∙ ap Some (let z : j + 1 + length xs ≡ j + suc (length xs) = omega arith in z))
 
 -- Dropping the tokens of a prefix leaves the tokens of the rest.
-following_front : (text : List ℕ) (k : ℕ) (ts : List Token) (front rest : List (Terminal ℕ)) → numbered_tokens k (map (read_in text) ts) ≡ front ++ rest → numbered_tokens (k + length front) (map (read_in text) (drop (length front) ts)) ≡ rest
-following_front text k ts [] rest e = ap (λ n. numbered_tokens n (map (read_in text) ts)) (let z : k + 0 ≡ k = omega arith in z) ∙ e
+following_front : (text : List ℕ) (k : ℕ) (ts : List Token) (front rest : List (Terminal ℕ)) → indexed_tokens k (map (word_of_token text) ts) ≡ front ++ rest → indexed_tokens (k + length front) (map (word_of_token text) (drop (length front) ts)) ≡ rest
+following_front text k ts [] rest e = ap (λ n. indexed_tokens n (map (word_of_token text) ts)) (let z : k + 0 ≡ k = omega arith in z) ∙ e
 following_front text k [] (x ∷ front) rest e = absurd (cc)
 following_front text k (t ∷ ts) (x ∷ front) rest e =
-    ap (λ n. numbered_tokens n (map (read_in text) (drop (length front) ts))) (let z : k + suc (length front) ≡ suc k + length front = omega arith in z)
+    ap (λ n. indexed_tokens n (map (word_of_token text) (drop (length front) ts))) (let z : k + suc (length front) ≡ suc k + length front = omega arith in z)
     ∙ following_front text (suc k) ts front rest (heads e).1
 
 pub none_some : (n : ℕ) → None ≡ Some n → ⊥
@@ -110,18 +110,18 @@ none_some n e = cc
 
 -- the tokens of the declaration with an ordinal
 
-token_of : (labels : List ℕ) (d place : ℕ) → d ≡ 7 + place → token_declaring labels d ≡ slice_get labels place
+token_of : (labels : List ℕ) (d place : ℕ) → d ≡ 7 + place → declaration_token labels d ≡ slice_get labels place
 token_of labels d place e =
     ap (λ b. if b then None else slice_get labels (d - 7)) (le-ltb d 7 (omega (arith, e))) ∙ ap (slice_get labels) (let z : d - 7 ≡ place = omega (arith, e) in z)
 
-module _ (m : Parsed) (d : ℕ) (left : List (Terminal ℕ)) (t : Taken d 7 (names_in (module_block (tree_of m))) (numbered_tokens 0 (words_of m.source)) left) where
-  pub begins_there : token_declaring (declaring_only (identifiers role.Declaring (tree_of m))) d ≡ Some (first_token t)
+module _ (m : ParsedModule) (d : ℕ) (left : List (Terminal ℕ)) (t : Taken d 7 (names_in (module_block (tree_of m))) (indexed_tokens 0 (words_of m.source)) left) where
+  pub begins_there : declaration_token (declaring_names (identifiers role.Declaring (tree_of m))) d ≡ Some (first_bound_token t)
   begins_there =
       let labels = names_in (module_block (tree_of m)) in
-      ap (λ (xs : List ℕ). token_declaring xs d) (module_declared (tree_of m))
+      ap (λ (xs : List ℕ). declaration_token xs d) (module_declared (tree_of m))
       ∙ (token_of labels d t.place t.ordinal_is ∙ (t.named_there ∙ ap Some (name_is_first m.source d 7 labels left t)))
 
-  pub ends_there : position_from (λ x. is_semicolon x.kind) (first_token t) (drop (first_token t) m.source.tokens) ≡ Some (last_token t)
+  pub ends_there : position_from (λ x. is_semicolon x.kind) (first_bound_token t) (drop (first_bound_token t) m.source.tokens) ≡ Some (last_token t)
   ends_there =
       let front : List (Terminal ℕ) = t.before ++ (Mark t.border ∷ []) in
       let inner : List (Terminal ℕ) = lexeme.Name t.name ∷ Mark (kind.Symbol symbol.Equal) ∷ t.right in
@@ -129,43 +129,43 @@ module _ (m : Parsed) (d : ℕ) (left : List (Terminal ℕ)) (t : Taken d 7 (nam
       let there = following_front m.source.text 0 m.source.tokens front (declaration ++ t.after) t.whole_is in
       let regrouped : declaration ++ t.after ≡ inner ++ (Mark (kind.Symbol symbol.Semicolon) ∷ t.after) =
       ap (λ (l : List (Terminal ℕ)). lexeme.Name t.name ∷ Mark (kind.Symbol symbol.Equal) ∷ l) (append_assoc t.right (Mark (kind.Symbol symbol.Semicolon) ∷ []) t.after) in
-      first_end m.source.text (0 + length front) (first_token t) (drop (length front) m.source.tokens) inner t.after (there ∙ regrouped) (refl, t.no_end)
+      first_end m.source.text (0 + length front) (first_bound_token t) (drop (length front) m.source.tokens) inner t.after (there ∙ regrouped) (refl, t.no_end)
       ∙ ap Some (let z : length front + suc (suc (length t.right)) ≡ length front + (2 + length t.right) = omega arith in z)
 
 -- the facts about a constant whose declaration is removed
 
 module _ (r : Resolution) (is : IsResolution r) (d : ℕ) (w : Value) (has_value : value_of_constant (named_tree_of r.module_read) d ≡ Some w) where
-  abbrev spelled : spell (tree_of r.module_read) ≡ numbered_tokens 0 (words_of r.module_read.source)
+  abbrev spelled : spell (tree_of r.module_read) ≡ indexed_tokens 0 (words_of r.module_read.source)
   spelled = spelled_by_words r.module_read is.parsed
 
-  abbrev taken : Taken d 7 (names_in (module_block (tree_of r.module_read))) (numbered_tokens 0 (words_of r.module_read.source)) (spell (gone_module d (tree_of r.module_read)))
+  abbrev taken : Taken d 7 (names_in (module_block (tree_of r.module_read))) (indexed_tokens 0 (words_of r.module_read.source)) (spell (gone_module d (tree_of r.module_read)))
   taken = (late_here r is d w has_value spelled).taken
 
   abbrev pub name_token : ℕ
-  name_token = first_token taken
+  name_token = first_bound_token taken
 
   abbrev pub end_token : ℕ
   end_token = last_token taken
 
-  pub begins_at : token_declaring (declaring_only (identifiers role.Declaring (tree_of r.module_read))) d ≡ Some name_token
+  pub begins_at : declaration_token (declaring_names (identifiers role.Declaring (tree_of r.module_read))) d ≡ Some name_token
   begins_at = begins_there r.module_read d (spell (gone_module d (tree_of r.module_read))) taken
 
   pub ends_at : position_from (λ x. is_semicolon x.kind) name_token (drop name_token r.module_read.source.tokens) ≡ Some end_token
   ends_at = ends_there r.module_read d (spell (gone_module d (tree_of r.module_read))) taken
 
   -- The table of declarations has the declaring token.
-  pub token_known : token_declaring r.declarations d ≡ Some name_token
-  token_known = ap (λ (xs : List ℕ). token_declaring xs d) is.declaring ∙ begins_at
+  pub token_known : declaration_token r.declarations d ≡ Some name_token
+  token_known = ap (λ (xs : List ℕ). declaration_token xs d) is.declaring ∙ begins_at
 
-  pub end_known : (first : ℕ) → Some first ≡ token_declaring r.declarations d → position_from (λ x. is_semicolon x.kind) first (drop first r.module_read.source.tokens) ≡ Some end_token
+  pub end_known : (first : ℕ) → Some first ≡ declaration_token r.declarations d → position_from (λ x. is_semicolon x.kind) first (drop first r.module_read.source.tokens) ≡ Some end_token
   end_known first e = ap (λ n. position_from (λ (x : Token). is_semicolon x.kind) n (drop n r.module_read.source.tokens)) (some_inverse (e ∙ token_known)) ∙ ends_at
 
   pub declaration_at : IsDeclaration r.module_read.source.tokens name_token end_token
   declaration_at = is_declaration r.module_read.source d 7 (names_in (module_block (tree_of r.module_read))) (spell (gone_module d (tree_of r.module_read))) taken
 
-  pub names_at : AreNames r.module_read.source.tokens (suc end_token) (uses_of r.module_read d)
+  pub names_at : AreIdentifierIndexes r.module_read.source.tokens (suc end_token) (uses_of r.module_read d)
   names_at =
-      subst (AreNames r.module_read.source.tokens (suc end_token)) (uses_by_table r is d)
+      subst (AreIdentifierIndexes r.module_read.source.tokens (suc end_token)) (uses_by_table r is d)
       (uses_are_names r is d w has_value spelled declaration_at.inside)
 
 module _ (r : Resolution) (is : IsResolution r) (c : NamedConstant) (constant : IsConstant r.module_read c) where
@@ -183,12 +183,12 @@ module _ (r : Resolution) (is : IsResolution r) (c : NamedConstant) (constant : 
       (subst (IsDeclaration r.module_read.source.tokens (name_token r is c.ordinal (scalar_value c.value) constant.has_value)) last_is
       (declaration_at r is c.ordinal (scalar_value c.value) constant.has_value))
 
-  pub are_uses : AreNames r.module_read.source.tokens (suc c.last) (uses_of r.module_read c.ordinal)
-  are_uses = subst (λ n. AreNames r.module_read.source.tokens (suc n) (uses_of r.module_read c.ordinal)) last_is (names_at r is c.ordinal (scalar_value c.value) constant.has_value)
+  pub are_uses : AreIdentifierIndexes r.module_read.source.tokens (suc c.last) (uses_of r.module_read c.ordinal)
+  are_uses = subst (λ n. AreIdentifierIndexes r.module_read.source.tokens (suc n) (uses_of r.module_read c.ordinal)) last_is (names_at r is c.ordinal (scalar_value c.value) constant.has_value)
 
   -- The remaining words spell the inlined module.
-  pub left_spelled : IsAlone r.module_read c.ordinal
-      → map word_lexeme (changed_words (without_words c.first c.last (at_each (uses_of r.module_read c.ordinal) (value_words c.value))) 0 (words_of r.module_read.source)) ≡ spell (inlined_all r.module_read c)
+  pub left_spelled : UsesAreFactors r.module_read c.ordinal
+      → map word_lexeme (changed_words (changes_with_removal c.first c.last (changes_at (uses_of r.module_read c.ordinal) (value_words c.value))) 0 (words_of r.module_read.source)) ≡ spell (tree_inlined_everywhere r.module_read c)
   left_spelled alone =
       let m = r.module_read in
       let d = c.ordinal in
@@ -198,4 +198,4 @@ module _ (r : Resolution) (is : IsResolution r) (c : NamedConstant) (constant : 
       let last = end_token r is d w constant.has_value in
       let inside_it = (declaration_at r is d w constant.has_value).inside in
       let there = words_everywhere r is d w constant.has_value spelled (value_factor c.value) (value_words c.value) (value_spelled c.value) alone (uses_are_names r is d w constant.has_value spelled inside_it) in
-      (λ i. map word_lexeme (changed_words (without_words (sym first_is i) (sym last_is i) (at_each (sym (uses_by_table r is d) i) (value_words c.value))) 0 (words_of m.source))) ∙ there
+      (λ i. map word_lexeme (changed_words (changes_with_removal (sym first_is i) (sym last_is i) (changes_at (sym (uses_by_table r is d) i) (value_words c.value))) 0 (words_of m.source))) ∙ there

@@ -3,17 +3,17 @@
 use Rattle.std.proofs.Common.{◌≡◌, ℕ, zero, suc, ◌+◌, ◌<◌, ◌==◌, ◌||◌, ◌&&◌, Bool, true, false, cond, Option, Some, None, List, [], ◌∷◌, map, length, refl, sym, ap, ◌∙◌, arith, slice_get, eqb-true, eq-eqb}
 use Rattle.std.specs.List.{filter}
 use Rattle.ob0_scan.specs.declared.lexeme.Token.{Token}
-use Rattle.ob0_scan.specs.Scanned.{Word}
-use Rattle.ob0_tree.specs.Order.{AreIdentifiers, Ascending}
-use Rattle.ob0_tree.specs.Parsed.{named_tree_of, tree_of}
+use Rattle.ob0_scan.specs.TextWithTokens.{Word}
+use Rattle.ob0_tree.specs.Order.{AreIdentifierTokens, AreAscending}
+use Rattle.ob0_tree.specs.ParsedModule.{named_tree_of, tree_of}
 use Rattle.ob0_tree.specs.Tree.{Tree, factor, occurrences, spell}
 use Rattle.ob0_tree.proofs.Leaves.{ascending_lower}
-use Rattle.ob0_edits_tokens.specs.Changed.{at_each, changed_words, is_among, words_of}
-use Rattle.ob0_edits_tokens.specs.OfTrees.{numbered_tokens}
-use Rattle.ob0_edits_tokens.specs.Removed.{without_words}
-use Rattle.ob0_edits_tokens.specs.Replaced.{AreNames}
+use Rattle.ob0_edits_tokens.specs.Changed.{changes_at, changed_words, is_among, words_of}
+use Rattle.ob0_edits_tokens.specs.OfTrees.{indexed_tokens}
+use Rattle.ob0_edits_tokens.specs.Removed.{changes_with_removal}
+use Rattle.ob0_edits_tokens.specs.Replaced.{AreIdentifierIndexes}
 use Rattle.ob0_edits_tokens.specs.Words.{word_lexeme}
-use Rattle.ob0_language_names.specs.Inlining.{all_bound_to, inlined_everywhere}
+use Rattle.ob0_language_names.specs.Inlining.{occurrences_bound_to, inlined_everywhere}
 use Rattle.ob0_language_names.specs.Names.{Name}
 use Rattle.ob0_language_names.specs.Parts.{module_block}
 use Rattle.ob0_language_types.proofs.Leaves.{same_ordinal-true}
@@ -22,37 +22,37 @@ use Rattle.ob0_language_names.specs.Scopes.{same_ordinal}
 use Rattle.ob0_scope_table.proofs.Bound.{bound_at}
 use Rattle.ob0_language_types.specs.ConstantValues.{value_of_constant}
 use Rattle.ob0_language_values.specs.Values.{Value}
-use Rattle.ob0_inline.specs.Everywhere.{IsAlone}
+use Rattle.ob0_inline.specs.Everywhere.{UsesAreFactors}
 use Rattle.ob0_inline.proofs.UsesFollow.{late_of, uses_following}
 use Rattle.ob0_inline.proofs.Late.{Late}
 use Rattle.ob0_scope_table.proofs.Declared.{names_in}
 use Rattle.ob0_inline.proofs.TakenOut.{gone_module}
 use Rattle.ob0_inline.proofs.UsesAreIdentifiers.{AreBound, names_from, others_spelled, uses_are_identifiers, uses_ascend}
-use Rattle.ob0_inline.proofs.WordsLeft.{first_token, last_token, words_left}
+use Rattle.ob0_inline.proofs.WordsLeft.{first_bound_token, last_token, words_left}
 
 -- returns the tokens that are bound to d
 abbrev pub bound_tokens : List (Option ℕ) → ℕ → List ℕ → List ℕ
 bound_tokens ordinals d is = filter (λ i. same_ordinal (ordinal_in ordinals i) d) is
 
-bound_ascend : (ordinals : List (Option ℕ)) (d low high : ℕ) (is : List ℕ) → Ascending low is high → Ascending low (bound_tokens ordinals d is) high
+bound_ascend : (ordinals : List (Option ℕ)) (d low high : ℕ) (is : List ℕ) → AreAscending low is high → AreAscending low (bound_tokens ordinals d is) high
 bound_ascend ordinals d low high [] a = a
 bound_ascend ordinals d low high (i ∷ is) a =
-    elim (same_ordinal (ordinal_in ordinals i) d) as (λ b. Ascending low (cond b (i ∷ bound_tokens ordinals d is) (bound_tokens ordinals d is)) high)
+    elim (same_ordinal (ordinal_in ordinals i) d) as (λ b. AreAscending low (cond b (i ∷ bound_tokens ordinals d is) (bound_tokens ordinals d is)) high)
     [ true ↦ (a.0, bound_ascend ordinals d (i + 1) high is a.1) | false ↦ ascending_lower low (i + 1) (bound_tokens ordinals d is) high (omega (arith, a.0)) (bound_ascend ordinals d (i + 1) high is a.1) ]
 
-bound_are_identifiers : (ts : List Token) (ordinals : List (Option ℕ)) (d : ℕ) (is : List ℕ) → AreIdentifiers ts is → AreIdentifiers ts (bound_tokens ordinals d is)
+bound_are_identifiers : (ts : List Token) (ordinals : List (Option ℕ)) (d : ℕ) (is : List ℕ) → AreIdentifierTokens ts is → AreIdentifierTokens ts (bound_tokens ordinals d is)
 bound_are_identifiers ts ordinals d [] h = tt
 bound_are_identifiers ts ordinals d (i ∷ is) h =
-    elim (same_ordinal (ordinal_in ordinals i) d) as (λ b. AreIdentifiers ts (cond b (i ∷ bound_tokens ordinals d is) (bound_tokens ordinals d is)))
+    elim (same_ordinal (ordinal_in ordinals i) d) as (λ b. AreIdentifierTokens ts (cond b (i ∷ bound_tokens ordinals d is) (bound_tokens ordinals d is)))
     [ true ↦ (h.0, bound_are_identifiers ts ordinals d is h.1) | false ↦ bound_are_identifiers ts ordinals d is h.1 ]
 
 -- If the tokens that are bound to d are after a token, they ascend from there.
-from_there : (ordinals : List (Option ℕ)) (d low high last : ℕ) (is : List ℕ) → Ascending low (bound_tokens ordinals d is) high → last < high → ((j i : ℕ) → slice_get is j ≡ Some i → ordinal_in ordinals i ≡ Some d → last < i)
-    → Ascending (suc last) (bound_tokens ordinals d is) high
+from_there : (ordinals : List (Option ℕ)) (d low high last : ℕ) (is : List ℕ) → AreAscending low (bound_tokens ordinals d is) high → last < high → ((j i : ℕ) → slice_get is j ≡ Some i → ordinal_in ordinals i ≡ Some d → last < i)
+    → AreAscending (suc last) (bound_tokens ordinals d is) high
 from_there ordinals d low high last [] a inside h = omega (arith, inside)
 from_there ordinals d low high last (i ∷ is) a inside h =
-    (elim (same_ordinal (ordinal_in ordinals i) d) as (λ b. same_ordinal (ordinal_in ordinals i) d ≡ b → Ascending low (cond b (i ∷ bound_tokens ordinals d is) (bound_tokens ordinals d is)) high
-    → Ascending (suc last) (cond b (i ∷ bound_tokens ordinals d is) (bound_tokens ordinals d is)) high)
+    (elim (same_ordinal (ordinal_in ordinals i) d) as (λ b. same_ordinal (ordinal_in ordinals i) d ≡ b → AreAscending low (cond b (i ∷ bound_tokens ordinals d is) (bound_tokens ordinals d is)) high
+    → AreAscending (suc last) (cond b (i ∷ bound_tokens ordinals d is) (bound_tokens ordinals d is)) high)
     [ true ↦ (λ e a. let over = h 0 i refl (same_ordinal-true (ordinal_in ordinals i) d e) in (omega (arith, over), a.1)) | false ↦ (λ e a. from_there ordinals d low high last is a inside (λ j x f. h (suc j) x f)) ]) refl a
 
 are_bound : (r : Resolution) (d : ℕ) (is : List ℕ) → ((j i : ℕ) → slice_get is j ≡ Some i → (k : ℕ) × (slice_get r.uses k ≡ Some i)) → AreBound r d (bound_tokens r.ordinals d is)
@@ -92,7 +92,7 @@ in_list (x ∷ is) (suc j) i e = ap (λ b. (i == x) || b) (in_list is j i e) ∙
     either true = refl
     either false = refl
 
-agree : (r : Resolution) → IsResolution r → (d j i : ℕ) → slice_get r.uses j ≡ Some i → is_among i (bound_tokens r.ordinals d r.uses) ≡ all_bound_to (named_tree_of r.module_read) d j
+agree : (r : Resolution) → IsResolution r → (d j i : ℕ) → slice_get r.uses j ≡ Some i → is_among i (bound_tokens r.ordinals d r.uses) ≡ occurrences_bound_to (named_tree_of r.module_read) d j
 agree r is d j i e =
     among_bound r.ordinals d i r.uses
     ∙ (ap (λ b. same_ordinal (ordinal_in r.ordinals i) d && b) (in_list r.uses j i e)
@@ -102,14 +102,14 @@ agree r is d j i e =
     and_true true = refl
     and_true false = refl
 
-module _ (r : Resolution) (is : IsResolution r) (d : ℕ) (w : Value) (has_value : value_of_constant (named_tree_of r.module_read) d ≡ Some w) (spelled : spell (tree_of r.module_read) ≡ numbered_tokens 0 (words_of r.module_read.source)) where
+module _ (r : Resolution) (is : IsResolution r) (d : ℕ) (w : Value) (has_value : value_of_constant (named_tree_of r.module_read) d ≡ Some w) (spelled : spell (tree_of r.module_read) ≡ indexed_tokens 0 (words_of r.module_read.source)) where
   -- the places of the constant's declaration and uses among the module's tokens
-  abbrev pub late_here : Late d 7 (names_in (module_block (tree_of r.module_read))) (numbered_tokens 0 (words_of r.module_read.source)) (spell (gone_module d (tree_of r.module_read))) (occurrences (tree_of r.module_read))
+  abbrev pub late_here : Late d 7 (names_in (module_block (tree_of r.module_read))) (indexed_tokens 0 (words_of r.module_read.source)) (spell (gone_module d (tree_of r.module_read))) (occurrences (tree_of r.module_read))
       (map (ordinal_in r.ordinals) (occurrences (tree_of r.module_read)))
   late_here = late_of r is d w has_value spelled
 
   -- The uses are names after the declaration, in text order.
-  pub uses_are_names : last_token late_here.taken < length r.module_read.source.tokens → AreNames r.module_read.source.tokens (suc (last_token late_here.taken)) (bound_tokens r.ordinals d r.uses)
+  pub uses_are_names : last_token late_here.taken < length r.module_read.source.tokens → AreIdentifierIndexes r.module_read.source.tokens (suc (last_token late_here.taken)) (bound_tokens r.ordinals d r.uses)
   uses_are_names inside =
       let ts = r.module_read.source.tokens in
       names_from ts (suc (last_token late_here.taken)) (length ts) (bound_tokens r.ordinals d r.uses)
@@ -119,12 +119,12 @@ module _ (r : Resolution) (is : IsResolution r) (d : ℕ) (w : Value) (has_value
 
   -- The remaining words spell the module with the factor in place of all uses, and without the
   -- declaration.
-  pub words_everywhere : (v : Tree Name factor) (vs : List Word) → map word_lexeme vs ≡ spell v → IsAlone r.module_read d
-      → AreNames r.module_read.source.tokens (suc (last_token late_here.taken)) (bound_tokens r.ordinals d r.uses)
-      → map word_lexeme (changed_words (without_words (first_token late_here.taken) (last_token late_here.taken) (at_each (bound_tokens r.ordinals d r.uses) vs)) 0 (words_of r.module_read.source))
+  pub words_everywhere : (v : Tree Name factor) (vs : List Word) → map word_lexeme vs ≡ spell v → UsesAreFactors r.module_read d
+      → AreIdentifierIndexes r.module_read.source.tokens (suc (last_token late_here.taken)) (bound_tokens r.ordinals d r.uses)
+      → map word_lexeme (changed_words (changes_with_removal (first_bound_token late_here.taken) (last_token late_here.taken) (changes_at (bound_tokens r.ordinals d r.uses) vs)) 0 (words_of r.module_read.source))
       ≡ spell (inlined_everywhere (named_tree_of r.module_read) d v)
   words_everywhere v vs same alone are_names =
       let m = r.module_read in
       let places = bound_tokens r.ordinals d r.uses in
       words_left m.source (suc (last_token late_here.taken)) places are_names vs d 7 (names_in (module_block (tree_of m))) (spell (gone_module d (tree_of m))) late_here.taken
-      ∙ others_spelled r is d v places (are_bound r d r.uses (λ j i e. (j, e))) (all_bound_to (named_tree_of m) d) (agree r is d) alone vs same
+      ∙ others_spelled r is d v places (are_bound r d r.uses (λ j i e. (j, e))) (occurrences_bound_to (named_tree_of m) d) (agree r is d) alone vs same

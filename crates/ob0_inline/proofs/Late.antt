@@ -3,7 +3,7 @@
 -- bindings.
 use Rattle.std.proofs.Common.{◌≡◌, ◌⊎◌, inl, inr, ℕ, suc, ◌+◌, ◌<◌, ◌≤◌, ◌==◌, ◌||◌, Bool, true, false, if◌then◌else◌, nat_lt, Option, Some, None, List, [], ◌∷◌, ◌++◌, length, refl, sym, ap, ◌∙◌, subst, arith, append_assoc, append-nil, length-append, eqb-true, eq-eqb, option_and_then, slice_get}
 use Rattle.std.proofs.lemmas.Bool.{ltb-true, ltb-false}
-use Rattle.ob0_scan.specs.declared.lexeme.Reserved.TheVariants as reserved
+use Rattle.ob0_scan.specs.declared.lexeme.ReservedWord.TheVariants as reserved
 use Rattle.ob0_scan.specs.declared.lexeme.Symbol.TheVariants as symbol
 use Rattle.ob0_scan.specs.declared.lexeme.TokenKind.{TokenKind}
 use Rattle.ob0_scan.specs.declared.lexeme.TokenKind.TheVariants as kind
@@ -11,17 +11,17 @@ use Rattle.ob0_tree.specs.declared.tree.Role.{Role}
 use Rattle.ob0_tree.specs.declared.tree.Role.TheVariants as role
 use Rattle.ob0_tree.specs.Lexeme.{Terminal, Mark}
 use Rattle.ob0_tree.specs.Lexeme as lexeme
-use Rattle.ob0_tree.specs.Order.{names_only}
+use Rattle.ob0_tree.specs.Order.{names_without_roles}
 use Rattle.ob0_tree.specs.Tree.{Sort, Tree, block, body, constant, constants, declares, declares_constant, declares_constants, declares_procedure, end, formals, has_body, identifiers, is_module, item, items, mapped, maybe, module_text, more, none, occurrences, one, procedure, spell, type_names, variables}
 use Rattle.ob0_tree.proofs.Leaves.{leaves_spelled, lexeme_names, lexeme_names-append}
 use Rattle.ob0_tree.proofs.Occurring.{looked_up_only, looked_up-occurrences}
 use Rattle.ob0_edits_tokens.specs.Changed.{is_among}
-use Rattle.ob0_language_names.specs.Names.{Name, as_names}
-use Rattle.ob0_language_names.specs.Parts.{constant_names, formal_names, formal_sections, module_block, named_types, procedure_name, section_constants, section_types, section_variables, variable_names}
-use Rattle.ob0_language_names.specs.Scopes.{Scope, after_names, after_procedure, body_scope, declare_names, first_procedure, first_type, first_variable, predeclared_scope, procedures_scope, relabel_block, relabel_constant_section, relabel_constants, relabel_formals, relabel_procedure, relabel_procedures, relabel_type_section, relabel_uses, relabel_variable_section, relabelled, types_scope, variables_scope}
+use Rattle.ob0_language_names.specs.Names.{Name, naming_by_spelling}
+use Rattle.ob0_language_names.specs.Parts.{constant_names, formal_names, formal_sections, module_block, declared_type_names, procedure_name, section_constants, section_types, section_variables, variable_names}
+use Rattle.ob0_language_names.specs.Scopes.{Scope, ordinal_after_names, ordinal_after_procedure, body_scope, declare_names, first_procedure_ordinal, first_type_ordinal, first_variable_ordinal, predeclared_scope, procedures_scope, relabel_block, relabel_constant_section, relabel_constants, relabel_formals, relabel_procedure, relabel_procedures, relabel_type_section, relabel_uses, relabel_variable_section, relabel_module, types_scope, variables_scope}
 use Rattle.ob0_language_names.proofs.OccurrenceNames.{as_many-constant_section, as_many-formals, as_many-procedure, as_many-type_section, as_many-uses, as_many-variable_section}
-use Rattle.ob0_language_names.proofs.Ordinals.{le-after_names, le-after_procedure}
-use Rattle.ob0_language_types.specs.ConstantValues.{Known, no_constant, predeclared_known, value_among, value_in_block, value_in_procedure, value_in_procedures, value_of_constant}
+use Rattle.ob0_language_names.proofs.Ordinals.{le-ordinal_after_names, le-ordinal_after_procedure}
+use Rattle.ob0_language_types.specs.ConstantValues.{ConstantEnvironment, non_constant, predeclared_constants, value_among, value_in_block, value_in_procedure, value_in_procedures, value_of_constant}
 use Rattle.ob0_language_types.specs.Declarations.{declare_constants}
 use Rattle.ob0_language_types.specs.Environments.{meanings}
 use Rattle.ob0_language_types.specs.Expressions.{a_constant}
@@ -65,10 +65,10 @@ all_joined : (is js xs : List ℕ) → AllIn is xs → AllIn js xs → AllIn (is
 all_joined [] js xs h g = g
 all_joined (i ∷ is) js xs h g = (h.0, all_joined is js xs h.1 g)
 
-looked_up_in : (xs : List (Role × ℕ)) → AllIn (looked_up_only xs) (names_only xs)
+looked_up_in : (xs : List (Role × ℕ)) → AllIn (looked_up_only xs) (names_without_roles xs)
 looked_up_in [] = tt
-looked_up_in ((role.LookedUp, i) ∷ xs) = (ap (λ b. b || is_among i (names_only xs)) (eq-eqb i i refl), all_second (looked_up_only xs) (i ∷ []) (names_only xs) (looked_up_in xs))
-looked_up_in ((_, i) ∷ xs) = all_second (looked_up_only xs) (i ∷ []) (names_only xs) (looked_up_in xs)
+looked_up_in ((role.LookedUp, i) ∷ xs) = (ap (λ b. b || is_among i (names_without_roles xs)) (eq-eqb i i refl), all_second (looked_up_only xs) (i ∷ []) (names_without_roles xs) (looked_up_in xs))
+looked_up_in ((_, i) ∷ xs) = all_second (looked_up_only xs) (i ∷ []) (names_without_roles xs) (looked_up_in xs)
 
 occurrences_in : {s : Sort} (t : Tree ℕ s) → AllIn (occurrences t) (lexeme_names (spell t))
 occurrences_in t =
@@ -160,19 +160,19 @@ late_suffix : {s : Sort} (d k : ℕ) (labels : List ℕ) (w l : List (Terminal �
 late_suffix d k labels w l z occ bound zb h = late_following d k labels w l (spell z) occ (occurrences z) bound zb (occurrences_in z) h
 
 module _ (f : ℕ → Name) (g : ℕ → ℕ) (d : ℕ) (w : Value) where
-  late_constants : (known : Known) (scope : Scope Name) (k : ℕ) (cs : Tree ℕ (items constant)) (front : List (Terminal ℕ)) (border : TokenKind)
-      → (border ≡ kind.Reserved reserved.Const) ⊎ (border ≡ kind.Symbol symbol.Semicolon) → ScopeLow k scope → value_among known d k (mapped f g cs) ≡ Some w
-      → Late d k (constant_names cs) (front ++ (Mark border ∷ spell cs)) (front ++ (Mark border ∷ spell (gone_constants d k cs))) (occurrences cs) (occurrences (relabel_constants as_names forget scope k (mapped f g cs)))
+  late_constants : (known : ConstantEnvironment) (scope : Scope Name) (k : ℕ) (cs : Tree ℕ (items constant)) (front : List (Terminal ℕ)) (border : TokenKind)
+      → (border ≡ kind.ReservedWord reserved.Const) ⊎ (border ≡ kind.Symbol symbol.Semicolon) → ScopeLow k scope → value_among known d k (mapped f g cs) ≡ Some w
+      → Late d k (constant_names cs) (front ++ (Mark border ∷ spell cs)) (front ++ (Mark border ∷ spell (gone_constants d k cs))) (occurrences cs) (occurrences (relabel_constants naming_by_spelling forget scope k (mapped f g cs)))
   unfolding value_among
   late_constants known scope k end front border opens below e = absurd (cc)
   late_constants known scope k (more (declares_constant x a) cs) front border opens below e =
-      by_value (constant_value (meanings as_names known) (mapped f g a)) e
+      by_value (constant_value (meanings naming_by_spelling known) (mapped f g a)) e
       (λ v h. late_constants ((f x, a_constant v) ∷ known) ((f x, k) ∷ scope) (suc k) cs (front ++ (Mark border ∷ lexeme.Name x ∷ Mark (kind.Symbol symbol.Equal) ∷ spell a)) (kind.Symbol symbol.Semicolon) (inr refl)
       (omega arith, scope_raised k (suc k) scope (omega arith) below) h)
     where
       here : (k == d) ≡ true
           → Late d k (x ∷ constant_names cs) (front ++ (Mark border ∷ spell (more (declares_constant x a) cs))) (front ++ (Mark border ∷ spell (gone_constants d k (more (declares_constant x a) cs))))
-          (occurrences a ++ occurrences cs) (occurrences (relabel_uses as_names forget scope (mapped f g a)) ++ occurrences (relabel_constants as_names forget ((f x, k) ∷ scope) (suc k) (mapped f g cs)))
+          (occurrences a ++ occurrences cs) (occurrences (relabel_uses naming_by_spelling forget scope (mapped f g a)) ++ occurrences (relabel_constants naming_by_spelling forget ((f x, k) ∷ scope) (suc k) (mapped f g cs)))
       here q =
           let same : k ≡ d = eqb-true k d q in
           record {
@@ -192,21 +192,21 @@ module _ (f : ℕ → Name) (g : ℕ → ℕ) (d : ℕ) (w : Value) where
             };
             front = occurrences a;
             following = occurrences cs;
-            front_bound = occurrences (relabel_uses as_names forget scope (mapped f g a));
-            following_bound = occurrences (relabel_constants as_names forget ((f x, k) ∷ scope) (suc k) (mapped f g cs));
+            front_bound = occurrences (relabel_uses naming_by_spelling forget scope (mapped f g a));
+            following_bound = occurrences (relabel_constants naming_by_spelling forget ((f x, k) ∷ scope) (suc k) (mapped f g cs));
             occ_is = refl;
             bound_is = refl;
-            count = as_many-uses as_names forget scope (mapped f g a) ∙ as_many f g a;
-            low = raised k d (occurrences (relabel_uses as_names forget scope (mapped f g a))) (omega (arith, same)) (uses_low k scope (mapped f g a) below);
+            count = as_many-uses naming_by_spelling forget scope (mapped f g a) ∙ as_many f g a;
+            low = raised k d (occurrences (relabel_uses naming_by_spelling forget scope (mapped f g a))) (omega (arith, same)) (uses_low k scope (mapped f g a) below);
             among = occurrences_in cs;
           }
 
       there : (k == d) ≡ false
           → Late d (suc k) (constant_names cs) ((front ++ (Mark border ∷ lexeme.Name x ∷ Mark (kind.Symbol symbol.Equal) ∷ spell a)) ++ (Mark (kind.Symbol symbol.Semicolon) ∷ spell cs))
           ((front ++ (Mark border ∷ lexeme.Name x ∷ Mark (kind.Symbol symbol.Equal) ∷ spell a)) ++ (Mark (kind.Symbol symbol.Semicolon) ∷ spell (gone_constants d (suc k) cs)))
-          (occurrences cs) (occurrences (relabel_constants as_names forget ((f x, k) ∷ scope) (suc k) (mapped f g cs)))
+          (occurrences cs) (occurrences (relabel_constants naming_by_spelling forget ((f x, k) ∷ scope) (suc k) (mapped f g cs)))
           → Late d k (x ∷ constant_names cs) (front ++ (Mark border ∷ spell (more (declares_constant x a) cs))) (front ++ (Mark border ∷ spell (gone_constants d k (more (declares_constant x a) cs))))
-          (occurrences a ++ occurrences cs) (occurrences (relabel_uses as_names forget scope (mapped f g a)) ++ occurrences (relabel_constants as_names forget ((f x, k) ∷ scope) (suc k) (mapped f g cs)))
+          (occurrences a ++ occurrences cs) (occurrences (relabel_uses naming_by_spelling forget scope (mapped f g a)) ++ occurrences (relabel_constants naming_by_spelling forget ((f x, k) ∷ scope) (suc k) (mapped f g cs)))
       there q r =
           let moved = λ (l : List (Terminal ℕ)). append_assoc front (Mark border ∷ lexeme.Name x ∷ Mark (kind.Symbol symbol.Equal) ∷ spell a) (Mark (kind.Symbol symbol.Semicolon) ∷ l)
           ∙ ap (λ z. front ++ (Mark border ∷ lexeme.Name x ∷ Mark (kind.Symbol symbol.Equal) ∷ z)) (sym (append_assoc (spell a) (Mark (kind.Symbol symbol.Semicolon) ∷ []) l)) in
@@ -215,10 +215,10 @@ module _ (f : ℕ → Name) (g : ℕ → ℕ) (d : ℕ) (w : Value) where
           let l1 : List (Terminal ℕ) = done ++ (Mark (kind.Symbol symbol.Semicolon) ∷ spell (gone_constants d (suc k) cs)) in
           let w2 = front ++ (Mark border ∷ spell (more (declares_constant x a) cs)) in
           let l2 = front ++ (Mark border ∷ spell (gone_constants d k (more (declares_constant x a) cs))) in
-          let lb = occurrences (relabel_uses as_names forget scope (mapped f g a)) in
-          let rest_bound = occurrences (relabel_constants as_names forget ((f x, k) ∷ scope) (suc k) (mapped f g cs)) in
+          let lb = occurrences (relabel_uses naming_by_spelling forget scope (mapped f g a)) in
+          let rest_bound = occurrences (relabel_constants naming_by_spelling forget ((f x, k) ∷ scope) (suc k) (mapped f g cs)) in
           let e = r.taken.ordinal_is in
-          late_before d k (x ∷ constant_names cs) [] w2 l2 (occurrences a) (occurrences cs) lb rest_bound (as_many-uses as_names forget scope (mapped f g a) ∙ as_many f g a)
+          late_before d k (x ∷ constant_names cs) [] w2 l2 (occurrences a) (occurrences cs) lb rest_bound (as_many-uses naming_by_spelling forget scope (mapped f g a) ∙ as_many f g a)
           (raised k d lb (omega (arith, e)) (uses_low k scope (mapped f g a) below))
           (late_move d k (x ∷ constant_names cs) w1 w2 l1 l2 (occurrences cs) rest_bound (sym (moved (spell cs)))
           (ap (λ z. front ++ (Mark border ∷ spell z)) (gone_here d k (declares_constant x a) cs false q) ∙ sym (moved (spell (gone_constants d (suc k) cs))))
@@ -228,9 +228,9 @@ module _ (f : ℕ → Name) (g : ℕ → ℕ) (d : ℕ) (w : Value) where
           → (value_among ((f x, a_constant v) ∷ known) d (suc k) (mapped f g cs) ≡ Some w
           → Late d (suc k) (constant_names cs) ((front ++ (Mark border ∷ lexeme.Name x ∷ Mark (kind.Symbol symbol.Equal) ∷ spell a)) ++ (Mark (kind.Symbol symbol.Semicolon) ∷ spell cs))
           ((front ++ (Mark border ∷ lexeme.Name x ∷ Mark (kind.Symbol symbol.Equal) ∷ spell a)) ++ (Mark (kind.Symbol symbol.Semicolon) ∷ spell (gone_constants d (suc k) cs)))
-          (occurrences cs) (occurrences (relabel_constants as_names forget ((f x, k) ∷ scope) (suc k) (mapped f g cs))))
+          (occurrences cs) (occurrences (relabel_constants naming_by_spelling forget ((f x, k) ∷ scope) (suc k) (mapped f g cs))))
           → Late d k (x ∷ constant_names cs) (front ++ (Mark border ∷ spell (more (declares_constant x a) cs))) (front ++ (Mark border ∷ spell (gone_constants d k (more (declares_constant x a) cs))))
-          (occurrences a ++ occurrences cs) (occurrences (relabel_uses as_names forget scope (mapped f g a)) ++ occurrences (relabel_constants as_names forget ((f x, k) ∷ scope) (suc k) (mapped f g cs)))
+          (occurrences a ++ occurrences cs) (occurrences (relabel_uses naming_by_spelling forget scope (mapped f g a)) ++ occurrences (relabel_constants naming_by_spelling forget ((f x, k) ∷ scope) (suc k) (mapped f g cs)))
       by_test v true q e later = here q
       by_test v false q e later = there q (later e)
 
@@ -238,17 +238,17 @@ module _ (f : ℕ → Name) (g : ℕ → ℕ) (d : ℕ) (w : Value) where
           → ((v : Value) → value_among ((f x, a_constant v) ∷ known) d (suc k) (mapped f g cs) ≡ Some w
           → Late d (suc k) (constant_names cs) ((front ++ (Mark border ∷ lexeme.Name x ∷ Mark (kind.Symbol symbol.Equal) ∷ spell a)) ++ (Mark (kind.Symbol symbol.Semicolon) ∷ spell cs))
           ((front ++ (Mark border ∷ lexeme.Name x ∷ Mark (kind.Symbol symbol.Equal) ∷ spell a)) ++ (Mark (kind.Symbol symbol.Semicolon) ∷ spell (gone_constants d (suc k) cs)))
-          (occurrences cs) (occurrences (relabel_constants as_names forget ((f x, k) ∷ scope) (suc k) (mapped f g cs))))
+          (occurrences cs) (occurrences (relabel_constants naming_by_spelling forget ((f x, k) ∷ scope) (suc k) (mapped f g cs))))
           → Late d k (x ∷ constant_names cs) (front ++ (Mark border ∷ spell (more (declares_constant x a) cs))) (front ++ (Mark border ∷ spell (gone_constants d k (more (declares_constant x a) cs))))
-          (occurrences a ++ occurrences cs) (occurrences (relabel_uses as_names forget scope (mapped f g a)) ++ occurrences (relabel_constants as_names forget ((f x, k) ∷ scope) (suc k) (mapped f g cs)))
+          (occurrences a ++ occurrences cs) (occurrences (relabel_uses naming_by_spelling forget scope (mapped f g a)) ++ occurrences (relabel_constants naming_by_spelling forget ((f x, k) ∷ scope) (suc k) (mapped f g cs)))
       by_value None e later = absurd (cc)
       by_value (Some v) e later = by_test v (k == d) refl e (later v)
 
-  late_section : (known : Known) (scope : Scope Name) (k : ℕ) (cs : Tree ℕ (maybe constants)) → ScopeLow k scope → value_among known d k (section_constants (mapped f g cs)) ≡ Some w
-      → Late d k (constant_names (section_constants cs)) (spell cs) (spell (gone_section d k cs)) (occurrences cs) (occurrences (relabel_constant_section as_names forget scope k (mapped f g cs)))
+  late_section : (known : ConstantEnvironment) (scope : Scope Name) (k : ℕ) (cs : Tree ℕ (maybe constants)) → ScopeLow k scope → value_among known d k (section_constants (mapped f g cs)) ≡ Some w
+      → Late d k (constant_names (section_constants cs)) (spell cs) (spell (gone_section d k cs)) (occurrences cs) (occurrences (relabel_constant_section naming_by_spelling forget scope k (mapped f g cs)))
   unfolding value_among
   late_section known scope k none below e = absurd (cc)
-  late_section known scope k (one (declares_constants cs)) below e = late_constants known scope k cs [] (kind.Reserved reserved.Const) (inl refl) below e
+  late_section known scope k (one (declares_constants cs)) below e = late_constants known scope k cs [] (kind.ReservedWord reserved.Const) (inl refl) below e
 
   joined_in : (is js : List ℕ) (xs ys : List (Terminal ℕ)) → AllIn is (lexeme_names xs) → AllIn js (lexeme_names ys) → AllIn (is ++ js) (lexeme_names (xs ++ ys))
   joined_in is js xs ys h q =
@@ -257,17 +257,17 @@ module _ (f : ℕ → Name) (g : ℕ → ℕ) (d : ℕ) (w : Value) where
   -- `Late` holds of a block if it holds of one of its parts. k is the ordinal of its first
   -- declaration.
   late_by_section : (cs : Tree ℕ (maybe constants)) (ts : Tree ℕ (maybe type_names)) (vs : Tree ℕ (maybe variables)) (ps : Tree ℕ (items procedure)) (statements : Tree ℕ (maybe body)) (k : ℕ) (lc rest_bound ls : List (Option ℕ))
-      → d < first_type k (has_body (declares cs ts vs ps) statements) → Late d k (constant_names (section_constants cs)) (spell cs) (spell (gone_section d k cs)) (occurrences cs) lc
+      → d < first_type_ordinal k (has_body (declares cs ts vs ps) statements) → Late d k (constant_names (section_constants cs)) (spell cs) (spell (gone_section d k cs)) (occurrences cs) lc
       → Late d k (names_in (has_body (declares cs ts vs ps) statements)) (spell (has_body (declares cs ts vs ps) statements)) (spell (gone_block d k (has_body (declares cs ts vs ps) statements)))
       (occurrences (has_body (declares cs ts vs ps) statements)) ((lc ++ rest_bound) ++ ls)
   late_by_section cs ts vs ps statements k lc rest_bound ls h t =
       let b : Tree ℕ block = has_body (declares cs ts vs ps) statements in
       let labels = names_in b in
-      let up2 = le-after_names (after_names k (constant_names (section_constants cs))) (named_types (section_types ts)) in
-      let up3 = le-after_names (after_names (after_names k (constant_names (section_constants cs))) (named_types (section_types ts))) (variable_names (section_variables vs)) in
-      let kept = kept_procedures d (first_procedure k b) ps (λ j l u. omega (arith, h, up2, up3, l)) in
+      let up2 = le-ordinal_after_names (ordinal_after_names k (constant_names (section_constants cs))) (declared_type_names (section_types ts)) in
+      let up3 = le-ordinal_after_names (ordinal_after_names (ordinal_after_names k (constant_names (section_constants cs))) (declared_type_names (section_types ts))) (variable_names (section_variables vs)) in
+      let kept = kept_procedures d (first_procedure_ordinal k b) ps (λ j l u. omega (arith, h, up2, up3, l)) in
       let there = late_among d k k (constant_names (section_constants cs)) labels (spell cs) (spell (gone_section d k cs)) (occurrences cs) lc t t.taken.place t.taken.ordinal_is
-      (get_first (constant_names (section_constants cs)) (named_types (section_types ts) ++ (variable_names (section_variables vs) ++ names_in_procedures ps)) t.taken.place t.taken.name t.taken.named_there) in
+      (get_first (constant_names (section_constants cs)) (declared_type_names (section_types ts) ++ (variable_names (section_variables vs) ++ names_in_procedures ps)) t.taken.place t.taken.name t.taken.named_there) in
       let rest : List (Terminal ℕ) = spell ts ++ (spell vs ++ spell ps) in
       let l1 : List (Terminal ℕ) = (spell (gone_section d k cs) ++ rest) ++ spell statements in
       late_move d k labels (spell b) (spell b) l1 (spell (gone_block d k b)) (occurrences b) ((lc ++ rest_bound) ++ ls) refl
@@ -277,22 +277,22 @@ module _ (f : ℕ → Name) (g : ℕ → ℕ) (d : ℕ) (w : Value) where
       (joined_in (occurrences ts) (occurrences vs ++ occurrences ps) (spell ts) (spell vs ++ spell ps) (occurrences_in ts) (joined_in (occurrences vs) (occurrences ps) (spell vs) (spell ps) (occurrences_in vs) (occurrences_in ps))) there))
 
   late_by_procedures : (cs : Tree ℕ (maybe constants)) (ts : Tree ℕ (maybe type_names)) (vs : Tree ℕ (maybe variables)) (ps : Tree ℕ (items procedure)) (statements : Tree ℕ (maybe body)) (k : ℕ) (lc lt lv lp ls : List (Option ℕ))
-      → first_type k (has_body (declares cs ts vs ps) statements) ≤ d
+      → first_type_ordinal k (has_body (declares cs ts vs ps) statements) ≤ d
       → length lc ≡ length (occurrences cs) → length lt ≡ length (occurrences ts) → length lv ≡ length (occurrences vs) → AllLow d lc → AllLow d lt → AllLow d lv
-      → Late d (first_procedure k (has_body (declares cs ts vs ps) statements)) (names_in_procedures ps) (spell ps) (spell (gone_procedures d (first_procedure k (has_body (declares cs ts vs ps) statements)) ps)) (occurrences ps) lp
+      → Late d (first_procedure_ordinal k (has_body (declares cs ts vs ps) statements)) (names_in_procedures ps) (spell ps) (spell (gone_procedures d (first_procedure_ordinal k (has_body (declares cs ts vs ps) statements)) ps)) (occurrences ps) lp
       → Late d k (names_in (has_body (declares cs ts vs ps) statements)) (spell (has_body (declares cs ts vs ps) statements)) (spell (gone_block d k (has_body (declares cs ts vs ps) statements)))
       (occurrences (has_body (declares cs ts vs ps) statements)) ((lc ++ (lt ++ (lv ++ lp))) ++ ls)
   late_by_procedures cs ts vs ps statements k lc lt lv lp ls h nc nt nv hc ht hv t =
       let b : Tree ℕ block = has_body (declares cs ts vs ps) statements in
       let labels = names_in b in
-      let left = spell (gone_procedures d (first_procedure k b) ps) in
+      let left = spell (gone_procedures d (first_procedure_ordinal k b) ps) in
       let xs = constant_names (section_constants cs) in
-      let ys = named_types (section_types ts) in
+      let ys = declared_type_names (section_types ts) in
       let zs = variable_names (section_variables vs) in
       let e1 = after_count k xs in
-      let e2 = after_count (after_names k xs) ys in
-      let e3 = after_count (after_names (after_names k xs) ys) zs in
-      let there = late_among d k (first_procedure k b) (names_in_procedures ps) labels (spell ps) left (occurrences ps) lp t (length xs + (length ys + (length zs + t.taken.place))) (omega (arith, t.taken.ordinal_is, e1, e2, e3))
+      let e2 = after_count (ordinal_after_names k xs) ys in
+      let e3 = after_count (ordinal_after_names (ordinal_after_names k xs) ys) zs in
+      let there = late_among d k (first_procedure_ordinal k b) (names_in_procedures ps) labels (spell ps) left (occurrences ps) lp t (length xs + (length ys + (length zs + t.taken.place))) (omega (arith, t.taken.ordinal_is, e1, e2, e3))
       (get_later xs (ys ++ (zs ++ names_in_procedures ps)) (length ys + (length zs + t.taken.place)) ∙ (get_later ys (zs ++ names_in_procedures ps) (length zs + t.taken.place) ∙ get_later zs (names_in_procedures ps) t.taken.place)) in
       let l1 : List (Terminal ℕ) = (spell cs ++ (spell ts ++ (spell vs ++ left))) ++ spell statements in
       late_move d k labels (spell b) (spell b) l1 (spell (gone_block d k b)) (occurrences b) ((lc ++ (lt ++ (lv ++ lp))) ++ ls) refl
@@ -302,7 +302,7 @@ module _ (f : ℕ → Name) (g : ℕ → ℕ) (d : ℕ) (w : Value) where
       (late_before d k labels (spell ts) (spell vs ++ spell ps) (spell vs ++ left) (occurrences ts) (occurrences vs ++ occurrences ps) lt (lv ++ lp) nt ht
       (late_before d k labels (spell vs) (spell ps) left (occurrences vs) (occurrences ps) lv lp nv hv there))))
 
-  late_by_procedure : (q : Tree ℕ (item procedure)) (rest : Tree ℕ (items procedure)) (k : ℕ) (lq lr : List (Option ℕ)) → d < after_procedure (suc k) q
+  late_by_procedure : (q : Tree ℕ (item procedure)) (rest : Tree ℕ (items procedure)) (k : ℕ) (lq lr : List (Option ℕ)) → d < ordinal_after_procedure (suc k) q
       → Late d k (names_in_procedure q) (spell q) (spell (gone_procedure d (suc k) q)) (occurrences q) lq
       → Late d k (names_in_procedures (more q rest)) (spell (more q rest)) (spell (gone_procedures d k (more q rest))) (occurrences (more q rest)) (lq ++ lr)
   late_by_procedure q rest k lq lr h t =
@@ -310,158 +310,158 @@ module _ (f : ℕ → Name) (g : ℕ → ℕ) (d : ℕ) (w : Value) where
       let there = late_among d k k (names_in_procedure q) labels (spell q) (spell (gone_procedure d (suc k) q)) (occurrences q) lq t t.taken.place t.taken.ordinal_is
       (get_first (names_in_procedure q) (names_in_procedures rest) t.taken.place t.taken.name t.taken.named_there) in
       late_move d k labels (spell (more q rest)) (spell (more q rest)) (spell (gone_procedure d (suc k) q) ++ spell rest) (spell (gone_procedures d k (more q rest))) (occurrences (more q rest)) (lq ++ lr) refl
-      (ap (λ (qs : Tree ℕ (items procedure)). spell (gone_procedure d (suc k) q) ++ spell qs) (kept_procedures d (after_procedure (suc k) q) rest (λ j l u. omega (arith, h, l))))
+      (ap (λ (qs : Tree ℕ (items procedure)). spell (gone_procedure d (suc k) q) ++ spell qs) (kept_procedures d (ordinal_after_procedure (suc k) q) rest (λ j l u. omega (arith, h, l))))
       (late_suffix d k labels (spell q) (spell (gone_procedure d (suc k) q)) rest (occurrences q) lq lr there)
 
-  late_by_rest : (q : Tree ℕ (item procedure)) (rest : Tree ℕ (items procedure)) (k : ℕ) (lq lr : List (Option ℕ)) → after_procedure (suc k) q ≤ d → length lq ≡ length (occurrences q) → AllLow d lq
-      → Late d (after_procedure (suc k) q) (names_in_procedures rest) (spell rest) (spell (gone_procedures d (after_procedure (suc k) q) rest)) (occurrences rest) lr
+  late_by_rest : (q : Tree ℕ (item procedure)) (rest : Tree ℕ (items procedure)) (k : ℕ) (lq lr : List (Option ℕ)) → ordinal_after_procedure (suc k) q ≤ d → length lq ≡ length (occurrences q) → AllLow d lq
+      → Late d (ordinal_after_procedure (suc k) q) (names_in_procedures rest) (spell rest) (spell (gone_procedures d (ordinal_after_procedure (suc k) q) rest)) (occurrences rest) lr
       → Late d k (names_in_procedures (more q rest)) (spell (more q rest)) (spell (gone_procedures d k (more q rest))) (occurrences (more q rest)) (lq ++ lr)
   late_by_rest q rest k lq lr h n hq t =
       let labels = names_in_procedures (more q rest) in
       let front = names_in_procedure q in
       let count = after_names_in_procedure k q ∙ after_count k front in
-      let left = spell (gone_procedures d (after_procedure (suc k) q) rest) in
-      let there = late_among d k (after_procedure (suc k) q) (names_in_procedures rest) labels (spell rest) left (occurrences rest) lr t (length front + t.taken.place) (omega (arith, t.taken.ordinal_is, count))
+      let left = spell (gone_procedures d (ordinal_after_procedure (suc k) q) rest) in
+      let there = late_among d k (ordinal_after_procedure (suc k) q) (names_in_procedures rest) labels (spell rest) left (occurrences rest) lr t (length front + t.taken.place) (omega (arith, t.taken.ordinal_is, count))
       (get_later front (names_in_procedures rest) t.taken.place) in
       late_move d k labels (spell (more q rest)) (spell (more q rest)) (spell q ++ left) (spell (gone_procedures d k (more q rest))) (occurrences (more q rest)) (lq ++ lr) refl
       (ap (λ (p : Tree ℕ (item procedure)). spell p ++ left) (kept_procedure d (suc k) q (λ j l u. omega (arith, h, u))))
       (late_before d k labels (spell q) (spell rest) left (occurrences q) (occurrences rest) lq lr n hq there)
 
   late_in_procedure : (x closing : ℕ) (fs : Tree ℕ (maybe formals)) (b : Tree ℕ block) (k : ℕ) (lf lb : List (Option ℕ)) → length lf ≡ length (occurrences fs) → AllLow d lf
-      → Late d (after_names (suc k) (formal_names (formal_sections fs))) (names_in b) (spell b) (spell (gone_block d (after_names (suc k) (formal_names (formal_sections fs))) b)) (occurrences b) lb
+      → Late d (ordinal_after_names (suc k) (formal_names (formal_sections fs))) (names_in b) (spell b) (spell (gone_block d (ordinal_after_names (suc k) (formal_names (formal_sections fs))) b)) (occurrences b) lb
       → Late d k (names_in_procedure (declares_procedure x fs b closing)) (spell (declares_procedure x fs b closing)) (spell (gone_procedure d (suc k) (declares_procedure x fs b closing))) (occurrences (declares_procedure x fs b closing)) (lf ++ lb)
   late_in_procedure x closing fs b k lf lb n hf t =
       let xs = formal_names (formal_sections fs) in
       let labels = x ∷ (xs ++ names_in b) in
-      let left = spell (gone_block d (after_names (suc k) xs) b) in
-      let tail : List (Terminal ℕ) = Mark (kind.Reserved reserved.End) ∷ lexeme.Name closing ∷ (Mark (kind.Symbol symbol.Semicolon) ∷ []) in
+      let left = spell (gone_block d (ordinal_after_names (suc k) xs) b) in
+      let tail : List (Terminal ℕ) = Mark (kind.ReservedWord reserved.End) ∷ lexeme.Name closing ∷ (Mark (kind.Symbol symbol.Semicolon) ∷ []) in
       let count = after_count (suc k) xs in
-      let there = late_among d k (after_names (suc k) xs) (names_in b) labels (spell b) left (occurrences b) lb t (suc (length xs + t.taken.place)) (omega (arith, t.taken.ordinal_is, count)) (get_later xs (names_in b) t.taken.place) in
+      let there = late_among d k (ordinal_after_names (suc k) xs) (names_in b) labels (spell b) left (occurrences b) lb t (suc (length xs + t.taken.place)) (omega (arith, t.taken.ordinal_is, count)) (get_later xs (names_in b) t.taken.place) in
       let ended : Late d k labels (spell b ++ tail) (left ++ tail) (occurrences b ++ []) (lb ++ []) = late_following d k labels (spell b) left tail (occurrences b) [] lb [] tt there in
       let ended_so : Late d k labels (spell b ++ tail) (left ++ tail) (occurrences b) lb = subst (λ (o : List ℕ). Late d k labels (spell b ++ tail) (left ++ tail) o lb) (append-nil (occurrences b))
       (subst (λ (l : List (Option ℕ)). Late d k labels (spell b ++ tail) (left ++ tail) (occurrences b ++ []) l) (append-nil lb) ended) in
-      late_before d k labels (Mark (kind.Reserved reserved.Procedure) ∷ lexeme.Name x ∷ []) (spell fs ++ (Mark (kind.Symbol symbol.Semicolon) ∷ (spell b ++ tail))) (spell fs ++ (Mark (kind.Symbol symbol.Semicolon) ∷ (left ++ tail))) [] (occurrences fs ++ occurrences b) [] (lf ++ lb) refl tt
+      late_before d k labels (Mark (kind.ReservedWord reserved.Procedure) ∷ lexeme.Name x ∷ []) (spell fs ++ (Mark (kind.Symbol symbol.Semicolon) ∷ (spell b ++ tail))) (spell fs ++ (Mark (kind.Symbol symbol.Semicolon) ∷ (left ++ tail))) [] (occurrences fs ++ occurrences b) [] (lf ++ lb) refl tt
       (late_before d k labels (spell fs) (Mark (kind.Symbol symbol.Semicolon) ∷ (spell b ++ tail)) (Mark (kind.Symbol symbol.Semicolon) ∷ (left ++ tail)) (occurrences fs) (occurrences b) lf lb n hf
       (late_before d k labels (Mark (kind.Symbol symbol.Semicolon) ∷ []) (spell b ++ tail) (left ++ tail) [] (occurrences b) [] lb refl tt ended_so))
 
   mutual
     unfolding value_in_block
 
-    late_block : (known : Known) (scope : Scope Name) (k n : ℕ) → n ≡ k → ScopeLow n scope → (b : Tree ℕ block) → value_in_block known d n (mapped f g b) ≡ Some w
-        → Late d k (names_in b) (spell b) (spell (gone_block d k b)) (occurrences b) (occurrences (relabel_block as_names forget scope n (mapped f g b)))
+    late_block : (known : ConstantEnvironment) (scope : Scope Name) (k n : ℕ) → n ≡ k → ScopeLow n scope → (b : Tree ℕ block) → value_in_block known d n (mapped f g b) ≡ Some w
+        → Late d k (names_in b) (spell b) (spell (gone_block d k b)) (occurrences b) (occurrences (relabel_block naming_by_spelling forget scope n (mapped f g b)))
     late_block known scope k n same below (has_body (declares cs ts vs ps) statements) e =
         let b : Tree ℕ block = has_body (declares cs ts vs ps) statements in
         let b' = mapped f g b in
-        let lc = occurrences (relabel_constant_section as_names forget scope n (mapped f g cs)) in
-        let lt = occurrences (relabel_type_section as_names forget (types_scope n b' scope) (first_type n b') (mapped f g ts)) in
-        let lv = occurrences (relabel_variable_section as_names forget (variables_scope n b' scope) (first_variable n b') (mapped f g vs)) in
-        let lp = occurrences (relabel_procedures as_names forget (procedures_scope n b' scope) (first_procedure n b') (mapped f g ps)) in
-        let ls = occurrences (relabel_uses as_names forget (body_scope n b' scope) (mapped f g statements)) in
+        let lc = occurrences (relabel_constant_section naming_by_spelling forget scope n (mapped f g cs)) in
+        let lt = occurrences (relabel_type_section naming_by_spelling forget (types_scope n b' scope) (first_type_ordinal n b') (mapped f g ts)) in
+        let lv = occurrences (relabel_variable_section naming_by_spelling forget (variables_scope n b' scope) (first_variable_ordinal n b') (mapped f g vs)) in
+        let lp = occurrences (relabel_procedures naming_by_spelling forget (procedures_scope n b' scope) (first_procedure_ordinal n b') (mapped f g ps)) in
+        let ls = occurrences (relabel_uses naming_by_spelling forget (body_scope n b' scope) (mapped f g statements)) in
         let xs = constant_names (section_constants (mapped f g cs)) in
-        let ys = named_types (section_types (mapped f g ts)) in
+        let ys = declared_type_names (section_types (mapped f g ts)) in
         let zs = variable_names (section_variables (mapped f g vs)) in
         let h1 = declared_low n xs scope below in
-        let h2 = declared_low (after_names n xs) ys (types_scope n b' scope) h1 in
-        let h3 = declared_low (after_names (after_names n xs) ys) zs (variables_scope n b' scope) h2 in
-        let up2 = le-after_names (after_names n xs) ys in
-        let up3 = le-after_names (after_names (after_names n xs) ys) zs in
-        elim (nat_lt d (first_type n b')) as (λ x. nat_lt d (first_type n b') ≡ x
+        let h2 = declared_low (ordinal_after_names n xs) ys (types_scope n b' scope) h1 in
+        let h3 = declared_low (ordinal_after_names (ordinal_after_names n xs) ys) zs (variables_scope n b' scope) h2 in
+        let up2 = le-ordinal_after_names (ordinal_after_names n xs) ys in
+        let up3 = le-ordinal_after_names (ordinal_after_names (ordinal_after_names n xs) ys) zs in
+        elim (nat_lt d (first_type_ordinal n b')) as (λ x. nat_lt d (first_type_ordinal n b') ≡ x
         → (if x then value_among known d n (section_constants (mapped f g cs))
-        else if nat_lt d (first_procedure n b') then None
-        else option_and_then (λ inner. value_in_procedures (bind_names (named_types (section_types (mapped f g ts)) ++ variable_names (section_variables (mapped f g vs))) no_constant inner) d (first_procedure n b') (mapped f g ps))
-        (declare_constants as_names known (section_constants (mapped f g cs)))) ≡ Some w
+        else if nat_lt d (first_procedure_ordinal n b') then None
+        else option_and_then (λ inner. value_in_procedures (bind_names (declared_type_names (section_types (mapped f g ts)) ++ variable_names (section_variables (mapped f g vs))) non_constant inner) d (first_procedure_ordinal n b') (mapped f g ps))
+        (declare_constants naming_by_spelling known (section_constants (mapped f g cs)))) ≡ Some w
         → Late d k (names_in b) (spell b) (spell (gone_block d k b)) (occurrences b) ((lc ++ (lt ++ (lv ++ lp))) ++ ls)) [
           | true ↦ λ q h.
-              late_by_section cs ts vs ps statements k lc (lt ++ (lv ++ lp)) ls (subst (λ m. d < m) (first_type_count f g n b ∙ ap (λ m. first_type m b) same) (ltb-true d (first_type n b') q))
+              late_by_section cs ts vs ps statements k lc (lt ++ (lv ++ lp)) ls (subst (λ m. d < m) (first_type_count f g n b ∙ ap (λ m. first_type_ordinal m b) same) (ltb-true d (first_type_ordinal n b') q))
               (subst (λ m. Late d m (constant_names (section_constants cs)) (spell cs) (spell (gone_section d m cs)) (occurrences cs) lc) same (late_section known scope n cs below h))
           | false ↦ λ q h.
-              let high = ltb-false d (first_type n b') q in
-              elim (nat_lt d (first_procedure n b')) as (λ y. nat_lt d (first_procedure n b') ≡ y → (if y then None
-              else option_and_then (λ inner. value_in_procedures (bind_names (named_types (section_types (mapped f g ts)) ++ variable_names (section_variables (mapped f g vs))) no_constant inner) d (first_procedure n b') (mapped f g ps))
-              (declare_constants as_names known (section_constants (mapped f g cs)))) ≡ Some w
+              let high = ltb-false d (first_type_ordinal n b') q in
+              elim (nat_lt d (first_procedure_ordinal n b')) as (λ y. nat_lt d (first_procedure_ordinal n b') ≡ y → (if y then None
+              else option_and_then (λ inner. value_in_procedures (bind_names (declared_type_names (section_types (mapped f g ts)) ++ variable_names (section_variables (mapped f g vs))) non_constant inner) d (first_procedure_ordinal n b') (mapped f g ps))
+              (declare_constants naming_by_spelling known (section_constants (mapped f g cs)))) ≡ Some w
               → Late d k (names_in b) (spell b) (spell (gone_block d k b)) (occurrences b) ((lc ++ (lt ++ (lv ++ lp))) ++ ls)) [
                 | true ↦ λ r g0. absurd (cc)
                 | false ↦ λ r.
-                    let all = ltb-false d (first_procedure n b') r in
-                    elim (declare_constants as_names known (section_constants (mapped f g cs))) as (λ o. option_and_then (λ inner. value_in_procedures (bind_names (named_types (section_types (mapped f g ts)) ++ variable_names (section_variables (mapped f g vs))) no_constant inner) d (first_procedure n b') (mapped f g ps)) o ≡ Some w
+                    let all = ltb-false d (first_procedure_ordinal n b') r in
+                    elim (declare_constants naming_by_spelling known (section_constants (mapped f g cs))) as (λ o. option_and_then (λ inner. value_in_procedures (bind_names (declared_type_names (section_types (mapped f g ts)) ++ variable_names (section_variables (mapped f g vs))) non_constant inner) d (first_procedure_ordinal n b') (mapped f g ps)) o ≡ Some w
                     → Late d k (names_in b) (spell b) (spell (gone_block d k b)) (occurrences b) ((lc ++ (lt ++ (lv ++ lp))) ++ ls)) [
                       | None ↦ λ g0. absurd (cc)
                       | Some inner ↦ λ g0.
-                          late_by_procedures cs ts vs ps statements k lc lt lv lp ls (subst (λ m. m ≤ d) (first_type_count f g n b ∙ ap (λ m. first_type m b) same) high)
-                          (as_many-constant_section as_names forget scope n (mapped f g cs) ∙ as_many f g cs)
-                          (as_many-type_section as_names forget (types_scope n b' scope) (first_type n b') (mapped f g ts) ∙ as_many f g ts)
-                          (as_many-variable_section as_names forget (variables_scope n b' scope) (first_variable n b') (mapped f g vs) ∙ as_many f g vs)
-                          (raised (after_names n xs) d lc high (constant_section_low scope n (mapped f g cs) below))
-                          (raised (after_names (after_names n xs) ys) d lt (omega (arith, all, up3)) (type_section_low (types_scope n b' scope) (first_type n b') (mapped f g ts) h1))
-                          (raised (first_procedure n b') d lv all (variable_section_low (variables_scope n b' scope) (first_variable n b') (mapped f g vs) h2))
-                          (late_procedures (bind_names (named_types (section_types (mapped f g ts)) ++ variable_names (section_variables (mapped f g vs))) no_constant inner) (procedures_scope n b' scope)
-                          (first_procedure k b) (first_procedure n b') (first_procedure_count f g n b ∙ ap (λ m. first_procedure m b) same) h3 ps g0)
+                          late_by_procedures cs ts vs ps statements k lc lt lv lp ls (subst (λ m. m ≤ d) (first_type_count f g n b ∙ ap (λ m. first_type_ordinal m b) same) high)
+                          (as_many-constant_section naming_by_spelling forget scope n (mapped f g cs) ∙ as_many f g cs)
+                          (as_many-type_section naming_by_spelling forget (types_scope n b' scope) (first_type_ordinal n b') (mapped f g ts) ∙ as_many f g ts)
+                          (as_many-variable_section naming_by_spelling forget (variables_scope n b' scope) (first_variable_ordinal n b') (mapped f g vs) ∙ as_many f g vs)
+                          (raised (ordinal_after_names n xs) d lc high (constant_section_low scope n (mapped f g cs) below))
+                          (raised (ordinal_after_names (ordinal_after_names n xs) ys) d lt (omega (arith, all, up3)) (type_section_low (types_scope n b' scope) (first_type_ordinal n b') (mapped f g ts) h1))
+                          (raised (first_procedure_ordinal n b') d lv all (variable_section_low (variables_scope n b' scope) (first_variable_ordinal n b') (mapped f g vs) h2))
+                          (late_procedures (bind_names (declared_type_names (section_types (mapped f g ts)) ++ variable_names (section_variables (mapped f g vs))) non_constant inner) (procedures_scope n b' scope)
+                          (first_procedure_ordinal k b) (first_procedure_ordinal n b') (first_procedure_count f g n b ∙ ap (λ m. first_procedure_ordinal m b) same) h3 ps g0)
                     ]
               ] refl h
         ] refl e
 
-    late_procedures : (known : Known) (scope : Scope Name) (k n : ℕ) → n ≡ k → ScopeLow n scope → (ps : Tree ℕ (items procedure)) → value_in_procedures known d n (mapped f g ps) ≡ Some w
-        → Late d k (names_in_procedures ps) (spell ps) (spell (gone_procedures d k ps)) (occurrences ps) (occurrences (relabel_procedures as_names forget scope n (mapped f g ps)))
+    late_procedures : (known : ConstantEnvironment) (scope : Scope Name) (k n : ℕ) → n ≡ k → ScopeLow n scope → (ps : Tree ℕ (items procedure)) → value_in_procedures known d n (mapped f g ps) ≡ Some w
+        → Late d k (names_in_procedures ps) (spell ps) (spell (gone_procedures d k ps)) (occurrences ps) (occurrences (relabel_procedures naming_by_spelling forget scope n (mapped f g ps)))
     late_procedures known scope k n same below end e = absurd (cc)
     late_procedures known scope k n same below (more q rest) e =
         let q' = mapped f g q in
-        let lq = occurrences (relabel_procedure as_names forget scope n q') in
-        let lr = occurrences (relabel_procedures as_names forget ((procedure_name q', n) ∷ scope) (after_procedure (suc n) q') (mapped f g rest)) in
-        let up = le-after_procedure (suc n) q' in
-        let counted = procedure_count f g (suc n) q ∙ ap (λ m. after_procedure (suc m) q) same in
-        elim (nat_lt d (after_procedure (suc n) q')) as (λ x. nat_lt d (after_procedure (suc n) q') ≡ x
-        → (if x then value_in_procedure ((procedure_name q', no_constant) ∷ known) d (suc n) q'
-        else value_in_procedures ((procedure_name q', no_constant) ∷ known) d (after_procedure (suc n) q') (mapped f g rest)) ≡ Some w
+        let lq = occurrences (relabel_procedure naming_by_spelling forget scope n q') in
+        let lr = occurrences (relabel_procedures naming_by_spelling forget ((procedure_name q', n) ∷ scope) (ordinal_after_procedure (suc n) q') (mapped f g rest)) in
+        let up = le-ordinal_after_procedure (suc n) q' in
+        let counted = procedure_count f g (suc n) q ∙ ap (λ m. ordinal_after_procedure (suc m) q) same in
+        elim (nat_lt d (ordinal_after_procedure (suc n) q')) as (λ x. nat_lt d (ordinal_after_procedure (suc n) q') ≡ x
+        → (if x then value_in_procedure ((procedure_name q', non_constant) ∷ known) d (suc n) q'
+        else value_in_procedures ((procedure_name q', non_constant) ∷ known) d (ordinal_after_procedure (suc n) q') (mapped f g rest)) ≡ Some w
         → Late d k (names_in_procedures (more q rest)) (spell (more q rest)) (spell (gone_procedures d k (more q rest))) (occurrences (more q rest)) (lq ++ lr)) [
           | true ↦ λ t h.
-              late_by_procedure q rest k lq lr (subst (λ m. d < m) counted (ltb-true d (after_procedure (suc n) q') t))
-              (late_procedure ((procedure_name q', no_constant) ∷ known) scope k n same below q h)
+              late_by_procedure q rest k lq lr (subst (λ m. d < m) counted (ltb-true d (ordinal_after_procedure (suc n) q') t))
+              (late_procedure ((procedure_name q', non_constant) ∷ known) scope k n same below q h)
           | false ↦ λ t h.
-              let high = ltb-false d (after_procedure (suc n) q') t in
-              late_by_rest q rest k lq lr (subst (λ m. m ≤ d) counted high) (as_many-procedure as_names forget scope n q' ∙ as_many f g q)
-              (raised (after_procedure (suc n) q') d lq high (procedure_low scope n q' below))
-              (late_procedures ((procedure_name q', no_constant) ∷ known) ((procedure_name q', n) ∷ scope) (after_procedure (suc k) q) (after_procedure (suc n) q') counted
-              (omega (arith, up), scope_raised n (after_procedure (suc n) q') scope (omega (arith, up)) below) rest h)
+              let high = ltb-false d (ordinal_after_procedure (suc n) q') t in
+              late_by_rest q rest k lq lr (subst (λ m. m ≤ d) counted high) (as_many-procedure naming_by_spelling forget scope n q' ∙ as_many f g q)
+              (raised (ordinal_after_procedure (suc n) q') d lq high (procedure_low scope n q' below))
+              (late_procedures ((procedure_name q', non_constant) ∷ known) ((procedure_name q', n) ∷ scope) (ordinal_after_procedure (suc k) q) (ordinal_after_procedure (suc n) q') counted
+              (omega (arith, up), scope_raised n (ordinal_after_procedure (suc n) q') scope (omega (arith, up)) below) rest h)
         ] refl e
 
-    late_procedure : (known : Known) (scope : Scope Name) (k n : ℕ) → n ≡ k → ScopeLow n scope → (q : Tree ℕ (item procedure)) → value_in_procedure known d (suc n) (mapped f g q) ≡ Some w
-        → Late d k (names_in_procedure q) (spell q) (spell (gone_procedure d (suc k) q)) (occurrences q) (occurrences (relabel_procedure as_names forget scope n (mapped f g q)))
+    late_procedure : (known : ConstantEnvironment) (scope : Scope Name) (k n : ℕ) → n ≡ k → ScopeLow n scope → (q : Tree ℕ (item procedure)) → value_in_procedure known d (suc n) (mapped f g q) ≡ Some w
+        → Late d k (names_in_procedure q) (spell q) (spell (gone_procedure d (suc k) q)) (occurrences q) (occurrences (relabel_procedure naming_by_spelling forget scope n (mapped f g q)))
     late_procedure known scope k n same below (declares_procedure x fs b closing) e =
         let xs = formal_names (formal_sections (mapped f g fs)) in
-        let first = after_names (suc n) xs in
-        let lf = occurrences (relabel_formals as_names forget scope (suc n) (mapped f g fs)) in
+        let first = ordinal_after_names (suc n) xs in
+        let lf = occurrences (relabel_formals naming_by_spelling forget scope (suc n) (mapped f g fs)) in
         let h1 = scope_raised n (suc n) scope (omega arith) below in
         let h2 = declared_low (suc n) xs ((f x, n) ∷ scope) (omega arith, h1) in
         elim (nat_lt d first) as (λ y. nat_lt d first ≡ y → (if y then None
-        else value_in_block (bind_names xs no_constant known) d first (mapped f g b)) ≡ Some w
+        else value_in_block (bind_names xs non_constant known) d first (mapped f g b)) ≡ Some w
         → Late d k (names_in_procedure (declares_procedure x fs b closing)) (spell (declares_procedure x fs b closing)) (spell (gone_procedure d (suc k) (declares_procedure x fs b closing))) (occurrences (declares_procedure x fs b closing))
-        (lf ++ occurrences (relabel_block as_names forget (declare_names (suc n) xs ((f x, n) ∷ scope)) first (mapped f g b)))) [
+        (lf ++ occurrences (relabel_block naming_by_spelling forget (declare_names (suc n) xs ((f x, n) ∷ scope)) first (mapped f g b)))) [
           | true ↦ λ r h. absurd (cc)
           | false ↦ λ r h.
               let high = ltb-false d first r in
-              late_in_procedure x closing fs b k lf (occurrences (relabel_block as_names forget (declare_names (suc n) xs ((f x, n) ∷ scope)) first (mapped f g b)))
-              (as_many-formals as_names forget scope (suc n) (mapped f g fs) ∙ as_many f g fs)
+              late_in_procedure x closing fs b k lf (occurrences (relabel_block naming_by_spelling forget (declare_names (suc n) xs ((f x, n) ∷ scope)) first (mapped f g b)))
+              (as_many-formals naming_by_spelling forget scope (suc n) (mapped f g fs) ∙ as_many f g fs)
               (raised first d lf high (formals_low scope (suc n) (mapped f g fs) h1))
-              (late_block (bind_names xs no_constant known) (declare_names (suc n) xs ((f x, n) ∷ scope)) (after_names (suc k) (formal_names (formal_sections fs))) first
-              (formals_count f g (suc n) fs ∙ ap (λ m. after_names (suc m) (formal_names (formal_sections fs))) same) h2 b h)
+              (late_block (bind_names xs non_constant known) (declare_names (suc n) xs ((f x, n) ∷ scope)) (ordinal_after_names (suc k) (formal_names (formal_sections fs))) first
+              (formals_count f g (suc n) fs ∙ ap (λ m. ordinal_after_names (suc m) (formal_names (formal_sections fs))) same) h2 b h)
         ] refl e
 
   pub late_module : (m : Tree ℕ module_text) → value_of_constant (mapped f g m) d ≡ Some w
-      → Late d 7 (names_in (module_block m)) (spell m) (spell (gone_module d m)) (occurrences m) (occurrences (relabelled as_names forget (mapped f g m)))
+      → Late d 7 (names_in (module_block m)) (spell m) (spell (gone_module d m)) (occurrences m) (occurrences (relabel_module naming_by_spelling forget (mapped f g m)))
   unfolding value_of_constant
   late_module (is_module x b closing) e =
       let labels = names_in b in
       let left = spell (gone_block d 7 b) in
-      let tail : List (Terminal ℕ) = Mark (kind.Reserved reserved.End) ∷ lexeme.Name closing ∷ (Mark (kind.Symbol symbol.Dot) ∷ []) in
-      let lb = occurrences (relabel_block as_names forget (predeclared_scope as_names) 7 (mapped f g b)) in
-      let seven : ScopeLow 7 (predeclared_scope as_names) = (omega arith, (omega arith, (omega arith, (omega arith, (omega arith, (omega arith, (omega arith, tt))))))) in
-      elim (nat_lt d 7) as (λ y. (if y then None else value_in_block predeclared_known d 7 (mapped f g b)) ≡ Some w
+      let tail : List (Terminal ℕ) = Mark (kind.ReservedWord reserved.End) ∷ lexeme.Name closing ∷ (Mark (kind.Symbol symbol.Dot) ∷ []) in
+      let lb = occurrences (relabel_block naming_by_spelling forget (predeclared_scope naming_by_spelling) 7 (mapped f g b)) in
+      let seven : ScopeLow 7 (predeclared_scope naming_by_spelling) = (omega arith, (omega arith, (omega arith, (omega arith, (omega arith, (omega arith, (omega arith, tt))))))) in
+      elim (nat_lt d 7) as (λ y. (if y then None else value_in_block predeclared_constants d 7 (mapped f g b)) ≡ Some w
       → Late d 7 labels (spell (is_module x b closing)) (spell (gone_module d (is_module x b closing))) (occurrences b) lb) [
         | true ↦ λ h. absurd (cc)
         | false ↦ λ h.
-            let there = late_block predeclared_known (predeclared_scope as_names) 7 7 refl seven b h in
+            let there = late_block predeclared_constants (predeclared_scope naming_by_spelling) 7 7 refl seven b h in
             let ended : Late d 7 labels (spell b ++ tail) (left ++ tail) (occurrences b ++ []) (lb ++ []) = late_following d 7 labels (spell b) left tail (occurrences b) [] lb [] tt there in
-            late_before d 7 labels (Mark (kind.Reserved reserved.Module) ∷ lexeme.Name x ∷ Mark (kind.Symbol symbol.Semicolon) ∷ []) (spell b ++ tail) (left ++ tail) [] (occurrences b) [] lb refl tt
+            late_before d 7 labels (Mark (kind.ReservedWord reserved.Module) ∷ lexeme.Name x ∷ Mark (kind.Symbol symbol.Semicolon) ∷ []) (spell b ++ tail) (left ++ tail) [] (occurrences b) [] lb refl tt
             (subst (λ (o : List ℕ). Late d 7 labels (spell b ++ tail) (left ++ tail) o lb) (append-nil (occurrences b))
             (subst (λ (l : List (Option ℕ)). Late d 7 labels (spell b ++ tail) (left ++ tail) (occurrences b ++ []) l) (append-nil lb) ended))
       ] e

@@ -4,15 +4,15 @@ use Rattle.std.specs.Prelude.{negsuc}
 use Rattle.std.proofs.Common.{◌≡◌, ℕ, suc, ◌+◌, ◌≤◌, Bool, true, false, if◌then◌else◌, nat_lt, List, [], ◌∷◌, ◌++◌, map, refl, ap, ◌∙◌, arith}
 use Rattle.std.proofs.lemmas.List.{append_cancel_right}
 use Rattle.ob0_scan.specs.declared.lexeme.Token.{Token}
-use Rattle.ob0_scan.specs.Scanned.{Word, read_in}
+use Rattle.ob0_scan.specs.TextWithTokens.{Word, word_of_token}
 use Rattle.ob0_text.specs.declared.edits.Edit.{Edit}
 use Rattle.ob0_text.specs.declared.position_types.Unit as counting
 use Rattle.ob0_tree.specs.Lexeme.{EndOfText}
-use Rattle.ob0_tree.specs.Parsed.{Parsed, IsParsed, tree_of}
-use Rattle.ob0_tree.specs.Places.{lexeme_of, lexemes_from}
+use Rattle.ob0_tree.specs.ParsedModule.{ParsedModule, IsParsed, tree_of}
+use Rattle.ob0_tree.specs.Places.{index_terminal, index_terminals_from}
 use Rattle.ob0_tree.specs.Tree.{Tree, factor, module_text, nesting, spell}
 use Rattle.ob0_edits_tokens.specs.Changed.{words_of}
-use Rattle.ob0_edits_tokens.specs.OfTrees.{numbered_tokens}
+use Rattle.ob0_edits_tokens.specs.OfTrees.{indexed_tokens}
 use Rattle.ob0_edits_tokens.specs.Replaced.{LeavesWords}
 use Rattle.ob0_edits_tokens.specs.Words.{word_lexeme}
 use Rattle.ob0_language_values.specs.declared.scalar.Scalar.{Scalar}
@@ -21,16 +21,16 @@ use Rattle.ob0_inline.specs.Inlined.{LeavesModule}
 use Rattle.ob0_inline.specs.Values.{value_factor, value_words}
 use Rattle.ob0_inline.proofs.Depths.{lexemes_of_words}
 
-lexemes_placed : (text : List ℕ) (i : ℕ) (ts : List Token) → lexemes_from i ts ≡ numbered_tokens i (map (read_in text) ts) ++ (EndOfText ∷ [])
+lexemes_placed : (text : List ℕ) (i : ℕ) (ts : List Token) → index_terminals_from i ts ≡ indexed_tokens i (map (word_of_token text) ts) ++ (EndOfText ∷ [])
 lexemes_placed text i [] = refl
 lexemes_placed text i (t ∷ ts) =
     let next : i + 1 ≡ suc i = omega arith in
-    let rest = ap (λ n. lexemes_from n ts) next ∙ lexemes_placed text (suc i) ts in
-    λ j. lexeme_of i t.kind ∷ rest j
+    let rest = ap (λ n. index_terminals_from n ts) next ∙ lexemes_placed text (suc i) ts in
+    λ j. index_terminal i t.kind ∷ rest j
 
 -- The words with their indexes spell the tree over the tokens' indexes.
-pub spelled_by_words : (m : Parsed) → IsParsed m → spell (tree_of m) ≡ numbered_tokens 0 (words_of m.source)
-spelled_by_words m parsed = append_cancel_right (spell (tree_of m)) (numbered_tokens 0 (words_of m.source)) (EndOfText ∷ []) (parsed.places ∙ lexemes_placed m.source.text 0 m.source.tokens)
+pub spelled_by_words : (m : ParsedModule) → IsParsed m → spell (tree_of m) ≡ indexed_tokens 0 (words_of m.source)
+spelled_by_words m parsed = append_cancel_right (spell (tree_of m)) (indexed_tokens 0 (words_of m.source)) (EndOfText ∷ []) (parsed.places ∙ lexemes_placed m.source.text 0 m.source.tokens)
 
 -- A conditional spells its tree if both of its cases spell theirs.
 either_spelled : (b : Bool) (vs ws : List Word) (v w : Tree (List ℕ) factor) → map word_lexeme vs ≡ spell v → map word_lexeme ws ≡ spell w → map word_lexeme (if b then vs else ws) ≡ spell (if b then v else w)

@@ -3,18 +3,18 @@
 -- declaration makes no tree deeper.
 use Rattle.std.proofs.Common.{◌≡◌, ℕ, suc, ◌+◌, ◌≤◌, ◌==◌, Bool, true, false, length, if◌then◌else◌, nat_lt, arith}
 use Rattle.std.specs.Prelude.{negsuc}
-use Rattle.ob0_tree.specs.Parsed.{Parsed, named_tree_of, tree_of}
+use Rattle.ob0_tree.specs.ParsedModule.{ParsedModule, named_tree_of, tree_of}
 use Rattle.ob0_tree.specs.Places as leaf
 use Rattle.ob0_tree.specs.Tree.{Sort, Tree, block, constant, constants, factor, item, items, maybe, module_text, nesting, occurrences, procedure, adds, array_type, assigns, begins, branches, calls, compares, declares, declares_constant, declares_constants, declares_procedure, declares_type, declares_types, declares_variable, declares_variables, designator, else_branch, elsif_branch, end, has_body, index, is_module, more, multiplies, negation, none, one, parenthesised, product, record_type, relates, repeat_loop, runs, some_arguments, some_fields, some_formals, sum, then_argument, then_fields, then_section, then_statement, value_section, variable_section, while_loop}
 use Rattle.ob0_tree.proofs.Mapped.{nesting_mapped}
-use Rattle.ob0_language_names.specs.Inlining.{Uses, all_bound_to, block_without, inline_in, inlined, module_without, procedure_without, procedures_without, section_without, without}
+use Rattle.ob0_language_names.specs.Inlining.{OccurrenceSet, occurrences_bound_to, block_without, inline_in, inlined, module_without, procedure_without, procedures_without, section_without, constants_without}
 use Rattle.ob0_language_names.specs.Names.{Name}
 use Rattle.ob0_language_names.specs.Parts.{formal_names, formal_sections}
-use Rattle.ob0_language_names.specs.Scopes.{after_names, after_procedure, first_procedure}
+use Rattle.ob0_language_names.specs.Scopes.{ordinal_after_names, ordinal_after_procedure, first_procedure_ordinal}
 use Rattle.ob0_language_values.specs.declared.scalar.Scalar.{Scalar}
 use Rattle.ob0_language_values.specs.declared.scalar.Scalar.TheVariants as scalar
 use Rattle.ob0_inline.specs.declared.constants.NamedConstant.{NamedConstant}
-use Rattle.ob0_inline.specs.Everywhere.{inlined_all}
+use Rattle.ob0_inline.specs.Everywhere.{tree_inlined_everywhere}
 use Rattle.ob0_inline.specs.Values.{value_factor}
 
 either_shallow : (b : Bool) (v w : Tree Name factor) → nesting v ≤ 1 → nesting w ≤ 1 → nesting (if b then v else w) ≤ 1
@@ -25,7 +25,7 @@ value_shallow : (value : Scalar) → nesting (value_factor value) ≤ 1
 value_shallow (scalar.Number (negsuc n)) = either_shallow (nat_lt n 2147483647) _ _ (omega arith) (omega arith)
 value_shallow _ = omega arith
 
-module _ (uses : Uses) (v : Tree Name factor) where
+module _ (uses : OccurrenceSet) (v : Tree Name factor) where
   name_low : (x : Name) (b : Bool) → nesting (if b then v else designator x end) ≤ nesting v
   name_low x true = omega arith
   name_low x false = omega arith
@@ -77,7 +77,7 @@ module _ (uses : Uses) (v : Tree Name factor) where
   inlined_low k (is_module x t y) = omega (arith, inlined_low k t)
   inlined_low k _ = omega arith
 
-pub inlined_shallow : (m : Parsed) (uses : Uses) (value : Scalar) → nesting (inlined (named_tree_of m) uses (value_factor value)) ≤ nesting (tree_of m) + 1
+pub inlined_shallow : (m : ParsedModule) (uses : OccurrenceSet) (value : Scalar) → nesting (inlined (named_tree_of m) uses (value_factor value)) ≤ nesting (tree_of m) + 1
 inlined_shallow m uses value =
     let deeper = inlined_low uses (value_factor value) 0 (named_tree_of m) in
     let same : nesting (named_tree_of m) ≡ nesting (tree_of m) = nesting_mapped (leaf.text_at m.source) (leaf.value_at m.source) (tree_of m) in
@@ -85,11 +85,11 @@ inlined_shallow m uses value =
     omega (arith, deeper, same, low)
 
 -- Removing a declaration makes no tree deeper.
-constants_low : (d k : ℕ) (cs : Tree Name (items constant)) → nesting (without d k cs) ≤ nesting cs
+constants_low : (d k : ℕ) (cs : Tree Name (items constant)) → nesting (constants_without d k cs) ≤ nesting cs
 constants_low d k end = omega arith
 constants_low d k (more c cs) =
     let rest = constants_low d (suc k) cs in
-    elim (k == d) as (λ b. nesting (if b then cs else more c (without d (suc k) cs)) ≤ nesting (more c cs)) [ true ↦ omega arith | false ↦ omega (arith, rest) ]
+    elim (k == d) as (λ b. nesting (if b then cs else more c (constants_without d (suc k) cs)) ≤ nesting (more c cs)) [ true ↦ omega arith | false ↦ omega (arith, rest) ]
 
 section_low : (d k : ℕ) (cs : Tree Name (maybe constants)) → nesting (section_without d k cs) ≤ nesting cs
 section_low d k none = omega arith
@@ -99,27 +99,27 @@ mutual
   block_low : (d k : ℕ) (b : Tree Name block) → nesting (block_without d k b) ≤ nesting b
   block_low d k (has_body (declares cs ts vs ps) statements) =
       let first = section_low d k cs in
-      let last = procedures_low d (first_procedure k (has_body (declares cs ts vs ps) statements)) ps in
+      let last = procedures_low d (first_procedure_ordinal k (has_body (declares cs ts vs ps) statements)) ps in
       omega (arith, first, last)
 
   procedures_low : (d k : ℕ) (ps : Tree Name (items procedure)) → nesting (procedures_without d k ps) ≤ nesting ps
   procedures_low d k end = omega arith
   procedures_low d k (more p rest) =
       let first = procedure_low d (suc k) p in
-      let others = procedures_low d (after_procedure (suc k) p) rest in
+      let others = procedures_low d (ordinal_after_procedure (suc k) p) rest in
       omega (arith, first, others)
 
   procedure_low : (d k : ℕ) (p : Tree Name (item procedure)) → nesting (procedure_without d k p) ≤ nesting p
   procedure_low d k (declares_procedure x fs b closing) =
-      let inner = block_low d (after_names k (formal_names (formal_sections fs))) b in
+      let inner = block_low d (ordinal_after_names k (formal_names (formal_sections fs))) b in
       omega (arith, inner)
 
 module_low : (d : ℕ) (m : Tree Name module_text) → nesting (module_without d m) ≤ nesting m
 module_low d (is_module x b closing) = block_low d 7 b
 
-pub everywhere_shallow : (m : Parsed) (c : NamedConstant) → nesting (inlined_all m c) ≤ nesting (tree_of m) + 1
+pub everywhere_shallow : (m : ParsedModule) (c : NamedConstant) → nesting (tree_inlined_everywhere m c) ≤ nesting (tree_of m) + 1
 everywhere_shallow m c =
-    let uses = all_bound_to (named_tree_of m) c.ordinal in
+    let uses = occurrences_bound_to (named_tree_of m) c.ordinal in
     let less = module_low c.ordinal (inlined (named_tree_of m) uses (value_factor c.value)) in
     let shallow = inlined_shallow m uses c.value in
     omega (arith, less, shallow)

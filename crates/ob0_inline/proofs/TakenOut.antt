@@ -4,7 +4,7 @@
 -- the tree into three parts: the tokens up to CONST or a semicolon, the declaration from its name
 -- to its semicolon, and the rest. The declaration contains no other semicolon.
 use Rattle.std.proofs.Common.{zero, slice_get, ◌≡◌, ◌≢◌, ◌⊎◌, ℕ, suc, ◌+◌, ◌<◌, ◌≤◌, ◌==◌, Bool, true, false, if◌then◌else◌, Option, Some, None, List, [], ◌∷◌, ◌++◌, length, refl, sym, ap, ◌∙◌, arith, append_assoc, ne_eqb}
-use Rattle.ob0_scan.specs.declared.lexeme.Reserved.TheVariants as reserved
+use Rattle.ob0_scan.specs.declared.lexeme.ReservedWord.TheVariants as reserved
 use Rattle.ob0_scan.specs.declared.lexeme.Symbol.TheVariants as symbol
 use Rattle.ob0_scan.specs.declared.lexeme.TokenKind.{TokenKind}
 use Rattle.ob0_scan.specs.declared.lexeme.TokenKind.TheVariants as kind
@@ -16,14 +16,14 @@ use Rattle.ob0_tree.specs.declared.tree.Relation.{Relation}
 use Rattle.ob0_tree.specs.declared.tree.Relation.TheVariants as relation
 use Rattle.ob0_tree.specs.declared.tree.Sign.{Sign}
 use Rattle.ob0_tree.specs.declared.tree.Sign.TheVariants as sign
-use Rattle.ob0_tree.specs.Lexeme.{Terminal, Mark, add_mark, multiply_mark, relation_mark, sign_marks}
+use Rattle.ob0_tree.specs.Lexeme.{Terminal, Mark, add_operator_token, multiply_operator_token, relation_token, sign_tokens}
 use Rattle.ob0_tree.specs.Lexeme as lexeme
 use Rattle.ob0_tree.specs.Tree.{Tree, addend, adds, compares, designator, expression, factor, field, index, integer, multiplier, multiplies, negation, parenthesised, product, relates, selector, simple, sum, term, block, constant, constants, declares, declares_constant, declares_constants, declares_procedure, end, formals, has_body, is_module, item, items, mapped, maybe, module_text, more, none, one, procedure, spell}
 use Rattle.ob0_language_names.specs.Names.{Name}
-use Rattle.ob0_language_names.specs.Parts.{constant_names, formal_names, formal_sections, named_types, section_constants, section_types, section_variables, variable_names}
-use Rattle.ob0_language_names.specs.Scopes.{after_block, after_names, after_procedure, after_procedures, first_procedure, first_type}
-use Rattle.ob0_types_check.proofs.DeclaredNames.{after_block-mapped, after_names-map, after_procedure-mapped, formals-names}
-use Rattle.ob0_language_names.proofs.Ordinals.{le-after_names, le-after_procedure, le-after_procedures}
+use Rattle.ob0_language_names.specs.Parts.{constant_names, formal_names, formal_sections, declared_type_names, section_constants, section_types, section_variables, variable_names}
+use Rattle.ob0_language_names.specs.Scopes.{ordinal_after_block, ordinal_after_names, ordinal_after_procedure, ordinal_after_procedures, first_procedure_ordinal, first_type_ordinal}
+use Rattle.ob0_types_check.proofs.DeclaredNames.{ordinal_after_block-mapped, ordinal_after_names-map, ordinal_after_procedure-mapped, formals-names}
+use Rattle.ob0_language_names.proofs.Ordinals.{le-ordinal_after_names, le-ordinal_after_procedure, le-ordinal_after_procedures}
 
 -- returns constants without the declaration with ordinal d, over any names
 abbrev pub gone_constants : {N : Type 0} → ℕ → ℕ → Tree N (items constant) → Tree N (items constant)
@@ -37,14 +37,14 @@ gone_section d k (one (declares_constants cs)) = one (declares_constants (gone_c
 abbrev mutual
   pub gone_block : {N : Type 0} → ℕ → ℕ → Tree N block → Tree N block
   gone_block d k (has_body (declares cs ts vs ps) statements) =
-      has_body (declares (gone_section d k cs) ts vs (gone_procedures d (first_procedure k (has_body (declares cs ts vs ps) statements)) ps)) statements
+      has_body (declares (gone_section d k cs) ts vs (gone_procedures d (first_procedure_ordinal k (has_body (declares cs ts vs ps) statements)) ps)) statements
 
   pub gone_procedures : {N : Type 0} → ℕ → ℕ → Tree N (items procedure) → Tree N (items procedure)
   gone_procedures d k end = end
-  gone_procedures d k (more p rest) = more (gone_procedure d (suc k) p) (gone_procedures d (after_procedure (suc k) p) rest)
+  gone_procedures d k (more p rest) = more (gone_procedure d (suc k) p) (gone_procedures d (ordinal_after_procedure (suc k) p) rest)
 
   pub gone_procedure : {N : Type 0} → ℕ → ℕ → Tree N (item procedure) → Tree N (item procedure)
-  gone_procedure d k (declares_procedure x fs b closing) = declares_procedure x fs (gone_block d (after_names k (formal_names (formal_sections fs))) b) closing
+  gone_procedure d k (declares_procedure x fs b closing) = declares_procedure x fs (gone_block d (ordinal_after_names k (formal_names (formal_sections fs))) b) closing
 
 abbrev pub gone_module : {N : Type 0} → ℕ → Tree N module_text → Tree N module_text
 gone_module d (is_module x b closing) = is_module x (gone_block d 7 b) closing
@@ -52,17 +52,17 @@ gone_module d (is_module x b closing) = is_module x (gone_block d 7 b) closing
 -- A tree declares as much with other names. Its sections are counted like the sections of a block
 -- without other parts.
 module _ (f : ℕ → Name) (g : ℕ → ℕ) where
-  pub formals_count : (k : ℕ) (fs : Tree ℕ (maybe formals)) → after_names k (formal_names (formal_sections (mapped f g fs))) ≡ after_names k (formal_names (formal_sections fs))
-  formals_count k fs = ap (after_names k) (formals-names f g fs) ∙ after_names-map f k (formal_names (formal_sections fs))
+  pub formals_count : (k : ℕ) (fs : Tree ℕ (maybe formals)) → ordinal_after_names k (formal_names (formal_sections (mapped f g fs))) ≡ ordinal_after_names k (formal_names (formal_sections fs))
+  formals_count k fs = ap (ordinal_after_names k) (formals-names f g fs) ∙ ordinal_after_names-map f k (formal_names (formal_sections fs))
 
-  pub first_type_count : (k : ℕ) (b : Tree ℕ block) → first_type k (mapped f g b) ≡ first_type k b
-  first_type_count k (has_body (declares cs ts vs ps) statements) = after_block-mapped f g k k refl (has_body (declares cs none none end) statements)
+  pub first_type_count : (k : ℕ) (b : Tree ℕ block) → first_type_ordinal k (mapped f g b) ≡ first_type_ordinal k b
+  first_type_count k (has_body (declares cs ts vs ps) statements) = ordinal_after_block-mapped f g k k refl (has_body (declares cs none none end) statements)
 
-  pub first_procedure_count : (k : ℕ) (b : Tree ℕ block) → first_procedure k (mapped f g b) ≡ first_procedure k b
-  first_procedure_count k (has_body (declares cs ts vs ps) statements) = after_block-mapped f g k k refl (has_body (declares cs ts vs end) statements)
+  pub first_procedure_count : (k : ℕ) (b : Tree ℕ block) → first_procedure_ordinal k (mapped f g b) ≡ first_procedure_ordinal k b
+  first_procedure_count k (has_body (declares cs ts vs ps) statements) = ordinal_after_block-mapped f g k k refl (has_body (declares cs ts vs end) statements)
 
-  pub procedure_count : (k : ℕ) (p : Tree ℕ (item procedure)) → after_procedure k (mapped f g p) ≡ after_procedure k p
-  procedure_count k p = after_procedure-mapped f g k k refl p
+  pub procedure_count : (k : ℕ) (p : Tree ℕ (item procedure)) → ordinal_after_procedure k (mapped f g p) ≡ ordinal_after_procedure k p
+  procedure_count k p = ordinal_after_procedure-mapped f g k k refl p
 
 -- true for a `;`
 abbrev pub is_end : TokenKind → Bool
@@ -81,7 +81,7 @@ pub record Taken (d k : ℕ) (labels : List ℕ) (whole left : List (Terminal �
   pub ordinal_is : d ≡ k + place
   pub before : List (Terminal ℕ)
   pub border : TokenKind
-  pub opens : (border ≡ kind.Reserved reserved.Const) ⊎ (border ≡ kind.Symbol symbol.Semicolon)
+  pub opens : (border ≡ kind.ReservedWord reserved.Const) ⊎ (border ≡ kind.Symbol symbol.Semicolon)
   pub name : ℕ
   pub named_there : slice_get labels place ≡ Some name
   pub right : List (Terminal ℕ)
@@ -159,42 +159,42 @@ get_later (x ∷ xs) ys j = ap (slice_get (x ∷ (xs ++ ys))) (let e : suc (leng
 abbrev pub Outside : ℕ → ℕ → ℕ → Type 0
 Outside d k after = (j : ℕ) → k ≤ j → j < after → j ≢ d
 
-pub kept_constants : {N : Type 0} (d k : ℕ) (cs : Tree N (items constant)) → Outside d k (after_names k (constant_names cs)) → gone_constants d k cs ≡ cs
+pub kept_constants : {N : Type 0} (d k : ℕ) (cs : Tree N (items constant)) → Outside d k (ordinal_after_names k (constant_names cs)) → gone_constants d k cs ≡ cs
 kept_constants d k end h = refl
 kept_constants d k (more (declares_constant x e) cs) h =
-    let up = le-after_names (suc k) (constant_names cs) in
+    let up = le-ordinal_after_names (suc k) (constant_names cs) in
     ap (λ b. if b then cs else more (declares_constant x e) (gone_constants d (suc k) cs)) (ne_eqb k d (h k (omega arith) (omega (arith, up))))
     ∙ (λ i. more (declares_constant x e) (kept_constants d (suc k) cs (λ j l u. h j (omega (arith, l)) u) i))
 
-pub kept_section : {N : Type 0} (d k : ℕ) (cs : Tree N (maybe constants)) → Outside d k (after_names k (constant_names (section_constants cs))) → gone_section d k cs ≡ cs
+pub kept_section : {N : Type 0} (d k : ℕ) (cs : Tree N (maybe constants)) → Outside d k (ordinal_after_names k (constant_names (section_constants cs))) → gone_section d k cs ≡ cs
 kept_section d k none h = refl
 kept_section d k (one (declares_constants cs)) h = λ i. one (declares_constants (kept_constants d k cs h i))
 
 mutual
-  kept_block : {N : Type 0} (d k : ℕ) (b : Tree N block) → Outside d k (after_block k b) → gone_block d k b ≡ b
+  kept_block : {N : Type 0} (d k : ℕ) (b : Tree N block) → Outside d k (ordinal_after_block k b) → gone_block d k b ≡ b
   kept_block {N} d k (has_body (declares cs ts vs ps) statements) h =
       let b : Tree N block = has_body (declares cs ts vs ps) statements in
-      let up = le-after_names k (constant_names (section_constants cs)) in
-      let up2 = le-after_names (after_names k (constant_names (section_constants cs))) (named_types (section_types ts)) in
-      let up3 = le-after_names (after_names (after_names k (constant_names (section_constants cs))) (named_types (section_types ts))) (variable_names (section_variables vs)) in
-      let up4 = le-after_procedures (first_procedure k b) ps in
+      let up = le-ordinal_after_names k (constant_names (section_constants cs)) in
+      let up2 = le-ordinal_after_names (ordinal_after_names k (constant_names (section_constants cs))) (declared_type_names (section_types ts)) in
+      let up3 = le-ordinal_after_names (ordinal_after_names (ordinal_after_names k (constant_names (section_constants cs))) (declared_type_names (section_types ts))) (variable_names (section_variables vs)) in
+      let up4 = le-ordinal_after_procedures (first_procedure_ordinal k b) ps in
       λ i. has_body
       (declares (kept_section d k cs (λ j l u. h j l (omega (arith, u, up2, up3, up4))) i) ts vs
-      (kept_procedures d (first_procedure k b) ps (λ j l u. h j (omega (arith, l, up, up2, up3)) u) i))
+      (kept_procedures d (first_procedure_ordinal k b) ps (λ j l u. h j (omega (arith, l, up, up2, up3)) u) i))
       statements
 
-  pub kept_procedures : {N : Type 0} (d k : ℕ) (ps : Tree N (items procedure)) → Outside d k (after_procedures k ps) → gone_procedures d k ps ≡ ps
+  pub kept_procedures : {N : Type 0} (d k : ℕ) (ps : Tree N (items procedure)) → Outside d k (ordinal_after_procedures k ps) → gone_procedures d k ps ≡ ps
   kept_procedures d k end h = refl
   kept_procedures d k (more p rest) h =
-      let up = le-after_procedure (suc k) p in
-      let up2 = le-after_procedures (after_procedure (suc k) p) rest in
+      let up = le-ordinal_after_procedure (suc k) p in
+      let up2 = le-ordinal_after_procedures (ordinal_after_procedure (suc k) p) rest in
       λ i. more (kept_procedure d (suc k) p (λ j l u. h j (omega (arith, l)) (omega (arith, u, up2))) i)
-      (kept_procedures d (after_procedure (suc k) p) rest (λ j l u. h j (omega (arith, l, up)) u) i)
+      (kept_procedures d (ordinal_after_procedure (suc k) p) rest (λ j l u. h j (omega (arith, l, up)) u) i)
 
-  pub kept_procedure : {N : Type 0} (d k : ℕ) (p : Tree N (item procedure)) → Outside d k (after_procedure k p) → gone_procedure d k p ≡ p
+  pub kept_procedure : {N : Type 0} (d k : ℕ) (p : Tree N (item procedure)) → Outside d k (ordinal_after_procedure k p) → gone_procedure d k p ≡ p
   kept_procedure d k (declares_procedure x fs b closing) h =
-      let up = le-after_names k (formal_names (formal_sections fs)) in
-      λ i. declares_procedure x fs (kept_block d (after_names k (formal_names (formal_sections fs))) b (λ j l u. h j (omega (arith, l, up)) u) i) closing
+      let up = le-ordinal_after_names k (formal_names (formal_sections fs)) in
+      λ i. declares_procedure x fs (kept_block d (ordinal_after_names k (formal_names (formal_sections fs))) b (λ j l u. h j (omega (arith, l, up)) u) i) closing
 
 -- Two lists without `;` have none together.
 no_end_append : {N : Type 0} (xs ys : List (Terminal N)) → NoEnd xs → NoEnd ys → NoEnd (xs ++ ys)
@@ -202,19 +202,19 @@ no_end_append [] ys p q = q
 no_end_append (Mark k ∷ xs) ys p q = (p.0, no_end_append xs ys p.1 q)
 no_end_append (_ ∷ xs) ys p q = no_end_append xs ys p q
 
-relation_no_end : (r : Relation) → is_end (relation_mark r) ≡ false
+relation_no_end : (r : Relation) → is_end (relation_token r) ≡ false
 relation_no_end relation.Equal = refl
 relation_no_end _ = refl
 
-add_no_end : (o : AddOperator) → is_end (add_mark o) ≡ false
+add_no_end : (o : AddOperator) → is_end (add_operator_token o) ≡ false
 add_no_end add_operator.Add = refl
 add_no_end _ = refl
 
-multiply_no_end : (o : MultiplyOperator) → is_end (multiply_mark o) ≡ false
+multiply_no_end : (o : MultiplyOperator) → is_end (multiply_operator_token o) ≡ false
 multiply_no_end multiply_operator.Multiply = refl
 multiply_no_end _ = refl
 
-sign_no_end : (s : Option Sign) → NoEnd {N = ℕ} (sign_marks s)
+sign_no_end : (s : Option Sign) → NoEnd {N = ℕ} (sign_tokens s)
 sign_no_end None = tt
 sign_no_end (Some sign.Plus) = (refl, tt)
 sign_no_end (Some sign.Minus) = (refl, tt)
@@ -222,21 +222,21 @@ sign_no_end (Some sign.Minus) = (refl, tt)
 mutual
   pub expression_no_end : (e : Tree ℕ expression) → NoEnd (spell e)
   expression_no_end (compares a none) = no_end_append (spell a) [] (simple_no_end a) tt
-  expression_no_end (compares a (one (relates r b))) = no_end_append (spell a) (Mark (relation_mark r) ∷ spell b) (simple_no_end a) (relation_no_end r, simple_no_end b)
+  expression_no_end (compares a (one (relates r b))) = no_end_append (spell a) (Mark (relation_token r) ∷ spell b) (simple_no_end a) (relation_no_end r, simple_no_end b)
 
   simple_no_end : (a : Tree ℕ simple) → NoEnd (spell a)
-  simple_no_end (sum s t rest) = no_end_append (sign_marks s) (spell t ++ spell rest) (sign_no_end s) (no_end_append (spell t) (spell rest) (term_no_end t) (addends_no_end rest))
+  simple_no_end (sum s t rest) = no_end_append (sign_tokens s) (spell t ++ spell rest) (sign_no_end s) (no_end_append (spell t) (spell rest) (term_no_end t) (addends_no_end rest))
 
   addends_no_end : (rest : Tree ℕ (items addend)) → NoEnd (spell rest)
   addends_no_end end = tt
-  addends_no_end (more (adds o t) rest) = no_end_append (Mark (add_mark o) ∷ spell t) (spell rest) (add_no_end o, term_no_end t) (addends_no_end rest)
+  addends_no_end (more (adds o t) rest) = no_end_append (Mark (add_operator_token o) ∷ spell t) (spell rest) (add_no_end o, term_no_end t) (addends_no_end rest)
 
   term_no_end : (t : Tree ℕ term) → NoEnd (spell t)
   term_no_end (product a rest) = no_end_append (spell a) (spell rest) (factor_no_end a) (multipliers_no_end rest)
 
   multipliers_no_end : (rest : Tree ℕ (items multiplier)) → NoEnd (spell rest)
   multipliers_no_end end = tt
-  multipliers_no_end (more (multiplies o a) rest) = no_end_append (Mark (multiply_mark o) ∷ spell a) (spell rest) (multiply_no_end o, factor_no_end a) (multipliers_no_end rest)
+  multipliers_no_end (more (multiplies o a) rest) = no_end_append (Mark (multiply_operator_token o) ∷ spell a) (spell rest) (multiply_no_end o, factor_no_end a) (multipliers_no_end rest)
 
   factor_no_end : (a : Tree ℕ factor) → NoEnd (spell a)
   factor_no_end (designator x path) = path_no_end path

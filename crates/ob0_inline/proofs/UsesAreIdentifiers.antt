@@ -4,11 +4,11 @@ use Rattle.std.proofs.Common.{◌≡◌, ◌≢◌, ℕ, zero, suc, ◌+◌, ◌
 use Rattle.std.specs.List.{All, flat_map}
 use Rattle.std.proofs.lemmas.List.Elements.{All-head, All-tail}
 use Rattle.ob0_scan.specs.declared.lexeme.Token.{Token}
-use Rattle.ob0_scan.specs.Scanned.{Word, read_in}
+use Rattle.ob0_scan.specs.TextWithTokens.{Word, word_of_token}
 use Rattle.ob0_tree.specs.declared.tree.Role.{Role}
 use Rattle.ob0_tree.specs.declared.tree.Role.TheVariants as role
-use Rattle.ob0_tree.specs.Order.{AreIdentifiers, Ascending, IsIdentifierToken, names_only}
-use Rattle.ob0_tree.specs.Parsed.{named_tree_of, tree_of}
+use Rattle.ob0_tree.specs.Order.{AreIdentifierTokens, AreAscending, IsIdentifierToken, names_without_roles}
+use Rattle.ob0_tree.specs.ParsedModule.{named_tree_of, tree_of}
 use Rattle.ob0_tree.specs.Places as leaf
 use Rattle.ob0_tree.specs.Lexeme.{Terminal}
 use Rattle.ob0_tree.specs.Tree.{Tree, factor, identifiers, mapped, occurrences, spell}
@@ -16,34 +16,34 @@ use Rattle.ob0_tree.proofs.Leaves.{leaves_are_identifiers, leaves_ascend, ascend
 use Rattle.ob0_tree.proofs.Occurring.{looked_up_only, looked_up-occurrences}
 use Rattle.ob0_edits_tokens.specs.Changed.{is_among}
 use Rattle.ob0_edits_tokens.specs.OfTrees.{number_at, text_of_word}
-use Rattle.ob0_edits_tokens.specs.Replaced.{AreNames}
+use Rattle.ob0_edits_tokens.specs.Replaced.{AreIdentifierIndexes}
 use Rattle.ob0_edits_tokens.specs.Words.{word_lexeme}
 use Rattle.ob0_edits_tokens.proofs.OfTrees.{put, replaced}
-use Rattle.ob0_language_names.specs.Elsewhere.{names_elsewhere}
-use Rattle.ob0_language_names.specs.Inlining.{Uses, inline_in, module_without}
-use Rattle.ob0_language_names.specs.Names.{Label, Name, as_names, declared}
+use Rattle.ob0_language_names.specs.NonFactorNames.{non_factor_names}
+use Rattle.ob0_language_names.specs.Inlining.{OccurrenceSet, inline_in, module_without}
+use Rattle.ob0_language_names.specs.Names.{Label, Name, naming_by_spelling, declared}
 use Rattle.ob0_language_types.proofs.Literals.{some_inverse}
 use Rattle.ob0_scope_table.specs.Resolution.{IsResolution, Resolution, label_at, ordinal_in}
-use Rattle.ob0_language_names.specs.Scopes.{as_label}
+use Rattle.ob0_language_names.specs.Scopes.{label_from_ordinal}
 use Rattle.ob0_scope.proofs.SeenInPlaces.{AllMarked, occurrence_table, uses_reported}
-use Rattle.ob0_inline.specs.Everywhere.{IsAlone}
+use Rattle.ob0_inline.specs.Everywhere.{UsesAreFactors}
 use Rattle.ob0_inline.proofs.Spelled.{Agrees, NoneIs, agrees_each, module_spelled, spelled}
 use Rattle.ob0_inline.proofs.TakenOut.{gone_module}
 
 -- Identifiers in text order are names in text order.
-pub names_from : (ts : List Token) (low high : ℕ) (is : List ℕ) → Ascending low is high → AreIdentifiers ts is → AreNames ts low is
+pub names_from : (ts : List Token) (low high : ℕ) (is : List ℕ) → AreAscending low is high → AreIdentifierTokens ts is → AreIdentifierIndexes ts low is
 names_from ts low high [] a h = tt
 names_from ts low high (i ∷ is) a h =
     let next : i + 1 ≡ suc i = omega arith in
-    (a.0, h.0.0, h.0.1 _, subst (λ n. AreNames ts n is) next (names_from ts (i + 1) high is a.1 h.1))
+    (a.0, h.0.0, h.0.1 _, subst (λ n. AreIdentifierIndexes ts n is) next (names_from ts (i + 1) high is a.1 h.1))
 
 -- The identifiers of a module that are looked up ascend.
-looked_up_ascend : (low high : ℕ) (xs : List (Role × ℕ)) → Ascending low (names_only xs) high → Ascending low (looked_up_only xs) high
+looked_up_ascend : (low high : ℕ) (xs : List (Role × ℕ)) → AreAscending low (names_without_roles xs) high → AreAscending low (looked_up_only xs) high
 looked_up_ascend low high [] a = a
 looked_up_ascend low high ((role.LookedUp, i) ∷ xs) a = (a.0, looked_up_ascend (i + 1) high xs a.1)
 looked_up_ascend low high ((_, i) ∷ xs) a = ascending_lower low (i + 1) _ high (omega (arith, a.0)) (looked_up_ascend (i + 1) high xs a.1)
 
-looked_up_are_identifiers : (ts : List Token) (xs : List (Role × ℕ)) → AreIdentifiers ts (names_only xs) → AreIdentifiers ts (looked_up_only xs)
+looked_up_are_identifiers : (ts : List Token) (xs : List (Role × ℕ)) → AreIdentifierTokens ts (names_without_roles xs) → AreIdentifierTokens ts (looked_up_only xs)
 looked_up_are_identifiers ts [] h = tt
 looked_up_are_identifiers ts ((role.LookedUp, i) ∷ xs) h = (h.0, looked_up_are_identifiers ts xs h.1)
 looked_up_are_identifiers ts ((_, i) ∷ xs) h = looked_up_are_identifiers ts xs h.1
@@ -51,18 +51,18 @@ looked_up_are_identifiers ts ((_, i) ∷ xs) h = looked_up_are_identifiers ts xs
 found_looked_up : (r : Resolution) → IsResolution r → looked_up_only (identifiers role.Declaring (tree_of r.module_read)) ≡ r.uses
 found_looked_up r is = looked_up-occurrences role.Declaring (λ n xs. refl) (tree_of r.module_read) ∙ sym is.occurring
 
-pub uses_ascend : (r : Resolution) → IsResolution r → Ascending 0 r.uses (length r.module_read.source.tokens)
+pub uses_ascend : (r : Resolution) → IsResolution r → AreAscending 0 r.uses (length r.module_read.source.tokens)
 uses_ascend r is =
     let m = r.module_read in
-    subst (λ xs. Ascending 0 xs (length m.source.tokens)) (found_looked_up r is)
+    subst (λ xs. AreAscending 0 xs (length m.source.tokens)) (found_looked_up r is)
     (looked_up_ascend 0 (length m.source.tokens) (identifiers role.Declaring (tree_of m)) (leaves_ascend m is.parsed))
 
-pub uses_are_identifiers : (r : Resolution) → IsResolution r → AreIdentifiers r.module_read.source.tokens r.uses
+pub uses_are_identifiers : (r : Resolution) → IsResolution r → AreIdentifierTokens r.module_read.source.tokens r.uses
 uses_are_identifiers r is =
     let m = r.module_read in
-    subst (AreIdentifiers m.source.tokens) (found_looked_up r is) (looked_up_are_identifiers m.source.tokens (identifiers role.Declaring (tree_of m)) (leaves_are_identifiers m is.parsed))
+    subst (AreIdentifierTokens m.source.tokens) (found_looked_up r is) (looked_up_are_identifiers m.source.tokens (identifiers role.Declaring (tree_of m)) (leaves_are_identifiers m is.parsed))
 
-pub one_identifier : (ts : List Token) (is : List ℕ) (k i : ℕ) → AreIdentifiers ts is → slice_get is k ≡ Some i → IsIdentifierToken ts i
+pub one_identifier : (ts : List Token) (is : List ℕ) (k i : ℕ) → AreIdentifierTokens ts is → slice_get is k ≡ Some i → IsIdentifierToken ts i
 one_identifier ts [] k i h e = absurd (cc)
 one_identifier ts (x ∷ is) zero i h e = subst (IsIdentifierToken ts) (some_inverse e) h.0
 one_identifier ts (x ∷ is) (suc k) i h e = one_identifier ts is k i h.1 e
@@ -106,18 +106,18 @@ none_is d [] a = tt
 none_is d (l ∷ ls) a = (All-head (λ (m : Label). m ≢ declared d) l ls a, none_is d ls (All-tail (λ (m : Label). m ≢ declared d) l ls a))
 
 -- A text's words have the texts of its tokens.
-word_text : (text : List ℕ) (ts : List Token) (k : ℕ) → text_of_word (map (read_in text) ts) k ≡ leaf.text_in text (slice_get ts k)
+word_text : (text : List ℕ) (ts : List Token) (k : ℕ) → text_of_word (map (word_of_token text) ts) k ≡ leaf.token_text_or_empty text (slice_get ts k)
 word_text text (t ∷ ts) (suc k) = word_text text ts k
 word_text text _ _ = refl
 
-word_number : (text : List ℕ) (ts : List Token) (k : ℕ) → number_at (map (read_in text) ts) k ≡ leaf.value_in (slice_get ts k)
+word_number : (text : List ℕ) (ts : List Token) (k : ℕ) → number_at (map (word_of_token text) ts) k ≡ leaf.token_value_or_zero (slice_get ts k)
 word_number text (t ∷ ts) (suc k) = word_number text ts k
 word_number text _ _ = refl
 
 -- If words replace the uses of a constant, and the uses are factors by themselves, the tokens spell
 -- a tree. It is the tree in which the factor of these words replaces the uses.
-module _ (r : Resolution) (is : IsResolution r) (d : ℕ) (v : Tree Name factor) (places : List ℕ) (bound : AreBound r d places) (uses : Uses) (agree : (j i : ℕ) → slice_get r.uses j ≡ Some i → is_among i places ≡ uses j)
-    (alone : IsAlone r.module_read d) (vs : List Word) (same : map word_lexeme vs ≡ spell v) where
+module _ (r : Resolution) (is : IsResolution r) (d : ℕ) (v : Tree Name factor) (places : List ℕ) (bound : AreBound r d places) (uses : OccurrenceSet) (agree : (j i : ℕ) → slice_get r.uses j ≡ Some i → is_among i places ≡ uses j)
+    (alone : UsesAreFactors r.module_read d) (vs : List Word) (same : map word_lexeme vs ≡ spell v) where
   abbrev gives : ℕ → Bool
   gives i = is_among i places
 
@@ -125,15 +125,15 @@ module _ (r : Resolution) (is : IsResolution r) (d : ℕ) (v : Tree Name factor)
   others i none = not_among i places (λ e. let z = among_bound r is d i places bound e in let w = z.occurs in cc)
 
   apart : (i : ℕ) → label_at r.module_read.source r.ordinals i ≢ declared d → gives i ≡ false
-  apart i h = not_among i places (λ e. h (ap (λ o. as_label as_names o (leaf.text_at r.module_read.source i)) (among_bound r is d i places bound e).bound))
+  apart i h = not_among i places (λ e. h (ap (λ o. label_from_ordinal naming_by_spelling o (leaf.text_at r.module_read.source i)) (among_bound r is d i places bound e).bound))
 
   uses_agree : Agrees gives uses 0 (occurrences (tree_of r.module_read))
   uses_agree = agrees_each gives uses 0 (occurrences (tree_of r.module_read)) (λ j i e.
       let zero_more : j ≡ 0 + j = omega arith in
       agree j i (ap (λ us. slice_get us j) is.occurring ∙ e) ∙ ap uses zero_more)
 
-  none_elsewhere : NoneIs d (names_elsewhere (mapped (label_at r.module_read.source r.ordinals) (leaf.value_at r.module_read.source) (tree_of r.module_read)))
-  none_elsewhere = none_is d (names_elsewhere (mapped (label_at r.module_read.source r.ordinals) (leaf.value_at r.module_read.source) (tree_of r.module_read))) (subst (All (λ l. l ≢ declared d)) (ap names_elsewhere is.numbering) alone)
+  none_elsewhere : NoneIs d (non_factor_names (mapped (label_at r.module_read.source r.ordinals) (leaf.value_at r.module_read.source) (tree_of r.module_read)))
+  none_elsewhere = none_is d (non_factor_names (mapped (label_at r.module_read.source r.ordinals) (leaf.value_at r.module_read.source) (tree_of r.module_read))) (subst (All (λ l. l ≢ declared d)) (ap non_factor_names is.numbering) alone)
 
   puts : (xs : List (Terminal ℕ)) → flat_map (put r.module_read.source places vs) xs ≡ flat_map (replaced gives (spell v) (leaf.text_at r.module_read.source) (leaf.value_at r.module_read.source)) xs
   puts xs =
@@ -154,7 +154,7 @@ module _ (r : Resolution) (is : IsResolution r) (d : ℕ) (v : Tree Name factor)
       ∙ sym (module_spelled gives uses v (leaf.text_at m.source) (leaf.value_at m.source) (occurrence_table r) (label_at m.source r.ordinals) d others apart d (tree_of m) (uses_agree, uses_reported r is, none_elsewhere))
 
 -- Tokens of occurrences ascend, so each is at least the lower bound.
-pub above : (low high : ℕ) (is : List ℕ) (j i : ℕ) → Ascending low is high → slice_get is j ≡ Some i → low ≤ i
+pub above : (low high : ℕ) (is : List ℕ) (j i : ℕ) → AreAscending low is high → slice_get is j ≡ Some i → low ≤ i
 above low high [] j i a e = absurd (cc)
 above low high (x ∷ is) zero i a e = subst (λ n. low ≤ n) (some_inverse e) a.0
 above low high (x ∷ is) (suc j) i a e = let more = above (x + 1) high is j i a.1 e in omega (arith, more, a.0)
@@ -169,7 +169,7 @@ next_same j k =
       | false ↦ (λ e. sym (not_equal (suc j) (suc k) (λ q. let back : j ≡ k = omega (arith, q) in true≢false (sym (eq-eqb j k back) ∙ e))))
     ]) refl
 
-pub one_place : (low high : ℕ) (is : List ℕ) (j k i p : ℕ) → Ascending low is high → slice_get is j ≡ Some i → slice_get is k ≡ Some p → (i == p) ≡ (j == k)
+pub one_place : (low high : ℕ) (is : List ℕ) (j k i p : ℕ) → AreAscending low is high → slice_get is j ≡ Some i → slice_get is k ≡ Some p → (i == p) ≡ (j == k)
 one_place low high [] j k i p a e f = absurd (cc)
 one_place low high (x ∷ is) zero zero i p a e f = eq-eqb i p (some_inverse (sym e ∙ f))
 one_place low high (x ∷ is) zero (suc k) i p a e f =

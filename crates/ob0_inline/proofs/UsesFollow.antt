@@ -3,21 +3,21 @@ use Rattle.std.proofs.Common.{◌≡◌, ℕ, zero, suc, ◌+◌, ◌<◌, ◌�
 use Rattle.ob0_scan.specs.declared.lexeme.Symbol.TheVariants as symbol
 use Rattle.ob0_scan.specs.declared.lexeme.TokenKind.{TokenKind}
 use Rattle.ob0_scan.specs.declared.lexeme.TokenKind.TheVariants as kind
-use Rattle.ob0_scan.specs.Scanned.{Word}
+use Rattle.ob0_scan.specs.TextWithTokens.{Word}
 use Rattle.ob0_tree.specs.Lexeme.{Terminal, Mark}
 use Rattle.ob0_tree.specs.Lexeme as lexeme
-use Rattle.ob0_tree.specs.Parsed.{named_tree_of, tree_of}
+use Rattle.ob0_tree.specs.ParsedModule.{named_tree_of, tree_of}
 use Rattle.ob0_tree.specs.Places as leaf
-use Rattle.ob0_tree.specs.Places.{lexeme_of}
+use Rattle.ob0_tree.specs.Places.{index_terminal}
 use Rattle.ob0_tree.specs.Tree.{mapped, occurrences, spell}
 use Rattle.ob0_tree.proofs.Leaves.{lexeme_names}
 use Rattle.ob0_edits_tokens.specs.Changed.{is_among, words_of}
-use Rattle.ob0_edits_tokens.specs.OfTrees.{numbered_tokens}
-use Rattle.ob0_language_names.specs.Names.{Name, as_names}
+use Rattle.ob0_edits_tokens.specs.OfTrees.{indexed_tokens}
+use Rattle.ob0_language_names.specs.Names.{Name, naming_by_spelling}
 use Rattle.ob0_language_names.specs.Parts.{module_block}
-use Rattle.ob0_scope_table.specs.Resolution.{IsResolution, Resolution, bound_at, ordinal_in, with_ordinal}
-use Rattle.ob0_language_names.specs.Scopes.{relabelled}
-use Rattle.ob0_scope.proofs.Fused.{mapped-mapped, relabelled-mapped}
+use Rattle.ob0_scope_table.specs.Resolution.{IsResolution, Resolution, binding_at, ordinal_in, ordinal_and_spelling}
+use Rattle.ob0_language_names.specs.Scopes.{relabel_module}
+use Rattle.ob0_scope.proofs.Fused.{mapped-mapped, relabel_module-mapped}
 use Rattle.ob0_language_names.proofs.OccurrenceNames.{length-map}
 use Rattle.ob0_language_names.proofs.OccurrencesMapped.{occurrences-mapped}
 use Rattle.ob0_language_types.specs.ConstantValues.{value_of_constant}
@@ -29,16 +29,16 @@ use Rattle.ob0_inline.proofs.TakenOut.{Taken, gone_module}
 use Rattle.ob0_inline.proofs.WordsLeft.{cut_words, last_token}
 
 -- The bindings of the occurrences are the entries of the table.
-bound_by_table : (r : Resolution) → IsResolution r → occurrences (relabelled as_names forget (named_tree_of r.module_read)) ≡ map (ordinal_in r.ordinals) (occurrences (tree_of r.module_read))
+bound_by_table : (r : Resolution) → IsResolution r → occurrences (relabel_module naming_by_spelling forget (named_tree_of r.module_read)) ≡ map (ordinal_in r.ordinals) (occurrences (tree_of r.module_read))
 bound_by_table r is =
     let m = r.module_read in
     let first : Option ℕ × Name → Option ℕ = λ p. p.0 in
-    ap occurrences (relabelled-mapped as_names first with_ordinal (named_tree_of m) ∙ (ap (mapped first (λ n. n)) is.binding ∙ mapped-mapped first (bound_at m.source r.ordinals) (leaf.value_at m.source) (tree_of m)))
+    ap occurrences (relabel_module-mapped naming_by_spelling first ordinal_and_spelling (named_tree_of m) ∙ (ap (mapped first (λ n. n)) is.binding ∙ mapped-mapped first (binding_at m.source r.ordinals) (leaf.value_at m.source) (tree_of m)))
     ∙ occurrences-mapped (ordinal_in r.ordinals) (leaf.value_at m.source) (tree_of m)
 
 -- If the constant has a value, the module's tokens are split by its declaration.
-pub late_of : (r : Resolution) → IsResolution r → (d : ℕ) (w : Value) → value_of_constant (named_tree_of r.module_read) d ≡ Some w → spell (tree_of r.module_read) ≡ numbered_tokens 0 (words_of r.module_read.source)
-    → Late d 7 (names_in (module_block (tree_of r.module_read))) (numbered_tokens 0 (words_of r.module_read.source)) (spell (gone_module d (tree_of r.module_read))) (occurrences (tree_of r.module_read))
+pub late_of : (r : Resolution) → IsResolution r → (d : ℕ) (w : Value) → value_of_constant (named_tree_of r.module_read) d ≡ Some w → spell (tree_of r.module_read) ≡ indexed_tokens 0 (words_of r.module_read.source)
+    → Late d 7 (names_in (module_block (tree_of r.module_read))) (indexed_tokens 0 (words_of r.module_read.source)) (spell (gone_module d (tree_of r.module_read))) (occurrences (tree_of r.module_read))
     (map (ordinal_in r.ordinals) (occurrences (tree_of r.module_read)))
 late_of r is d w has_value spelled =
     let m = r.module_read in
@@ -48,20 +48,20 @@ late_of r is d w has_value spelled =
     let labels = names_in (module_block t) in
     let h = late_module f g d w t has_value in
     let named = subst (λ (l : List (Option ℕ)). Late d 7 labels (spell t) (spell (gone_module d t)) (occurrences t) l) (bound_by_table r is) h in
-    late_move d 7 labels (spell t) (numbered_tokens 0 (words_of m.source)) (spell (gone_module d t)) (spell (gone_module d t)) (occurrences t) (map (ordinal_in r.ordinals) (occurrences t)) (sym spelled) refl named
+    late_move d 7 labels (spell t) (indexed_tokens 0 (words_of m.source)) (spell (gone_module d t)) (spell (gone_module d t)) (occurrences t) (map (ordinal_in r.ordinals) (occurrences t)) (sym spelled) refl named
 
 -- The names of words whose first index is k have no smaller indexes.
-names_above : (i k : ℕ) (ws : List Word) → is_among i (lexeme_names (numbered_tokens k ws)) ≡ true → k ≤ i
+names_above : (i k : ℕ) (ws : List Word) → is_among i (lexeme_names (indexed_tokens k ws)) ≡ true → k ≤ i
 names_above i k [] e = absurd (true≢false (sym e))
 names_above i k (w ∷ ws) e = by_kind w.kind e (names_above i (suc k) ws)
   where
-    by_test : (b : Bool) → (i == k) ≡ b → (b || is_among i (lexeme_names (numbered_tokens (suc k) ws))) ≡ true → (is_among i (lexeme_names (numbered_tokens (suc k) ws)) ≡ true → suc k ≤ i) → k ≤ i
+    by_test : (b : Bool) → (i == k) ≡ b → (b || is_among i (lexeme_names (indexed_tokens (suc k) ws))) ≡ true → (is_among i (lexeme_names (indexed_tokens (suc k) ws)) ≡ true → suc k ≤ i) → k ≤ i
     by_test true q e later = let here = eqb-true i k q in omega (arith, here)
     by_test false q e later = let more = later e in omega (arith, more)
 
-    by_kind : (x : TokenKind) → is_among i (lexeme_names (lexeme_of k x ∷ numbered_tokens (suc k) ws)) ≡ true → (is_among i (lexeme_names (numbered_tokens (suc k) ws)) ≡ true → suc k ≤ i) → k ≤ i
+    by_kind : (x : TokenKind) → is_among i (lexeme_names (index_terminal k x ∷ indexed_tokens (suc k) ws)) ≡ true → (is_among i (lexeme_names (indexed_tokens (suc k) ws)) ≡ true → suc k ≤ i) → k ≤ i
     by_kind kind.Identifier e later = by_test (i == k) refl e later
-    by_kind (kind.Reserved r) e later = let more = later e in omega (arith, more)
+    by_kind (kind.ReservedWord r) e later = let more = later e in omega (arith, more)
     by_kind (kind.Integer n) e later = let more = later e in omega (arith, more)
     by_kind (kind.Symbol s) e later = let more = later e in omega (arith, more)
 
@@ -91,7 +91,7 @@ not_in_front ordinals d zero i (x ∷ front) following names low among e o =
 not_in_front ordinals d (suc j) i (x ∷ front) following names low among e o = not_in_front ordinals d j i front following names low.1 among e o
 
 -- A name after the last token of a declaration has a greater index.
-names_after : (d k : ℕ) (labels : List ℕ) (left : List (Terminal ℕ)) (ws : List Word) (t : Taken d k labels (numbered_tokens 0 ws) left) (i : ℕ) → is_among i (lexeme_names t.after) ≡ true → last_token t < i
+names_after : (d k : ℕ) (labels : List ℕ) (left : List (Terminal ℕ)) (ws : List Word) (t : Taken d k labels (indexed_tokens 0 ws) left) (i : ℕ) → is_among i (lexeme_names t.after) ≡ true → last_token t < i
 names_after d k labels left ws t i e =
     let front : List (Terminal ℕ) = t.before ++ (Mark t.border ∷ []) in
     let whole : List (Terminal ℕ) = lexeme.Name t.name ∷ Mark (kind.Symbol symbol.Equal) ∷ (t.right ++ (Mark (kind.Symbol symbol.Semicolon) ∷ [])) in
@@ -103,7 +103,7 @@ names_after d k labels left ws t i e =
 
 -- Each occurrence that is bound to the constant follows its declaration.
 pub uses_following : (r : Resolution) → (d : ℕ) (labels : List ℕ) (left : List (Terminal ℕ))
-    → (h : Late d 7 labels (numbered_tokens 0 (words_of r.module_read.source)) left (occurrences (tree_of r.module_read)) (map (ordinal_in r.ordinals) (occurrences (tree_of r.module_read))))
+    → (h : Late d 7 labels (indexed_tokens 0 (words_of r.module_read.source)) left (occurrences (tree_of r.module_read)) (map (ordinal_in r.ordinals) (occurrences (tree_of r.module_read))))
     → (j i : ℕ) → slice_get (occurrences (tree_of r.module_read)) j ≡ Some i → ordinal_in r.ordinals i ≡ Some d → last_token h.taken < i
 uses_following r d labels left h j i e o =
     let joined : map (ordinal_in r.ordinals) h.front ++ map (ordinal_in r.ordinals) h.following ≡ h.front_bound ++ h.following_bound =

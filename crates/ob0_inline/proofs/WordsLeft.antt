@@ -9,15 +9,15 @@ use Rattle.std.specs.List.{flat_map}
 use Rattle.ob0_scan.specs.declared.lexeme.Symbol.TheVariants as symbol
 use Rattle.ob0_scan.specs.declared.lexeme.TokenKind.{TokenKind}
 use Rattle.ob0_scan.specs.declared.lexeme.TokenKind.TheVariants as kind
-use Rattle.ob0_scan.specs.Scanned.{Scanned, Word, read_in}
+use Rattle.ob0_scan.specs.TextWithTokens.{TextWithTokens, Word, word_of_token}
 use Rattle.ob0_tree.specs.Lexeme.{Terminal, Mark}
 use Rattle.ob0_tree.specs.Lexeme as lexeme
-use Rattle.ob0_tree.specs.Places.{lexeme_of}
-use Rattle.ob0_edits_tokens.specs.Changed.{Changes, at_each, changed_words, or_itself, words_of}
-use Rattle.ob0_edits_tokens.specs.OfTrees.{numbered_tokens, word_at}
-use Rattle.ob0_edits_tokens.specs.Removed.{IsDeclaration, without_words}
+use Rattle.ob0_tree.specs.Places.{index_terminal}
+use Rattle.ob0_edits_tokens.specs.Changed.{WordChanges, changes_at, changed_words, replacement_or_word, words_of}
+use Rattle.ob0_edits_tokens.specs.OfTrees.{indexed_tokens, word_at}
+use Rattle.ob0_edits_tokens.specs.Removed.{IsDeclaration, changes_with_removal}
 use Rattle.ob0_edits_tokens.specs.Replaced as place
-use Rattle.ob0_edits_tokens.specs.Replaced.{AreNames}
+use Rattle.ob0_edits_tokens.specs.Replaced.{AreIdentifierIndexes}
 use Rattle.ob0_edits_tokens.specs.Words.{word_lexeme}
 use Rattle.ob0_edits_tokens.proofs.OfTrees.{each_put, of_each, put, word_kind}
 use Rattle.ob0_edits_tokens.proofs.Removals.{past_last}
@@ -29,12 +29,12 @@ pub record Cut (k : ℕ) (ws : List Word) (front following : List (Terminal ℕ)
   pub first : List Word
   pub rest : List Word
   pub joined : ws ≡ first ++ rest
-  pub front_is : numbered_tokens k first ≡ front
-  pub following_is : numbered_tokens (k + length first) rest ≡ following
+  pub front_is : indexed_tokens k first ≡ front
+  pub following_is : indexed_tokens (k + length first) rest ≡ following
   pub count : length first ≡ length front
 
-pub cut_words : (k : ℕ) (ws : List Word) (front following : List (Terminal ℕ)) → numbered_tokens k ws ≡ front ++ following → Cut k ws front following
-cut_words k ws [] following e = record { first = []; rest = ws; joined = refl; front_is = refl; following_is = ap (λ n. numbered_tokens n ws) (let z : k + 0 ≡ k = omega arith in z) ∙ e; count = refl }
+pub cut_words : (k : ℕ) (ws : List Word) (front following : List (Terminal ℕ)) → indexed_tokens k ws ≡ front ++ following → Cut k ws front following
+cut_words k ws [] following e = record { first = []; rest = ws; joined = refl; front_is = refl; following_is = ap (λ n. indexed_tokens n ws) (let z : k + 0 ≡ k = omega arith in z) ∙ e; count = refl }
 cut_words k [] (l ∷ front) following e = absurd (cc)
 cut_words k (w ∷ ws) (l ∷ front) following e =
     let h = heads e in
@@ -44,36 +44,36 @@ cut_words k (w ∷ ws) (l ∷ front) following e =
       rest = r.rest;
       joined = ap (λ l. w ∷ l) r.joined;
       front_is = (λ i. h.0 i ∷ r.front_is i);
-      following_is = ap (λ n. numbered_tokens n r.rest) (let z : k + suc (length r.first) ≡ suc k + length r.first = omega arith in z) ∙ r.following_is;
+      following_is = ap (λ n. indexed_tokens n r.rest) (let z : k + suc (length r.first) ≡ suc k + length r.first = omega arith in z) ∙ r.following_is;
       count = ap suc r.count;
     }
 
 -- The word at the index of a token is that token's word.
-pub lexeme_at : (k : ℕ) (ws : List Word) (xs : List (Terminal ℕ)) (l : Terminal ℕ) (ys : List (Terminal ℕ)) → numbered_tokens k ws ≡ xs ++ (l ∷ ys) → (length xs < length ws) × (lexeme_of (k + length xs) (word_at ws (length xs)).kind ≡ l)
-lexeme_at k [] [] l ys e = absurd (cc)
-lexeme_at k [] (x ∷ xs) l ys e = absurd (cc)
-lexeme_at k (w ∷ ws) [] l ys e = (omega arith, ap (λ n. lexeme_of n w.kind) (let z : k + 0 ≡ k = omega arith in z) ∙ (heads e).0)
-lexeme_at k (w ∷ ws) (x ∷ xs) l ys e =
-    let r = lexeme_at (suc k) ws xs l ys (heads e).1 in
-    (omega (arith, r.0), ap (λ n. lexeme_of n (word_at ws (length xs)).kind) (let z : k + suc (length xs) ≡ suc k + length xs = omega arith in z) ∙ r.1)
+pub terminal_or_end : (k : ℕ) (ws : List Word) (xs : List (Terminal ℕ)) (l : Terminal ℕ) (ys : List (Terminal ℕ)) → indexed_tokens k ws ≡ xs ++ (l ∷ ys) → (length xs < length ws) × (index_terminal (k + length xs) (word_at ws (length xs)).kind ≡ l)
+terminal_or_end k [] [] l ys e = absurd (cc)
+terminal_or_end k [] (x ∷ xs) l ys e = absurd (cc)
+terminal_or_end k (w ∷ ws) [] l ys e = (omega arith, ap (λ n. index_terminal n w.kind) (let z : k + 0 ≡ k = omega arith in z) ∙ (heads e).0)
+terminal_or_end k (w ∷ ws) (x ∷ xs) l ys e =
+    let r = terminal_or_end (suc k) ws xs l ys (heads e).1 in
+    (omega (arith, r.0), ap (λ n. index_terminal n (word_at ws (length xs)).kind) (let z : k + suc (length xs) ≡ suc k + length xs = omega arith in z) ∙ r.1)
 
-pub name_kind : (i n : ℕ) (k : TokenKind) → lexeme_of i k ≡ lexeme.Name n → (k ≡ kind.Identifier) × (n ≡ i)
+pub name_kind : (i n : ℕ) (k : TokenKind) → index_terminal i k ≡ lexeme.Name n → (k ≡ kind.Identifier) × (n ≡ i)
 name_kind i n kind.Identifier e = (refl, cc)
 name_kind i n _ e = absurd (cc)
 
-pub mark_kind : (i : ℕ) (k l : TokenKind) → lexeme_of i k ≡ Mark l → k ≡ l
-mark_kind i (kind.Reserved r) l e = cc
+pub mark_kind : (i : ℕ) (k l : TokenKind) → index_terminal i k ≡ Mark l → k ≡ l
+mark_kind i (kind.ReservedWord r) l e = cc
 mark_kind i (kind.Symbol s) l e = cc
 mark_kind i _ l e = absurd (cc)
 
 -- returns the first token of a declaration
-abbrev pub first_token : {d k : ℕ} {labels : List ℕ} {whole left : List (Terminal ℕ)} → Taken d k labels whole left → ℕ
-first_token t = length (t.before ++ (Mark t.border ∷ []))
+abbrev pub first_bound_token : {d k : ℕ} {labels : List ℕ} {whole left : List (Terminal ℕ)} → Taken d k labels whole left → ℕ
+first_bound_token t = length (t.before ++ (Mark t.border ∷ []))
 
 abbrev pub last_token : {d k : ℕ} {labels : List ℕ} {whole left : List (Terminal ℕ)} → Taken d k labels whole left → ℕ
 last_token t = length (t.before ++ (Mark t.border ∷ [])) + (2 + length t.right)
 
-module _ (s : Scanned) (d k : ℕ) (labels : List ℕ) (left : List (Terminal ℕ)) (t : Taken d k labels (numbered_tokens 0 (words_of s)) left) where
+module _ (s : TextWithTokens) (d k : ℕ) (labels : List ℕ) (left : List (Terminal ℕ)) (t : Taken d k labels (indexed_tokens 0 (words_of s)) left) where
   abbrev front : List (Terminal ℕ)
   front = t.before ++ (Mark t.border ∷ [])
 
@@ -84,25 +84,25 @@ module _ (s : Scanned) (d k : ℕ) (labels : List ℕ) (left : List (Terminal �
   declaration = lexeme.Name t.name ∷ Mark (kind.Symbol symbol.Equal) ∷ (t.right ++ (Mark (kind.Symbol symbol.Semicolon) ∷ []))
 
   words_count : length (words_of s) ≡ length s.tokens
-  words_count = length-map (read_in s.text) s.tokens
+  words_count = length-map (word_of_token s.text) s.tokens
 
-  at_border : (length t.before < length (words_of s)) × (lexeme_of (0 + length t.before) (word_at (words_of s) (length t.before)).kind ≡ Mark t.border)
-  at_border = lexeme_at 0 (words_of s) t.before (Mark t.border) (declaration ++ t.after) (t.whole_is ∙ append_assoc t.before (Mark t.border ∷ []) (declaration ++ t.after))
+  at_border : (length t.before < length (words_of s)) × (index_terminal (0 + length t.before) (word_at (words_of s) (length t.before)).kind ≡ Mark t.border)
+  at_border = terminal_or_end 0 (words_of s) t.before (Mark t.border) (declaration ++ t.after) (t.whole_is ∙ append_assoc t.before (Mark t.border ∷ []) (declaration ++ t.after))
 
-  at_name : (length front < length (words_of s)) × (lexeme_of (0 + length front) (word_at (words_of s) (length front)).kind ≡ lexeme.Name t.name)
-  at_name = lexeme_at 0 (words_of s) front (lexeme.Name t.name) (Mark (kind.Symbol symbol.Equal) ∷ ((t.right ++ (Mark (kind.Symbol symbol.Semicolon) ∷ [])) ++ t.after)) t.whole_is
+  at_name : (length front < length (words_of s)) × (index_terminal (0 + length front) (word_at (words_of s) (length front)).kind ≡ lexeme.Name t.name)
+  at_name = terminal_or_end 0 (words_of s) front (lexeme.Name t.name) (Mark (kind.Symbol symbol.Equal) ∷ ((t.right ++ (Mark (kind.Symbol symbol.Semicolon) ∷ [])) ++ t.after)) t.whole_is
 
-  at_end : (length (front ++ inner) < length (words_of s)) × (lexeme_of (0 + length (front ++ inner)) (word_at (words_of s) (length (front ++ inner))).kind ≡ Mark (kind.Symbol symbol.Semicolon))
+  at_end : (length (front ++ inner) < length (words_of s)) × (index_terminal (0 + length (front ++ inner)) (word_at (words_of s) (length (front ++ inner))).kind ≡ Mark (kind.Symbol symbol.Semicolon))
   at_end =
-      lexeme_at 0 (words_of s) (front ++ inner) (Mark (kind.Symbol symbol.Semicolon)) t.after
+      terminal_or_end 0 (words_of s) (front ++ inner) (Mark (kind.Symbol symbol.Semicolon)) t.after
       (t.whole_is ∙ (ap (λ l. front ++ (lexeme.Name t.name ∷ Mark (kind.Symbol symbol.Equal) ∷ l)) (append_assoc t.right (Mark (kind.Symbol symbol.Semicolon) ∷ []) t.after)
       ∙ sym (append_assoc front inner (Mark (kind.Symbol symbol.Semicolon) ∷ t.after))))
 
-  pub name_is_first : t.name ≡ first_token t
+  pub name_is_first : t.name ≡ first_bound_token t
   unfolding at_name
   name_is_first = (name_kind (0 + length front) t.name (word_at (words_of s) (length front)).kind at_name.1).1 ∙ (let z : 0 + length front ≡ length front = omega arith in z)
 
-  pub is_declaration : IsDeclaration s.tokens (first_token t) (last_token t)
+  pub is_declaration : IsDeclaration s.tokens (first_bound_token t) (last_token t)
   is_declaration =
       let count = words_count in
       let a = at_end in
@@ -110,7 +110,7 @@ module _ (s : Scanned) (d k : ℕ) (labels : List ℕ) (left : List (Terminal �
       record {
         order = omega arith;
         inside = omega (arith, a.0, same, count);
-        name = sym (word_kind s (first_token t)) ∙ (name_kind (0 + length front) t.name (word_at (words_of s) (length front)).kind at_name.1).0;
+        name = sym (word_kind s (first_bound_token t)) ∙ (name_kind (0 + length front) t.name (word_at (words_of s) (length front)).kind at_name.1).0;
         end = sym (word_kind s (last_token t))
             ∙ (ap (λ n. (word_at (words_of s) n).kind) (sym same) ∙ mark_kind (0 + length (front ++ inner)) (word_at (words_of s) (length (front ++ inner))).kind (kind.Symbol symbol.Semicolon) a.1);
         following = λ j e.
@@ -121,35 +121,35 @@ module _ (s : Scanned) (d k : ℕ) (labels : List ℕ) (left : List (Terminal �
       }
 
 -- Changing joined lists of words changes each part.
-changed_words-append : (ch : Changes) (k : ℕ) (xs ys : List Word) → changed_words ch k (xs ++ ys) ≡ changed_words ch k xs ++ changed_words ch (k + length xs) ys
+changed_words-append : (ch : WordChanges) (k : ℕ) (xs ys : List Word) → changed_words ch k (xs ++ ys) ≡ changed_words ch k xs ++ changed_words ch (k + length xs) ys
 changed_words-append ch k [] ys = ap (λ n. changed_words ch n ys) (let z : k ≡ k + 0 = omega arith in z)
 changed_words-append ch k (x ∷ xs) ys =
-    ap (λ l. or_itself x (ch k) ++ l) (changed_words-append ch (suc k) xs ys ∙ ap (λ n. changed_words ch (suc k) xs ++ changed_words ch n ys) (let z : suc k + length xs ≡ k + suc (length xs) = omega arith in z))
-    ∙ sym (append_assoc (or_itself x (ch k)) (changed_words ch (suc k) xs) (changed_words ch (k + suc (length xs)) ys))
+    ap (λ l. replacement_or_word x (ch k) ++ l) (changed_words-append ch (suc k) xs ys ∙ ap (λ n. changed_words ch (suc k) xs ++ changed_words ch n ys) (let z : suc k + length xs ≡ k + suc (length xs) = omega arith in z))
+    ∙ sym (append_assoc (replacement_or_word x (ch k)) (changed_words ch (suc k) xs) (changed_words ch (k + suc (length xs)) ys))
 
-before_first : (first last : ℕ) (ch : Changes) (k : ℕ) (xs : List Word) → k + length xs ≤ first → changed_words (without_words first last ch) k xs ≡ changed_words ch k xs
+before_first : (first last : ℕ) (ch : WordChanges) (k : ℕ) (xs : List Word) → k + length xs ≤ first → changed_words (changes_with_removal first last ch) k xs ≡ changed_words ch k xs
 before_first first last ch k [] h = refl
 before_first first last ch k (x ∷ xs) h =
     let out : (nat_le first k && nat_le k last) ≡ false = ap (λ b. b && nat_le k last) (lt-leb first k (omega (arith, h))) in
-    (λ i. or_itself x (if out i then Some [] else ch k) ++ before_first first last ch (suc k) xs (omega (arith, h)) i)
+    (λ i. replacement_or_word x (if out i then Some [] else ch k) ++ before_first first last ch (suc k) xs (omega (arith, h)) i)
 
-inside_gone : (first last : ℕ) (ch : Changes) (k : ℕ) (xs : List Word) → first ≤ k → k + length xs ≤ suc last → changed_words (without_words first last ch) k xs ≡ []
+inside_gone : (first last : ℕ) (ch : WordChanges) (k : ℕ) (xs : List Word) → first ≤ k → k + length xs ≤ suc last → changed_words (changes_with_removal first last ch) k xs ≡ []
 inside_gone first last ch k [] g h = refl
 inside_gone first last ch k (x ∷ xs) g h =
     let in_it : (nat_le first k && nat_le k last) ≡ true = ap (λ b. b && nat_le k last) (le-leb first k g) ∙ le-leb k last (omega (arith, h)) in
-    (λ i. or_itself x (if in_it i then Some [] else ch k) ++ inside_gone first last ch (suc k) xs (omega (arith, g)) (omega (arith, h)) i)
+    (λ i. replacement_or_word x (if in_it i then Some [] else ch k) ++ inside_gone first last ch (suc k) xs (omega (arith, g)) (omega (arith, h)) i)
 
-module _ (s : Scanned) (least : ℕ) (places : List ℕ) (names : AreNames s.tokens least places) (vs : List Word) where
+module _ (s : TextWithTokens) (least : ℕ) (places : List ℕ) (names : AreIdentifierIndexes s.tokens least places) (vs : List Word) where
   -- The words without the declaration, with other words at the places, are the remaining tokens
   -- with the replacements.
-  pub words_left : (d k : ℕ) (labels : List ℕ) (left : List (Terminal ℕ)) (t : Taken d k labels (numbered_tokens 0 (words_of s)) left)
-      → map word_lexeme (changed_words (without_words (first_token t) (last_token t) (at_each places vs)) 0 (words_of s)) ≡ flat_map (put s places vs) left
+  pub words_left : (d k : ℕ) (labels : List ℕ) (left : List (Terminal ℕ)) (t : Taken d k labels (indexed_tokens 0 (words_of s)) left)
+      → map word_lexeme (changed_words (changes_with_removal (first_bound_token t) (last_token t) (changes_at places vs)) 0 (words_of s)) ≡ flat_map (put s places vs) left
   words_left d k labels left t =
       let front : List (Terminal ℕ) = t.before ++ (Mark t.border ∷ []) in
       let declaration : List (Terminal ℕ) = lexeme.Name t.name ∷ Mark (kind.Symbol symbol.Equal) ∷ (t.right ++ (Mark (kind.Symbol symbol.Semicolon) ∷ [])) in
-      let first = first_token t in
+      let first = first_bound_token t in
       let last = last_token t in
-      let ch : Changes = at_each places vs in
+      let ch : WordChanges = changes_at places vs in
       let put_so = put s places vs in
       let part_put = of_each (words_of s) ch put_so (each_put s places vs least names) in
       let a = cut_words 0 (words_of s) front (declaration ++ t.after) t.whole_is in
@@ -158,18 +158,18 @@ module _ (s : Scanned) (least : ℕ) (places : List ℕ) (names : AreNames s.tok
       let n1 : length a.first ≡ first = a.count in
       let n2 : length b.first ≡ 3 + length t.right = b.count ∙ (let z = length-append t.right (Mark (kind.Symbol symbol.Semicolon) ∷ []) in omega (arith, z)) in
       let next : 0 + length a.first + length b.first ≡ suc last = omega (arith, n1, n2) in
-      let split : changed_words (without_words first last ch) 0 (words_of s) ≡ changed_words ch 0 a.first ++ changed_words ch (suc last) b.rest =
-      ap (changed_words (without_words first last ch) 0) all
-      ∙ (changed_words-append (without_words first last ch) 0 a.first (b.first ++ b.rest)
+      let split : changed_words (changes_with_removal first last ch) 0 (words_of s) ≡ changed_words ch 0 a.first ++ changed_words ch (suc last) b.rest =
+      ap (changed_words (changes_with_removal first last ch) 0) all
+      ∙ (changed_words-append (changes_with_removal first last ch) 0 a.first (b.first ++ b.rest)
       ∙ (λ i. before_first first last ch 0 a.first (omega (arith, n1)) i
-      ++ (changed_words-append (without_words first last ch) (0 + length a.first) b.first b.rest
-      ∙ ((λ j. inside_gone first last ch (0 + length a.first) b.first (omega (arith, n1)) (omega (arith, next)) j ++ changed_words (without_words first last ch) (next j) b.rest)
+      ++ (changed_words-append (changes_with_removal first last ch) (0 + length a.first) b.first b.rest
+      ∙ ((λ j. inside_gone first last ch (0 + length a.first) b.first (omega (arith, n1)) (omega (arith, next)) j ++ changed_words (changes_with_removal first last ch) (next j) b.rest)
       ∙ past_last first last ch (suc last) b.rest (omega arith))) i)) in
       let p1 : flat_map put_so front ≡ map word_lexeme (changed_words ch 0 a.first) = ap (flat_map put_so) (sym a.front_is) ∙ part_put 0 [] a.first (b.first ++ b.rest) all refl in
       let done : length (a.first ++ b.first) ≡ suc last = length-append a.first b.first ∙ omega (arith, n1, n2) in
       let ends : words_of s ≡ (a.first ++ b.first) ++ (b.rest ++ []) = all ∙ (sym (append_assoc a.first b.first b.rest) ∙ ap (λ l. (a.first ++ b.first) ++ l) (sym (append-nil b.rest))) in
       let p2 : flat_map put_so t.after ≡ map word_lexeme (changed_words ch (suc last) b.rest) =
-      ap (flat_map put_so) (sym b.following_is ∙ ap (λ n. numbered_tokens n b.rest) next) ∙ part_put (suc last) (a.first ++ b.first) b.rest [] ends done in
+      ap (flat_map put_so) (sym b.following_is ∙ ap (λ n. indexed_tokens n b.rest) next) ∙ part_put (suc last) (a.first ++ b.first) b.rest [] ends done in
       ap (map word_lexeme) split
       ∙ (map-append word_lexeme (changed_words ch 0 a.first) (changed_words ch (suc last) b.rest)
       ∙ ((λ i. sym p1 i ++ sym p2 i)

@@ -2,7 +2,7 @@
 -- Rule: docs/PROTOCOL.md, Requests on documents 9, 10, Refusals of edits.
 use Rattle.std.specs.Prelude.{◌≡◌, ℕ, nat_lt, if◌then◌else◌, length, List, Option, Some}
 use Rattle.std.specs.Str.{chars}
-use Rattle.ob0_scan.specs.Scanned.{Scanned, IsScan, max_text}
+use Rattle.ob0_scan.specs.TextWithTokens.{TextWithTokens, IsScan, max_text}
 use Rattle.ob0_text.specs.declared.edits.Edit.{Edit}
 use Rattle.ob0_text.specs.declared.position_types.Unit as counting
 use Rattle.ob0_text.specs.declared.refusals.EditRefusal.{EditRefusal}
@@ -15,7 +15,7 @@ use Rattle.ob0_tree.specs.Tree.{Tree, module_text, nesting}
 -- Holds if the edits leave a text that can be scanned and is a text of the module with this tree.
 pub record LeavesModule (unit : counting.Unit) (text : List ℕ) (edits : List Edit)
     (t : Tree (List ℕ) module_text) : Type 0 where
-  pub after : Scanned
+  pub after : TextWithTokens
   pub scan : IsScan after
   pub made : patched (width_of unit) text edits ≡ Some (chars after.text)
   pub module_of : ModuleOf after t

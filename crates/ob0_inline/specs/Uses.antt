@@ -7,36 +7,36 @@ use Rattle.ob0_text.specs.declared.edits.Edit.{Edit}
 use Rattle.ob0_text.specs.declared.position_types.Unit as counting
 use Rattle.ob0_text.specs.declared.refusals.EditRefusal.{EditRefusal}
 use Rattle.ob0_text.specs.declared.refusals.EditRefusal.TheVariants.{Memory, NoName, Shadowed}
-use Rattle.ob0_tree.specs.Parsed.{Parsed, named_tree_of, tree_of}
+use Rattle.ob0_tree.specs.ParsedModule.{ParsedModule, named_tree_of, tree_of}
 use Rattle.ob0_tree.specs.Tree.{Tree, module_text, occurrences}
-use Rattle.ob0_edits_tokens.specs.Replaced.{edit_at, parts, with_text_at}
+use Rattle.ob0_edits_tokens.specs.Replaced.{edit_at, parts, text_after_replacement}
 use Rattle.ob0_edits_tokens.specs.Written.{truth_text}
-use Rattle.ob0_language_names.specs.Inlining.{inlined, only}
+use Rattle.ob0_language_names.specs.Inlining.{inlined, single_occurrence}
 use Rattle.ob0_language_names.specs.Names.{Name}
 use Rattle.ob0_language_names.specs.Occurrences.{binds}
 use Rattle.ob0_language_names.specs.Scopes.{same_ordinal}
-use Rattle.ob0_language_names.specs.SeenNames.{sees}
+use Rattle.ob0_language_names.specs.OccurrenceLookup.{resolve_at_occurrence}
 use Rattle.ob0_language_values.specs.declared.scalar.Scalar.{Scalar}
 use Rattle.ob0_language_values.specs.declared.scalar.Scalar.TheVariants as scalar
 use Rattle.ob0_language_values.specs.Scalars.{scalar_value}
 use Rattle.ob0_scope.specs.NamesAtPlaces.{name_on}
 use Rattle.ob0_language_types.specs.ConstantValues.{value_of_constant}
 use Rattle.ob0_language_types.specs.WellTyped.{WellTyped}
-use Rattle.ob0_language_runs.specs.EditLaws.{SameRuns}
-use Rattle.ob0_inline.specs.declared.uses.Use.{Use}
+use Rattle.ob0_language_runs.specs.EditLaws.{HaveSameRuns}
+use Rattle.ob0_inline.specs.declared.uses.ConstantUse.{ConstantUse}
 use Rattle.ob0_inline.specs.Inlined.{LeavesModule, first_refusal}
 use Rattle.ob0_inline.specs.Values.{value_factor, value_text}
 
 -- Holds if the byte offset is on the use `u` of a constant of a CONST section. The token,
 -- occurrence, ordinal and value of `u` are those of this use.
-pub record IsUseAt (m : Parsed) (offset : ℕ) (u : Use) : Type 0 where
+pub record IsUseAt (m : ParsedModule) (offset : ℕ) (u : ConstantUse) : Type 0 where
   pub named : name_on m offset ≡ Some (record { token = u.token; ordinal = u.constant })
   pub occurs : slice_get (occurrences (tree_of m)) u.occurrence ≡ Some u.token
   pub has_value : value_of_constant (named_tree_of m) u.constant ≡ Some (scalar_value u.value)
 
 -- Holds if `u` is a use of a constant of a CONST section: an occurrence at this token, bound to the
 -- constant with this ordinal and this value.
-pub record IsUse (m : Parsed) (u : Use) : Type 0 where
+pub record IsUse (m : ParsedModule) (u : ConstantUse) : Type 0 where
   pub occurs : slice_get (occurrences (tree_of m)) u.occurrence ≡ Some u.token
   pub bound : binds (named_tree_of m) u.occurrence ≡ Some u.constant
   pub has_value : value_of_constant (named_tree_of m) u.constant ≡ Some (scalar_value u.value)
@@ -51,47 +51,47 @@ truth_ordinal false = 3
 abbrev pub is_predeclared_truth : Tree Name module_text → ℕ → Scalar → Bool
 is_predeclared_truth m occurrence (scalar.Number n) = true
 is_predeclared_truth m occurrence (scalar.Truth b) =
-    same_ordinal (sees m occurrence (truth_text b)) (truth_ordinal b)
+    same_ordinal (resolve_at_occurrence m occurrence (truth_text b)) (truth_ordinal b)
 
 -- returns the module after the constant is inlined at one use: with its value in place of that use
-abbrev pub inlined_here : Parsed → Use → Tree Name module_text
-inlined_here m u = inlined (named_tree_of m) (only u.occurrence) (value_factor u.value)
+abbrev pub tree_inlined_here : ParsedModule → ConstantUse → Tree Name module_text
+tree_inlined_here m u = inlined (named_tree_of m) (single_occurrence u.occurrence) (value_factor u.value)
 
 -- returns the first of the refusals that apply to inlining at a use, or None if none applies
-abbrev pub refusal_here : Parsed → Use → Option EditRefusal
+abbrev pub refusal_here : ParsedModule → ConstantUse → Option EditRefusal
 refusal_here m u =
-    first_refusal (with_text_at m.source (u.token ∷ []) (value_text u.value)) (inlined_here m u)
+    first_refusal (text_after_replacement m.source (u.token ∷ []) (value_text u.value)) (tree_inlined_here m u)
     (if is_predeclared_truth (named_tree_of m) u.occurrence u.value then None else Some Shadowed)
 
 -- Holds if these edits write the value in place of the use and change no other character. They
 -- leave the text of the inlined module, which is well-typed and has the same runs.
-pub record InlinesHere (unit : counting.Unit) (text : List ℕ) (m : Parsed) (u : Use)
+pub record InlinesHere (unit : counting.Unit) (text : List ℕ) (m : ParsedModule) (u : ConstantUse)
     (edits : List Edit) : Type 0 where
   pub here : map parts edits ≡ edit_at unit text m.source.tokens (value_text u.value) u.token ∷ []
-  pub leaves : LeavesModule unit text edits (inlined_here m u)
-  pub well_typed : WellTyped (inlined_here m u)
-  pub same_runs : SameRuns (inlined_here m u) (named_tree_of m)
+  pub leaves : LeavesModule unit text edits (tree_inlined_here m u)
+  pub well_typed : WellTyped (tree_inlined_here m u)
+  pub same_runs : HaveSameRuns (tree_inlined_here m u) (named_tree_of m)
 
 -- Holds for edits that inline the constant at the use, if no refusal applies. Holds for the first
 -- refusal that applies, and for `Memory`.
-abbrev pub AnswersUse : counting.Unit
+abbrev pub AnswersForUse : counting.Unit
     → List ℕ
-    → Parsed
-    → Use
+    → ParsedModule
+    → ConstantUse
     → Result (Vec Edit Global) EditRefusal
     → Type 0
-AnswersUse unit text m u (Ok edits) =
+AnswersForUse unit text m u (Ok edits) =
     (refusal_here m u ≡ None) × InlinesHere unit text m u edits.items
-AnswersUse unit text m u (Err refusal) = (refusal_here m u ≡ Some refusal) ⊎ (refusal ≡ Memory)
+AnswersForUse unit text m u (Err refusal) = (refusal_here m u ≡ Some refusal) ⊎ (refusal ≡ Memory)
 
 -- Holds for an answer to inlining the use at the byte offset. If there is no use, holds only for
 -- the refusal `NoName`.
-abbrev pub AnswersHere : counting.Unit
+abbrev pub AnswersInlineHere : counting.Unit
     → List ℕ
-    → Parsed
+    → ParsedModule
     → ℕ
     → Result (Vec Edit Global) EditRefusal
     → Type 0
-AnswersHere unit text m offset answer =
-    ((u : Use) × IsUseAt m offset u × AnswersUse unit text m u answer)
-    ⊎ ((answer ≡ Err NoName) × ((u : Use) → IsUseAt m offset u → ⊥))
+AnswersInlineHere unit text m offset answer =
+    ((u : ConstantUse) × IsUseAt m offset u × AnswersForUse unit text m u answer)
+    ⊎ ((answer ≡ Err NoName) × ((u : ConstantUse) → IsUseAt m offset u → ⊥))

@@ -2,12 +2,12 @@
 -- spell.
 -- Rule: docs/PROTOCOL.md, Requests on documents 9.
 use Rattle.std.specs.Prelude.{ℕ, List}
-use Rattle.ob0_scan.specs.Scanned.{Word}
+use Rattle.ob0_scan.specs.TextWithTokens.{Word}
 use Rattle.ob0_tree.specs.Tree.{Tree, designator, end, factor}
 use Rattle.ob0_language_values.specs.declared.scalar.Scalar.{Scalar}
 use Rattle.ob0_language_values.specs.declared.scalar.Scalar.TheVariants as scalar
 use Rattle.ob0_edits_tokens.specs.Written.{number_text, number_words, truth_text, truth_words}
-use Rattle.ob0_language_types.specs.Written.{written_number}
+use Rattle.ob0_language_types.specs.Written.{number_literal}
 
 -- returns the text that is written for a value
 abbrev pub value_text : Scalar → List ℕ
@@ -21,5 +21,5 @@ value_words (scalar.Truth b) = truth_words b
 
 -- returns the factor that the words of a value's text spell
 abbrev pub value_factor : Scalar → Tree (List ℕ) factor
-value_factor (scalar.Number n) = written_number n
+value_factor (scalar.Number n) = number_literal n
 value_factor (scalar.Truth b) = designator (truth_text b) end

@@ -2,11 +2,11 @@
 
 ghost use Rattle.std.specs.Prelude.{◌≡◌, drop, IsSomeAnd, MatchOption, Some};
 ghost use Rattle.std.specs.List.{position_from};
-ghost use Rattle.ob0_tree.specs.Parsed.{named_tree_of};
+ghost use Rattle.ob0_tree.specs.ParsedModule.{named_tree_of};
 ghost use Rattle.ob0_language_types.specs.ConstantValues.{value_of_constant};
 ghost use Rattle.ob0_language_values.specs.Scalars.{scalar_value};
 ghost use Rattle.ob0_inline.specs.Declarations.{is_semicolon};
-ghost use Rattle.ob0_inline.specs.Everywhere.{IsConstant, IsConstantAt, NoConstantAt};
+ghost use Rattle.ob0_inline.specs.Everywhere.{IsConstant, IsConstantAt, HasNoConstantAt};
 
 use ob0_language_values::Scalar;
 use ob0_scan::{Symbol, Token, TokenKind};
@@ -27,7 +27,7 @@ pub struct NamedConstant {
 /// Returns the constant whose name is at a byte offset, in its declaration or at a use. Returns
 /// None if no such name is there.
 pub(crate) fn constant_at(module: &WellTyped, offset: usize) -> Option<NamedConstant>
-    ensures { MatchOption result (NoConstantAt «module».now.module_read offset)
+    ensures { MatchOption result (HasNoConstantAt «module».now.module_read offset)
         (λ c. IsConstantAt «module».now.module_read offset c) }
 {
     let names = module.resolved();
@@ -82,7 +82,7 @@ fn is_semicolon(kind: TokenKind) -> bool
     match kind {
         TokenKind::Symbol(symbol) => symbol == Symbol::Semicolon,
         TokenKind::Identifier => false,
-        TokenKind::Reserved(_) => false,
+        TokenKind::ReservedWord(_) => false,
         TokenKind::Integer(_) => false,
     }
 }

@@ -3,10 +3,10 @@
 ghost use Rattle.std.specs.Prelude.{◌≡◌, ◌≤◌, ◌+◌, List, IfOk, IfErr, map, nat_le, nat_lt, ℕ};
 ghost use Rattle.ob0_edits_tokens.specs.Replaced.{LeavesWords};
 ghost use Rattle.ob0_edits_tokens.specs.Words.{word_lexeme};
-ghost use Rattle.ob0_scan.specs.Scanned.{IsScan, Scanned, Word};
+ghost use Rattle.ob0_scan.specs.TextWithTokens.{IsScan, TextWithTokens, Word};
 ghost use Rattle.ob0_text.specs.declared.refusals.EditRefusal.TheVariants.{Memory};
-ghost use Rattle.ob0_tree.specs.Module.{max_nesting, text_lexemes};
-ghost use Rattle.ob0_tree.specs.Parsed.{tree_of};
+ghost use Rattle.ob0_tree.specs.Module.{max_nesting, terminals_of_text};
+ghost use Rattle.ob0_tree.specs.ParsedModule.{tree_of};
 ghost use Rattle.ob0_tree.specs.Tree.{Tree, module_text, nesting, spell};
 
 use ob0_parse::parse;
@@ -34,12 +34,12 @@ pub(crate) fn is_too_deep<T: TextStore>(
     if read.nesting() < MAX_NESTING {
         return Ok(false);
     }
-    is_parsed_too_deep(alloc, store, edits)
+    patched_is_too_deep(alloc, store, edits)
 }
 
 /// Returns true if the edited text is nested deeper than a module may be. The text is parsed to
 /// find out.
-fn is_parsed_too_deep<T: TextStore>(
+fn patched_is_too_deep<T: TextStore>(
     alloc: Global,
     store: &T,
     edits: &[Edit],
@@ -65,13 +65,13 @@ fn is_parsed_too_deep<T: TextStore>(
 /// Returns true if a text can be read as a module. If some tree spells its tokens, this is so
 /// exactly if the tree isn't nested deeper than a module may be.
 fn is_module(alloc: Global, text: &str) -> Result<bool, EditRefusal>
-    ensures shallow { (s : Scanned) (t : Tree (List ℕ) module_text) → IsScan s → s.text ≡ text.now
-        → text_lexemes s ≡ spell t
+    ensures shallow { (s : TextWithTokens) (t : Tree (List ℕ) module_text) → IsScan s → s.text ≡ text.now
+        → terminals_of_text s ≡ spell t
         → IfOk result (λ shallow. shallow ≡ nat_le (nesting t) max_nesting) }
     ensures memory { IfErr result (λ refusal. refusal ≡ Memory) }
 {
     match scan(alloc, text) {
-        Ok(tokens) => is_parsed(alloc, &tokens),
+        Ok(tokens) => is_parsable(alloc, &tokens),
         Err(refusal) => match refusal {
             ScanRefusal::Faults(_faults) => Ok(false),
             ScanRefusal::Memory => Err(EditRefusal::Memory),
@@ -81,9 +81,9 @@ fn is_module(alloc: Global, text: &str) -> Result<bool, EditRefusal>
 
 /// Returns true if the tokens of a text can be parsed as a module. If some tree spells them, this
 /// is so exactly if the tree isn't nested deeper than a module may be.
-fn is_parsed(alloc: Global, tokens: &Tokens) -> Result<bool, EditRefusal>
+fn is_parsable(alloc: Global, tokens: &Tokens) -> Result<bool, EditRefusal>
     ensures shallow { (t : Tree (List ℕ) module_text)
-        → text_lexemes tokens.now ≡ spell t
+        → terminals_of_text tokens.now ≡ spell t
         → IfOk result (λ shallow. shallow ≡ nat_le (nesting t) max_nesting) }
     ensures memory { IfErr result (λ refusal. refusal ≡ Memory) }
 {

@@ -3,27 +3,27 @@
 ghost use Rattle.std.specs.Prelude.{◌≡◌, ◌⊎◌, ◌<◌, ◌≤◌, ◌∷◌, [], IfOk, IfErr, IsErrOf, length, map};
 ghost use Rattle.std.specs.List.{list_any};
 ghost use Rattle.std.specs.Str.{chars};
-ghost use Rattle.ob0_scan.specs.Scanned.{max_text};
+ghost use Rattle.ob0_scan.specs.TextWithTokens.{max_text};
 ghost use Rattle.ob0_text.specs.declared.refusals.EditRefusal.TheVariants.{Memory, TooDeep, TooLong};
 ghost use Rattle.ob0_text.specs.Texts.{offset_of};
 ghost use Rattle.ob0_text.specs.Units.{width_of};
 ghost use Rattle.ob0_tree.specs.Module.{max_nesting};
 ghost use Rattle.ob0_tree.specs.Tree.{nesting};
 ghost use Rattle.ob0_edits_tokens.specs.Ranges.{range_of};
-ghost use Rattle.ob0_edits_tokens.specs.Removed.{span_over};
+ghost use Rattle.ob0_edits_tokens.specs.Removed.{span_of_tokens};
 ghost use Rattle.ob0_edits_tokens.specs.Replaced.{edit_at, parts};
 ghost use Rattle.ob0_inline.specs.Declarations.{is_inside};
-ghost use Rattle.ob0_inline.specs.Everywhere.{AnswersConstant, AnswersEverywhere, IsConstant, IsAlone, inlined_all, text_without, uses_of};
+ghost use Rattle.ob0_inline.specs.Everywhere.{AnswersForConstant, AnswersInlineEverywhere, IsConstant, UsesAreFactors, tree_inlined_everywhere, text_after_inlining, uses_of};
 ghost use Rattle.ob0_inline.specs.Inlined.{LeavesModule};
 ghost use Rattle.ob0_inline.specs.Values.{value_text};
 
 use crate::constants::{NamedConstant, constant_at};
 use crate::depth::is_too_deep;
-use crate::shadowing::any_hidden;
-use crate::written::{is_scalar, value_text};
-use ob0_edits_tokens::edits_without;
-use ob0_language_runs::laws::inlining_everywhere_keeps_modules;
-use ob0_language_types::laws::constants_are_alone;
+use crate::truth_names::any_use_shadowed;
+use crate::written::{value_is_scalar, value_text};
+use ob0_edits_tokens::removal_edits;
+use ob0_language_runs::laws::inlining_everywhere_keeps_typing_and_runs;
+use ob0_language_types::laws::constant_uses_are_factors;
 use ob0_scan::{Span, Tokens};
 use ob0_scope_table::{Resolved, same_ordinal};
 use ob0_text::{Edit, EditRefusal, Position, TextStore};
@@ -41,7 +41,7 @@ pub fn inline_all<T: TextStore>(
     place: Position,
 ) -> Result<Vec<Edit>, EditRefusal>
     requires content { T.content store.now ≡ chars «module».now.module_read.source.text }
-    ensures { AnswersEverywhere (T.unit_of store.now) (T.content store.now) «module».now.module_read
+    ensures { AnswersInlineEverywhere (T.unit_of store.now) (T.content store.now) «module».now.module_read
         (offset_of (width_of (T.unit_of store.now)) (T.content store.now) place) result }
 {
     match constant_at(module, store.offset(place)) {
@@ -60,16 +60,16 @@ fn inline_constant<T: TextStore>(
 ) -> Result<Vec<Edit>, EditRefusal>
     requires content { T.content store.now ≡ chars «module».now.module_read.source.text }
     requires is_constant { IsConstant «module».now.module_read constant }
-    ensures { AnswersConstant (T.unit_of store.now) (T.content store.now) «module».now.module_read
+    ensures { AnswersForConstant (T.unit_of store.now) (T.content store.now) «module».now.module_read
         constant result }
 {
-    constants_are_alone();
-    inlining_everywhere_keeps_modules();
-    is_scalar(constant.value);
+    constant_uses_are_factors();
+    inlining_everywhere_keeps_typing_and_runs();
+    value_is_scalar(constant.value);
     let names = module.resolved();
-    match edits_everywhere(alloc, store, names, constant) {
+    match constant_edits(alloc, store, names, constant) {
         Ok(edits) => {
-            if any_hidden(alloc, names, constant)? {
+            if any_use_shadowed(alloc, names, constant)? {
                 return Err(EditRefusal::Shadowed);
             }
             if has_comment(names.tokens(), constant) {
@@ -84,7 +84,7 @@ fn inline_constant<T: TextStore>(
 /// Returns one edit that removes the constant's declaration, then one for each use, which writes
 /// the value there. If the resulting text is too long or nested too deep, the refusal is `TooLong`
 /// or `TooDeep`.
-fn edits_everywhere<T: TextStore>(
+fn constant_edits<T: TextStore>(
     alloc: Global,
     store: &T,
     names: &Resolved,
@@ -95,24 +95,24 @@ fn edits_everywhere<T: TextStore>(
     ensures edits { IfOk result (λ edits. map parts edits.items
         ≡ (
           range_of (width_of (T.unit_of store.now)) (T.content store.now)
-              (span_over names.now.module_read.source.tokens constant.first constant.last),
+              (span_of_tokens names.now.module_read.source.tokens constant.first constant.last),
           [],
         )
         ∷ map (edit_at (T.unit_of store.now)
         (T.content store.now) names.now.module_read.source.tokens (value_text constant.value))
         (uses_of names.now.module_read constant.ordinal)) }
-    ensures inlined { IsAlone names.now.module_read constant.ordinal
+    ensures inlined { UsesAreFactors names.now.module_read constant.ordinal
         → IfOk result (λ edits. LeavesModule (T.unit_of store.now) (T.content store.now) edits.items
-        (inlined_all names.now.module_read constant)) }
+        (tree_inlined_everywhere names.now.module_read constant)) }
     ensures too_long { IsErrOf result TooLong
-        → max_text < length (text_without names.now.module_read constant) }
-    ensures too_deep { IsAlone names.now.module_read constant.ordinal
+        → max_text < length (text_after_inlining names.now.module_read constant) }
+    ensures too_deep { UsesAreFactors names.now.module_read constant.ordinal
         → IsErrOf result TooDeep
-        → max_nesting < nesting (inlined_all names.now.module_read constant) }
+        → max_nesting < nesting (tree_inlined_everywhere names.now.module_read constant) }
     ensures short { IfOk result
-        (λ edits. length (text_without names.now.module_read constant) ≤ max_text) }
+        (λ edits. length (text_after_inlining names.now.module_read constant) ≤ max_text) }
     ensures deep_and_short { IsErrOf result TooDeep
-        → length (text_without names.now.module_read constant) ≤ max_text }
+        → length (text_after_inlining names.now.module_read constant) ≤ max_text }
     ensures refusals { IfErr result
         (λ refusal. (refusal ≡ TooLong) ⊎ ((refusal ≡ TooDeep) ⊎ (refusal ≡ Memory))) }
 {
@@ -120,7 +120,7 @@ fn edits_everywhere<T: TextStore>(
     let text = value_text(alloc, constant.value)?;
     let uses = uses_of(alloc, names, constant.ordinal)?;
     let (first, last) = (constant.first, constant.last);
-    let edits = edits_without(alloc, store, names.tokens(), first, last, &uses, &text)?;
+    let edits = removal_edits(alloc, store, names.tokens(), first, last, &uses, &text)?;
     if is_too_deep(alloc, store, read, &edits)? {
         return Err(EditRefusal::TooDeep);
     }
@@ -147,7 +147,7 @@ fn has_comment(tokens: &Tokens, constant: NamedConstant) -> bool
     requires inside { constant.last < length tokens.now.tokens }
     requires order { constant.first < constant.last }
     ensures { result
-        ≡ list_any (is_inside (span_over tokens.now.tokens constant.first constant.last))
+        ≡ list_any (is_inside (span_of_tokens tokens.now.tokens constant.first constant.last))
         tokens.now.comments }
 {
     let part = Span {

@@ -5,13 +5,13 @@
 mod constants;
 mod depth;
 mod everywhere;
-mod inlining;
-mod shadowing;
+mod one_use;
+mod truth_names;
+mod use_edit;
 mod uses;
-mod writing;
 mod written;
 
 pub use constants::NamedConstant;
 pub use everywhere::inline_all;
-pub use inlining::inline_here;
-pub use uses::Use;
+pub use one_use::inline_here;
+pub use uses::ConstantUse;

@@ -12,7 +12,7 @@ use ob0_types::WellTyped;
 /// A use of a constant: its token, its number among the occurrences of the text (counted from 0),
 /// and the ordinal and value of the constant.
 #[derive(Clone, Copy)]
-pub struct Use {
+pub struct ConstantUse {
     pub token: usize,
     pub occurrence: usize,
     pub constant: usize,
@@ -20,16 +20,16 @@ pub struct Use {
 }
 
 /// Returns the use of a constant at a byte offset, or None if no use is there.
-pub(crate) fn use_at(module: &WellTyped, offset: usize) -> Option<Use>
-    ensures at { MatchOption result ((u : Use) → IsUseAt «module».now.module_read offset u → ⊥)
+pub(crate) fn use_at(module: &WellTyped, offset: usize) -> Option<ConstantUse>
+    ensures at { MatchOption result ((u : ConstantUse) → IsUseAt «module».now.module_read offset u → ⊥)
         (λ u. IsUseAt «module».now.module_read offset u) }
-    ensures is_use { (u : Use) → result ≡ Some u → IsUse «module».now.module_read u }
+    ensures is_use { (u : ConstantUse) → result ≡ Some u → IsUse «module».now.module_read u }
 {
     let names = module.resolved();
     match name_at(names, offset) {
         Some(found) => match module.constant(found.ordinal) {
             Some(value) => match occurrence_at(names, found.token) {
-                Some(occurrence) => Some(Use {
+                Some(occurrence) => Some(ConstantUse {
                     token: found.token,
                     occurrence,
                     constant: found.ordinal,

@@ -19,7 +19,7 @@ pub(crate) fn value_text(alloc: Global, value: Scalar) -> Result<String, AllocEr
 {
     match value {
         Scalar::Number(number) => {
-            replaces_name(number);
+            number_replaces_name(number);
             number_text(alloc, number)
         }
         Scalar::Truth(true) => String::from_str(alloc, "TRUE"),
@@ -42,21 +42,21 @@ fn number_text(alloc: Global, number: i32) -> Result<String, AllocError>
 }
 
 /// Does nothing. Its contract states that the text of a 32-bit number may replace any identifier.
-fn replaces_name(number: i32)
+fn number_replaces_name(number: i32)
     ensures { ReplacesName (number_text number) (number_words number) }
 {}
 
 /// Does nothing. Its contract states that a value is a 32-bit number or a truth value.
-pub(crate) fn is_scalar(value: Scalar)
+pub(crate) fn value_is_scalar(value: Scalar)
     ensures { IsScalar (scalar_value value) }
 {
     if let Scalar::Number(number) = value {
-        fits(number);
+        number_fits(number);
     }
 }
 
 /// Does nothing. Its contract states that the number fits in 32 bits.
-fn fits(number: i32)
+fn number_fits(number: i32)
     ensures { IsTrue (fits number) }
 {
     // The proof needs the range of this value.

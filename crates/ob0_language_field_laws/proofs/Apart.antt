@@ -10,23 +10,23 @@ use Rattle.ob0_tree.specs.declared.tree.MultiplyOperator.{MultiplyOperator}
 use Rattle.ob0_tree.specs.declared.tree.MultiplyOperator.TheVariants as multiply_operator
 use Rattle.ob0_language_names.specs.Names.{Name, same_name}
 use Rattle.ob0_language_types.specs.Expressions.{Object, a_constant, a_procedure, a_standard, a_type, a_variable, reads}
-use Rattle.ob0_language_types.specs.Typing.{add_type, complement_type, constant_of, depth, field_depth, field_scalars, field_type, multiply_type, object_type, relation_type, scalars, shape_of_field, sign_type, type_of_name, value_type, with_fields, within_limits}
-use Rattle.ob0_language_types.specs.WellTyped.{Formal, Signature, Typed, agree, same_fields, same_shape, signature_of}
+use Rattle.ob0_language_types.specs.Typing.{addition_type, negation_type, constant_of, depth, field_depth, field_scalars, field_type, multiplication_type, object_type, relation_type, scalars, shape_of_field, sign_type, type_of_name, value_type, prepend_fields, check_limits}
+use Rattle.ob0_language_types.specs.WellTyped.{FormalParameter, Signature, TypeMeanings, same_known_shape, same_fields, same_shape, signature_of}
 use Rattle.ob0_language_values.specs.Values.{FieldShapes, Shape, Value, array_shape, boolean_shape, integer_shape, next_field_shape, no_field_shape, number, record_shape}
-use Rattle.ob0_language_fields.specs.Fields.{FieldNames, selected_record}
+use Rattle.ob0_language_fields.specs.Fields.{FieldRenaming, record_ordinal}
 use Rattle.ob0_language_fields.proofs.NamesMeant.{named}
-use Rattle.ob0_language_field_laws.specs.FieldLaws.{KeepsApart}
+use Rattle.ob0_language_field_laws.specs.FieldLaws.{KeepsFieldsDistinct}
 use Rattle.std.proofs.lemmas.Bool.{eqb-true}
 
 -- Returns a type, or the fields of a record, with all fields under other names.
 abbrev mutual
-  pub shape_by : FieldNames → Shape → Shape
+  pub shape_by : FieldRenaming → Shape → Shape
   shape_by l integer_shape = integer_shape
   shape_by l boolean_shape = boolean_shape
   shape_by l (array_shape k n s) = array_shape k n (shape_by l s)
   shape_by l (record_shape k fs) = record_shape k (fields_by l k fs)
 
-  pub fields_by : FieldNames → ℕ → FieldShapes → FieldShapes
+  pub fields_by : FieldRenaming → ℕ → FieldShapes → FieldShapes
   fields_by l k no_field_shape = no_field_shape
   fields_by l k (next_field_shape x s rest) = next_field_shape (l (Some k) x) (shape_by l s) (fields_by l k rest)
 
@@ -49,74 +49,74 @@ choose-map f false a o = refl
 
 -- The types of operations are the same if fields have other names.
 
-pub relation_type-by : (l : FieldNames) (r : Relation) (x y : Shape) → relation_type r (shape_by l x) (shape_by l y) ≡ option_map (shape_by l) (relation_type r x y)
+pub relation_type-by : (l : FieldRenaming) (r : Relation) (x y : Shape) → relation_type r (shape_by l x) (shape_by l y) ≡ option_map (shape_by l) (relation_type r x y)
 relation_type-by l r integer_shape integer_shape = refl
 relation_type-by l relation.Equal boolean_shape boolean_shape = refl
 relation_type-by l relation.NotEqual boolean_shape boolean_shape = refl
 relation_type-by l _ _ _ = refl
 
-pub add_type-by : (l : FieldNames) (o : AddOperator) (x y : Shape) → add_type o (shape_by l x) (shape_by l y) ≡ option_map (shape_by l) (add_type o x y)
-add_type-by l add_operator.Add integer_shape integer_shape = refl
-add_type-by l add_operator.Subtract integer_shape integer_shape = refl
-add_type-by l add_operator.Or boolean_shape boolean_shape = refl
-add_type-by l _ _ _ = refl
+pub addition_type-by : (l : FieldRenaming) (o : AddOperator) (x y : Shape) → addition_type o (shape_by l x) (shape_by l y) ≡ option_map (shape_by l) (addition_type o x y)
+addition_type-by l add_operator.Add integer_shape integer_shape = refl
+addition_type-by l add_operator.Subtract integer_shape integer_shape = refl
+addition_type-by l add_operator.Or boolean_shape boolean_shape = refl
+addition_type-by l _ _ _ = refl
 
-pub multiply_type-by : (l : FieldNames) (o : MultiplyOperator) (x y : Shape) → multiply_type o (shape_by l x) (shape_by l y) ≡ option_map (shape_by l) (multiply_type o x y)
-multiply_type-by l multiply_operator.Multiply integer_shape integer_shape = refl
-multiply_type-by l multiply_operator.Divide integer_shape integer_shape = refl
-multiply_type-by l multiply_operator.Modulo integer_shape integer_shape = refl
-multiply_type-by l multiply_operator.And boolean_shape boolean_shape = refl
-multiply_type-by l _ _ _ = refl
+pub multiplication_type-by : (l : FieldRenaming) (o : MultiplyOperator) (x y : Shape) → multiplication_type o (shape_by l x) (shape_by l y) ≡ option_map (shape_by l) (multiplication_type o x y)
+multiplication_type-by l multiply_operator.Multiply integer_shape integer_shape = refl
+multiplication_type-by l multiply_operator.Divide integer_shape integer_shape = refl
+multiplication_type-by l multiply_operator.Modulo integer_shape integer_shape = refl
+multiplication_type-by l multiply_operator.And boolean_shape boolean_shape = refl
+multiplication_type-by l _ _ _ = refl
 
-pub sign_type-by : (l : FieldNames) (o : Option Sign) (x : Shape) → sign_type o (shape_by l x) ≡ option_map (shape_by l) (sign_type o x)
+pub sign_type-by : (l : FieldRenaming) (o : Option Sign) (x : Shape) → sign_type o (shape_by l x) ≡ option_map (shape_by l) (sign_type o x)
 sign_type-by l None x = refl
 sign_type-by l (Some sign.Plus) integer_shape = refl
 sign_type-by l (Some sign.Minus) integer_shape = refl
 sign_type-by l _ _ = refl
 
-pub complement_type-by : (l : FieldNames) (x : Shape) → complement_type (shape_by l x) ≡ option_map (shape_by l) (complement_type x)
-complement_type-by l boolean_shape = refl
-complement_type-by l _ = refl
+pub negation_type-by : (l : FieldRenaming) (x : Shape) → negation_type (shape_by l x) ≡ option_map (shape_by l) (negation_type x)
+negation_type-by l boolean_shape = refl
+negation_type-by l _ = refl
 
 -- Looking up a field under its new name gives the field's type under the new names.
 
-pub shape_of_field-by : (l : FieldNames) → KeepsApart l → (k : ℕ) (fs : FieldShapes) (x : Name) → shape_of_field (fields_by l k fs) (l (Some k) x) ≡ option_map (shape_by l) (shape_of_field fs x)
+pub shape_of_field-by : (l : FieldRenaming) → KeepsFieldsDistinct l → (k : ℕ) (fs : FieldShapes) (x : Name) → shape_of_field (fields_by l k fs) (l (Some k) x) ≡ option_map (shape_by l) (shape_of_field fs x)
 shape_of_field-by l apart k no_field_shape x = refl
 shape_of_field-by l apart k (next_field_shape y s rest) x =
     (λ i. if apart k x y i then Some (shape_by l s) else shape_of_field-by l apart k rest x i) ∙ choose-map (shape_by l) (same_name x y) s (shape_of_field rest x)
 
-pub field_type-by : (l : FieldNames) → KeepsApart l → (s : Shape) (x : Name) → field_type (shape_by l s) (l (selected_record (Some s)) x) ≡ option_map (shape_by l) (field_type s x)
+pub field_type-by : (l : FieldRenaming) → KeepsFieldsDistinct l → (s : Shape) (x : Name) → field_type (shape_by l s) (l (record_ordinal (Some s)) x) ≡ option_map (shape_by l) (field_type s x)
 field_type-by l apart (record_shape k fs) x = shape_of_field-by l apart k fs x
 field_type-by l apart _ x = refl
 
-pub with_fields-by : (l : FieldNames) (k : ℕ) (xs : List Name) (s : Shape) (rest : FieldShapes) → with_fields (map (l (Some k)) xs) (shape_by l s) (fields_by l k rest) ≡ fields_by l k (with_fields xs s rest)
-with_fields-by l k [] s rest = refl
-with_fields-by l k (x ∷ xs) s rest = λ i. next_field_shape (l (Some k) x) (shape_by l s) (with_fields-by l k xs s rest i)
+pub prepend_fields-by : (l : FieldRenaming) (k : ℕ) (xs : List Name) (s : Shape) (rest : FieldShapes) → prepend_fields (map (l (Some k)) xs) (shape_by l s) (fields_by l k rest) ≡ fields_by l k (prepend_fields xs s rest)
+prepend_fields-by l k [] s rest = refl
+prepend_fields-by l k (x ∷ xs) s rest = λ i. next_field_shape (l (Some k) x) (shape_by l s) (prepend_fields-by l k xs s rest i)
 
 -- A type with its fields under other names has the same number of scalars and the same depth.
 
 mutual
-  pub scalars-by : (l : FieldNames) (s : Shape) → scalars (shape_by l s) ≡ scalars s
+  pub scalars-by : (l : FieldRenaming) (s : Shape) → scalars (shape_by l s) ≡ scalars s
   scalars-by l (array_shape k n s) = λ i. n * scalars-by l s i
   scalars-by l (record_shape k fs) = λ i. max 1 (field_scalars-by l k fs i)
   scalars-by l _ = refl
 
-  pub field_scalars-by : (l : FieldNames) (k : ℕ) (fs : FieldShapes) → field_scalars (fields_by l k fs) ≡ field_scalars fs
+  pub field_scalars-by : (l : FieldRenaming) (k : ℕ) (fs : FieldShapes) → field_scalars (fields_by l k fs) ≡ field_scalars fs
   field_scalars-by l k no_field_shape = refl
   field_scalars-by l k (next_field_shape x s rest) = λ i. scalars-by l s i + field_scalars-by l k rest i
 
 mutual
-  pub depth-by : (l : FieldNames) (s : Shape) → depth (shape_by l s) ≡ depth s
+  pub depth-by : (l : FieldRenaming) (s : Shape) → depth (shape_by l s) ≡ depth s
   depth-by l (array_shape k n s) = λ i. suc (depth-by l s i)
   depth-by l (record_shape k fs) = λ i. suc (field_depth-by l k fs i)
   depth-by l _ = refl
 
-  pub field_depth-by : (l : FieldNames) (k : ℕ) (fs : FieldShapes) → field_depth (fields_by l k fs) ≡ field_depth fs
+  pub field_depth-by : (l : FieldRenaming) (k : ℕ) (fs : FieldShapes) → field_depth (fields_by l k fs) ≡ field_depth fs
   field_depth-by l k no_field_shape = refl
   field_depth-by l k (next_field_shape x s rest) = λ i. max (depth-by l s i) (field_depth-by l k rest i)
 
-pub within_limits-by : (l : FieldNames) (s : Shape) → within_limits (shape_by l s) ≡ option_map (shape_by l) (within_limits s)
-within_limits-by l s =
+pub check_limits-by : (l : FieldRenaming) (s : Shape) → check_limits (shape_by l s) ≡ option_map (shape_by l) (check_limits s)
+check_limits-by l s =
     (λ i. if nat_le (scalars-by l s i) 65536 && nat_le (depth-by l s i) 100 then Some (shape_by l s) else None)
     ∙ choose-map (shape_by l) (nat_le (scalars s) 65536 && nat_le (depth s) 100) s None
 
@@ -127,7 +127,7 @@ and-when true p q h = h refl
 and-when false p q h = refl
 
 mutual
-  pub same_shape-by : (l : FieldNames) → KeepsApart l → (s t : Shape) → same_shape (shape_by l s) (shape_by l t) ≡ same_shape s t
+  pub same_shape-by : (l : FieldRenaming) → KeepsFieldsDistinct l → (s t : Shape) → same_shape (shape_by l s) (shape_by l t) ≡ same_shape s t
   same_shape-by l apart integer_shape integer_shape = refl
   same_shape-by l apart boolean_shape boolean_shape = refl
   same_shape-by l apart (array_shape k n s) (array_shape j m t) = λ i. (k == j) && ((n == m) && same_shape-by l apart s t i)
@@ -136,47 +136,47 @@ mutual
       (λ e. subst (λ j. same_fields (fields_by l k fs) (fields_by l j gs) ≡ same_fields fs gs) (eqb-true k j e) (same_fields-by l apart k fs gs))
   same_shape-by l apart _ _ = refl
 
-  pub same_fields-by : (l : FieldNames) → KeepsApart l → (k : ℕ) (fs gs : FieldShapes) → same_fields (fields_by l k fs) (fields_by l k gs) ≡ same_fields fs gs
+  pub same_fields-by : (l : FieldRenaming) → KeepsFieldsDistinct l → (k : ℕ) (fs gs : FieldShapes) → same_fields (fields_by l k fs) (fields_by l k gs) ≡ same_fields fs gs
   same_fields-by l apart k no_field_shape no_field_shape = refl
   same_fields-by l apart k (next_field_shape x s rest) (next_field_shape y t others) = λ i.
       apart k x y i && (same_shape-by l apart s t i && same_fields-by l apart k rest others i)
   same_fields-by l apart k _ _ = refl
 
-pub agree-by : (l : FieldNames) → KeepsApart l → (a b : Option Shape) → agree (option_map (shape_by l) a) (option_map (shape_by l) b) ≡ agree a b
-agree-by l apart (Some s) (Some t) = same_shape-by l apart s t
-agree-by l apart _ _ = refl
+pub same_known_shape-by : (l : FieldRenaming) → KeepsFieldsDistinct l → (a b : Option Shape) → same_known_shape (option_map (shape_by l) a) (option_map (shape_by l) b) ≡ same_known_shape a b
+same_known_shape-by l apart (Some s) (Some t) = same_shape-by l apart s t
+same_known_shape-by l apart _ _ = refl
 
 -- Returns the meaning of a name in which the fields of types have other names.
 
-abbrev pub formal_by : FieldNames → Formal → Formal
+abbrev pub formal_by : FieldRenaming → FormalParameter → FormalParameter
 formal_by l f = record { mode = f.mode; shape = shape_by l f.shape }
 
-abbrev pub object_by : FieldNames → Object Shape Signature → Object Shape Signature
+abbrev pub object_by : FieldRenaming → Object Shape Signature → Object Shape Signature
 object_by l (a_type s) = a_type (shape_by l s)
 object_by l (a_constant v) = a_constant v
 object_by l (a_variable s) = a_variable (shape_by l s)
 object_by l (a_procedure signature) = a_procedure (map (formal_by l) signature)
 object_by l (a_standard p) = a_standard p
 
-abbrev pub named_by : FieldNames → (Name → Option (Object Shape Signature)) → Typed Name
+abbrev pub named_by : FieldRenaming → (Name → Option (Object Shape Signature)) → TypeMeanings Name
 named_by l objects = named (λ x. option_map (object_by l) (objects x))
 
-pub value_type-by : (l : FieldNames) (v : Value) → value_type v ≡ option_map (shape_by l) (value_type v)
+pub value_type-by : (l : FieldRenaming) (v : Value) → value_type v ≡ option_map (shape_by l) (value_type v)
 value_type-by l (number n) = refl
 value_type-by l _ = refl
 
-pub object_type-by : (l : FieldNames) (o : Option (Object Shape Signature)) → object_type (option_map (object_by l) o) ≡ option_map (shape_by l) (object_type o)
+pub object_type-by : (l : FieldRenaming) (o : Option (Object Shape Signature)) → object_type (option_map (object_by l) o) ≡ option_map (shape_by l) (object_type o)
 object_type-by l (Some (a_constant v)) = value_type-by l v
 object_type-by l _ = refl
 
-pub constant_of-by : (l : FieldNames) (o : Option (Object Shape Signature)) → constant_of (option_map (object_by l) o) ≡ constant_of o
+pub constant_of-by : (l : FieldRenaming) (o : Option (Object Shape Signature)) → constant_of (option_map (object_by l) o) ≡ constant_of o
 constant_of-by l (Some (a_type s)) = refl
 constant_of-by l _ = refl
 
-pub type_of_name-by : (l : FieldNames) (o : Option (Object Shape Signature)) → type_of_name (option_map (object_by l) o) ≡ option_map (shape_by l) (type_of_name o)
+pub type_of_name-by : (l : FieldRenaming) (o : Option (Object Shape Signature)) → type_of_name (option_map (object_by l) o) ≡ option_map (shape_by l) (type_of_name o)
 type_of_name-by l (Some (a_type s)) = refl
 type_of_name-by l _ = refl
 
-pub signature_of-by : (l : FieldNames) (o : Option (Object Shape Signature)) → signature_of (option_map (object_by l) o) ≡ option_map (map (formal_by l)) (signature_of o)
+pub signature_of-by : (l : FieldRenaming) (o : Option (Object Shape Signature)) → signature_of (option_map (object_by l) o) ≡ option_map (map (formal_by l)) (signature_of o)
 signature_of-by l (Some (a_standard reads)) = refl
 signature_of-by l _ = refl

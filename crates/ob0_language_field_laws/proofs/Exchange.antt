@@ -11,13 +11,13 @@ use Rattle.ob0_language_names.specs.Names.{Name, same_name}
 use Rattle.ob0_language_names.specs.Scopes.{same_ordinal}
 use Rattle.ob0_language_names.proofs.NameEquality.{same_name-refl}
 use Rattle.ob0_language_types.specs.WellTyped.{WellTyped}
-use Rattle.ob0_language_runs.specs.EditLaws.{SameRuns}
-use Rattle.ob0_language_fields.specs.Fields.{FieldNames, refielded}
-use Rattle.ob0_language_field_laws.specs.FieldLaws.{FreeFieldKeepsModules, KeepsApart}
-use Rattle.ob0_language_fields.specs.Renaming.{FieldFree, RecordFields, field_renamed, names_another_field, one_renamed, records}
+use Rattle.ob0_language_runs.specs.EditLaws.{HaveSameRuns}
+use Rattle.ob0_language_fields.specs.Fields.{FieldRenaming, rename_fields_in_module}
+use Rattle.ob0_language_field_laws.specs.FieldLaws.{FreeFieldRenamingKeepsTypingAndRuns, KeepsFieldsDistinct}
+use Rattle.ob0_language_fields.specs.Renaming.{IsFreeFieldName, RecordFields, with_renamed_field, another_field_has_name, single_field_renaming, records}
 use Rattle.ob0_language_fields.proofs.AgreeingFields.{NamesAgree, RecordsAgree}
 use Rattle.ob0_language_fields.proofs.AgreeingModules.{module-alike}
-use Rattle.ob0_language_field_laws.proofs.Proved.{refielding_keeps_modules-holds}
+use Rattle.ob0_language_field_laws.proofs.Proved.{field_renaming_keeps_typing_and_runs-holds}
 
 same_name-is : (x y : Name) → same_name x y ≡ true → x ≡ y
 same_name-is x y e = (bytes_eq-Decides x y).0 e
@@ -58,10 +58,10 @@ exchange-apart f new x y =
     (λ e. (bytes_eq-Decides x y).1 (sym (exchange-twice f new x) ∙ (ap (exchange f new) (same_name-is (exchange f new x) (exchange f new y) e) ∙ exchange-twice f new y)))
     (λ e. (bytes_eq-Decides (exchange f new x) (exchange f new y)).1 (ap (exchange f new) (same_name-is x y e)))
 
-abbrev pub exchanged : ℕ → Name → Name → FieldNames
+abbrev pub exchanged : ℕ → Name → Name → FieldRenaming
 exchanged r f new owner x = if same_ordinal owner r then exchange f new x else x
 
-pub exchanged-apart : (r : ℕ) (f new : Name) → KeepsApart (exchanged r f new)
+pub exchanged-apart : (r : ℕ) (f new : Name) → KeepsFieldsDistinct (exchanged r f new)
 exchanged-apart r f new k x y =
     elim (k == r) as (λ b. same_name (if b then exchange f new x else x) (if b then exchange f new y else y) ≡ same_name x y) [ true ↦ exchange-apart f new x y | false ↦ refl ]
 
@@ -77,22 +77,22 @@ and-or-false true true q h = absurd (cc)
 and-or-false true false q h = (refl, h)
 and-or-false false p q h = (refl, refl)
 
-names-agree : (r : ℕ) (f new : Name) (k : ℕ) (xs : List Name) → ((k == r) && names_another_field xs f new) ≡ false → NamesAgree (one_renamed r f new) (exchanged r f new) k xs
+names-agree : (r : ℕ) (f new : Name) (k : ℕ) (xs : List Name) → ((k == r) && another_field_has_name xs f new) ≡ false → NamesAgree (single_field_renaming r f new) (exchanged r f new) k xs
 names-agree r f new k [] h = tt
 names-agree r f new k (x ∷ xs) h =
-    let g = and-or-false (k == r) (same_name x new && not (same_name x f)) (names_another_field xs f new) h in
+    let g = and-or-false (k == r) (same_name x new && not (same_name x f)) (another_field_has_name xs f new) h in
     (agree-cases f new x (k == r) (same_name x f) (same_name x new) g.0, names-agree r f new k xs g.1)
 
-records-agree : (r : ℕ) (f new : Name) (ts : List RecordFields) → list_any (λ t. (t.ordinal == r) && names_another_field t.declared f new) ts ≡ false → RecordsAgree (one_renamed r f new) (exchanged r f new) ts
+records-agree : (r : ℕ) (f new : Name) (ts : List RecordFields) → list_any (λ t. (t.ordinal == r) && another_field_has_name t.declared f new) ts ≡ false → RecordsAgree (single_field_renaming r f new) (exchanged r f new) ts
 records-agree r f new [] h = tt
 records-agree r f new (t ∷ ts) h =
-    let g = or_parts ((t.ordinal == r) && names_another_field t.declared f new) (list_any (λ t. (t.ordinal == r) && names_another_field t.declared f new) ts) h in
+    let g = or_parts ((t.ordinal == r) && another_field_has_name t.declared f new) (list_any (λ t. (t.ordinal == r) && another_field_has_name t.declared f new) ts) h in
     (names-agree r f new t.ordinal t.declared g.0, records-agree r f new ts g.1)
 
-pub renamed-exchanged : (m : Tree Name module_text) (r : ℕ) (f new : Name) → FieldFree m r f new → WellTyped m → field_renamed m r f new ≡ refielded (exchanged r f new) m
+pub renamed-exchanged : (m : Tree Name module_text) (r : ℕ) (f new : Name) → IsFreeFieldName m r f new → WellTyped m → with_renamed_field m r f new ≡ rename_fields_in_module (exchanged r f new) m
 unfolding WellTyped
-renamed-exchanged m r f new free well = module-alike (one_renamed r f new) (exchanged r f new) m (records-agree r f new (records m) free) well.1
+renamed-exchanged m r f new free well = module-alike (single_field_renaming r f new) (exchanged r f new) m (records-agree r f new (records m) free) well.1
 
-pub free_field_keeps_modules-holds : FreeFieldKeepsModules
-free_field_keeps_modules-holds m r f new free well =
-    subst (λ a. WellTyped a × SameRuns a m) (sym (renamed-exchanged m r f new free well)) (refielding_keeps_modules-holds (exchanged r f new) m (exchanged-apart r f new) well)
+pub free_field_renaming_keeps_typing_and_runs-holds : FreeFieldRenamingKeepsTypingAndRuns
+free_field_renaming_keeps_typing_and_runs-holds m r f new free well =
+    subst (λ a. WellTyped a × HaveSameRuns a m) (sym (renamed-exchanged m r f new free well)) (field_renaming_keeps_typing_and_runs-holds (exchanged r f new) m (exchanged-apart r f new) well)

@@ -10,8 +10,8 @@ use Rattle.ob0_tree.specs.declared.tree.AddOperator.TheVariants as add_operator
 use Rattle.ob0_tree.specs.declared.tree.MultiplyOperator.{MultiplyOperator}
 use Rattle.ob0_tree.specs.declared.tree.MultiplyOperator.TheVariants as multiply_operator
 use Rattle.ob0_language_types.specs.Expressions.{element_step}
-use Rattle.ob0_language_values.specs.Values.{Index, Outcome, Overflow, Step, Stuck, Value, add, add_is_settled, at_index, compare_numbers, count_values, divided, divided_by, elements, ends, fits, gives, in_range, multiply, multiply_is_settled, negate, number, or_stuck, quotient, relate, remainder, same_truth, apply_sign, truth, ◌>>=◌}
-use Rattle.ob0_language_fields.specs.Fields.{FieldNames}
+use Rattle.ob0_language_values.specs.Values.{Index, Outcome, Overflow, Step, Stuck, Value, add, add_short_circuits, at_index, compare_numbers, count_values, checked_division, division_outcome, elements, ends, fits, gives, checked_number, multiply, multiply_short_circuits, negate, number, or_stuck, quotient, relate, remainder, same_truth, apply_sign, truth, ◌>>=◌}
+use Rattle.ob0_language_fields.specs.Fields.{FieldRenaming}
 use Rattle.ob0_language_field_laws.proofs.Values.{Finds, count_values-by, step_by, tagged, to_index, value_by}
 
 abbrev pub Follows : {A X Y : Type 0} → (A → X) → (A → Y) → Outcome X → Outcome Y → Type 0
@@ -35,56 +35,56 @@ or_stuck-follows f g (Some x) None h = absurd h
 or_stuck-follows f g (Some x) (Some y) h = h
 
 -- holds if two outcomes give values that stand for the same value
-abbrev pub ValuesFollow : FieldNames → Outcome Value → Outcome Value → Type 0
+abbrev pub ValuesFollow : FieldRenaming → Outcome Value → Outcome Value → Type 0
 ValuesFollow l = Follows (value_by tagged) (value_by l)
 
-pub in_range-follows : (l : FieldNames) (n : ℤ) → ValuesFollow l (in_range n) (in_range n)
-in_range-follows l n = elim (fits n) as (λ b. ValuesFollow l (if b then gives (number n) else ends Overflow) (if b then gives (number n) else ends Overflow)) [ true ↦ (number n, refl, refl) | false ↦ inr refl ]
+pub checked_number-follows : (l : FieldRenaming) (n : ℤ) → ValuesFollow l (checked_number n) (checked_number n)
+checked_number-follows l n = elim (fits n) as (λ b. ValuesFollow l (if b then gives (number n) else ends Overflow) (if b then gives (number n) else ends Overflow)) [ true ↦ (number n, refl, refl) | false ↦ inr refl ]
 
-pub divided_by-follows : (l : FieldNames) (result : Option ℤ) → ValuesFollow l (divided_by result) (divided_by result)
-divided_by-follows l None = inr refl
-divided_by-follows l (Some n) = in_range-follows l n
+pub division_outcome-follows : (l : FieldRenaming) (result : Option ℤ) → ValuesFollow l (division_outcome result) (division_outcome result)
+division_outcome-follows l None = inr refl
+division_outcome-follows l (Some n) = checked_number-follows l n
 
-pub add-follows : (l : FieldNames) (o : AddOperator) (v w : Value) → ValuesFollow l (add o (value_by tagged v) (value_by tagged w)) (add o (value_by l v) (value_by l w))
-add-follows l add_operator.Add (number a) (number b) = in_range-follows l (a +ℤ b)
-add-follows l add_operator.Subtract (number a) (number b) = in_range-follows l (a -ℤ b)
+pub add-follows : (l : FieldRenaming) (o : AddOperator) (v w : Value) → ValuesFollow l (add o (value_by tagged v) (value_by tagged w)) (add o (value_by l v) (value_by l w))
+add-follows l add_operator.Add (number a) (number b) = checked_number-follows l (a +ℤ b)
+add-follows l add_operator.Subtract (number a) (number b) = checked_number-follows l (a -ℤ b)
 add-follows l add_operator.Or (truth a) (truth b) = (truth _, refl, refl)
 add-follows l _ _ _ = inl refl
 
-pub multiply-follows : (l : FieldNames) (o : MultiplyOperator) (v w : Value) → ValuesFollow l (multiply o (value_by tagged v) (value_by tagged w)) (multiply o (value_by l v) (value_by l w))
-multiply-follows l multiply_operator.Multiply (number a) (number b) = in_range-follows l (a *ℤ b)
-multiply-follows l multiply_operator.Divide (number a) (number b) = divided_by-follows l (divided quotient a b)
-multiply-follows l multiply_operator.Modulo (number a) (number b) = divided_by-follows l (divided remainder a b)
+pub multiply-follows : (l : FieldRenaming) (o : MultiplyOperator) (v w : Value) → ValuesFollow l (multiply o (value_by tagged v) (value_by tagged w)) (multiply o (value_by l v) (value_by l w))
+multiply-follows l multiply_operator.Multiply (number a) (number b) = checked_number-follows l (a *ℤ b)
+multiply-follows l multiply_operator.Divide (number a) (number b) = division_outcome-follows l (checked_division quotient a b)
+multiply-follows l multiply_operator.Modulo (number a) (number b) = division_outcome-follows l (checked_division remainder a b)
 multiply-follows l multiply_operator.And (truth a) (truth b) = (truth _, refl, refl)
 multiply-follows l _ _ _ = inl refl
 
-pub relate-follows : (l : FieldNames) (r : Relation) (v w : Value) → ValuesFollow l (relate r (value_by tagged v) (value_by tagged w)) (relate r (value_by l v) (value_by l w))
+pub relate-follows : (l : FieldRenaming) (r : Relation) (v w : Value) → ValuesFollow l (relate r (value_by tagged v) (value_by tagged w)) (relate r (value_by l v) (value_by l w))
 relate-follows l r (number a) (number b) = (truth (compare_numbers r a b), refl, refl)
 relate-follows l relation.Equal (truth a) (truth b) = (truth (same_truth a b), refl, refl)
 relate-follows l relation.NotEqual (truth a) (truth b) = (truth _, refl, refl)
 relate-follows l _ _ _ = inl refl
 
-pub apply_sign-follows : (l : FieldNames) (s : Option Sign) (v : Value) → ValuesFollow l (apply_sign s (value_by tagged v)) (apply_sign s (value_by l v))
+pub apply_sign-follows : (l : FieldRenaming) (s : Option Sign) (v : Value) → ValuesFollow l (apply_sign s (value_by tagged v)) (apply_sign s (value_by l v))
 apply_sign-follows l None v = (v, refl, refl)
-apply_sign-follows l (Some sign.Plus) (number a) = in_range-follows l a
-apply_sign-follows l (Some sign.Minus) (number a) = in_range-follows l (neg_ℤ a)
+apply_sign-follows l (Some sign.Plus) (number a) = checked_number-follows l a
+apply_sign-follows l (Some sign.Minus) (number a) = checked_number-follows l (neg_ℤ a)
 apply_sign-follows l _ _ = inl refl
 
-pub negate-follows : (l : FieldNames) (v : Value) → ValuesFollow l (negate (value_by tagged v)) (negate (value_by l v))
+pub negate-follows : (l : FieldRenaming) (v : Value) → ValuesFollow l (negate (value_by tagged v)) (negate (value_by l v))
 negate-follows l (truth b) = (truth _, refl, refl)
 negate-follows l _ = inl refl
 
 -- If the left operand settles an operation in one run, it does in the other.
 
-pub add_is_settled-by : (l : FieldNames) (o : AddOperator) (v : Value) → add_is_settled o (value_by l v) ≡ add_is_settled o v
-add_is_settled-by l add_operator.Or (truth true) = refl
-add_is_settled-by l _ _ = refl
+pub add_short_circuits-by : (l : FieldRenaming) (o : AddOperator) (v : Value) → add_short_circuits o (value_by l v) ≡ add_short_circuits o v
+add_short_circuits-by l add_operator.Or (truth true) = refl
+add_short_circuits-by l _ _ = refl
 
-pub multiply_is_settled-by : (l : FieldNames) (o : MultiplyOperator) (v : Value) → multiply_is_settled o (value_by l v) ≡ multiply_is_settled o v
-multiply_is_settled-by l multiply_operator.And (truth false) = refl
-multiply_is_settled-by l _ _ = refl
+pub multiply_short_circuits-by : (l : FieldRenaming) (o : MultiplyOperator) (v : Value) → multiply_short_circuits o (value_by l v) ≡ multiply_short_circuits o v
+multiply_short_circuits-by l multiply_operator.And (truth false) = refl
+multiply_short_circuits-by l _ _ = refl
 
-pub settled-follows : (l : FieldNames) (b b₁ b₂ : Bool) (v : Value) (o₁ o₂ : Outcome Value) → b₁ ≡ b → b₂ ≡ b → ValuesFollow l o₁ o₂
+pub settled-follows : (l : FieldRenaming) (b b₁ b₂ : Bool) (v : Value) (o₁ o₂ : Outcome Value) → b₁ ≡ b → b₂ ≡ b → ValuesFollow l o₁ o₂
     → ValuesFollow l (elim b₁ [ true ↦ gives (value_by tagged v) | false ↦ o₁ ]) (elim b₂ [ true ↦ gives (value_by l v) | false ↦ o₂ ])
 settled-follows l b b₁ b₂ v o₁ o₂ e₁ e₂ h =
     subst₂ (λ b₁ b₂. ValuesFollow l (elim b₁ [ true ↦ gives (value_by tagged v) | false ↦ o₁ ]) (elim b₂ [ true ↦ gives (value_by l v) | false ↦ o₂ ])) (sym e₁) (sym e₂)
@@ -92,13 +92,13 @@ settled-follows l b b₁ b₂ v o₁ o₂ e₁ e₂ h =
 
 -- holds if two outcomes give steps of a path that stand for the same step
 
-abbrev pub MovesFollow : FieldNames → Outcome Step → Outcome Step → Type 0
+abbrev pub MovesFollow : FieldRenaming → Outcome Step → Outcome Step → Type 0
 MovesFollow l = Follows (step_by tagged) (step_by l)
 
-index-follows : (l : FieldNames) (i n : ℕ) → MovesFollow l (if nat_lt i n then gives (at_index i) else ends Index) (if nat_lt i n then gives (at_index i) else ends Index)
+index-follows : (l : FieldRenaming) (i n : ℕ) → MovesFollow l (if nat_lt i n then gives (at_index i) else ends Index) (if nat_lt i n then gives (at_index i) else ends Index)
 index-follows l i n = elim (nat_lt i n) as (λ b. MovesFollow l (if b then gives (at_index i) else ends Index) (if b then gives (at_index i) else ends Index)) [ true ↦ (to_index i, refl, refl) | false ↦ inr refl ]
 
-pub element_step-follows : (l : FieldNames) (v i : Value) → MovesFollow l (element_step (value_by tagged v) (value_by tagged i)) (element_step (value_by l v) (value_by l i))
+pub element_step-follows : (l : FieldRenaming) (v i : Value) → MovesFollow l (element_step (value_by tagged v) (value_by tagged i)) (element_step (value_by l v) (value_by l i))
 element_step-follows l (elements vs) (number (pos i)) =
     subst₂ (λ m n. MovesFollow l (if nat_lt i m then gives (at_index i) else ends Index) (if nat_lt i n then gives (at_index i) else ends Index)) (sym (count_values-by tagged vs)) (sym (count_values-by l vs)) (index-follows l i (count_values vs))
 element_step-follows l (elements vs) (number (negsuc i)) = inr refl

@@ -1,20 +1,20 @@
 -- The proofs of the laws of fields under other names.
 use Rattle.std.proofs.Common.{IsTrue, sym, refl, ap, ◌∙◌, subst}
-use Rattle.ob0_language_names.specs.Names.{as_names}
+use Rattle.ob0_language_names.specs.Names.{naming_by_spelling}
 use Rattle.ob0_language_types.specs.WellTyped.{WellTyped}
 use Rattle.ob0_language_runs.specs.Runs.{run, run_over}
-use Rattle.ob0_language_field_laws.specs.FieldLaws.{KeepsApart, RefieldingKeepsModules}
-use Rattle.ob0_language_field_laws.proofs.RefieldedModules.{refielding_keeps_fitting-holds}
-use Rattle.ob0_language_field_laws.proofs.RefieldedOnce.{declared_once-refield}
+use Rattle.ob0_language_field_laws.specs.FieldLaws.{KeepsFieldsDistinct, FieldRenamingKeepsTypingAndRuns}
+use Rattle.ob0_language_field_laws.proofs.RefieldedModules.{field_renaming_keeps_type_check-holds}
+use Rattle.ob0_language_field_laws.proofs.RefieldedOnce.{declared_once-rename_fields}
 use Rattle.ob0_language_field_laws.proofs.RefieldedRuns.{run-tagged}
-use Rattle.ob0_language_fields.proofs.Bare.{bare, refielded-bare}
+use Rattle.ob0_language_fields.proofs.Bare.{bare, rename_fields_in_module-bare}
 
-bare-apart : KeepsApart bare
+bare-apart : KeepsFieldsDistinct bare
 bare-apart k x y = refl
 
-pub refielding_keeps_modules-holds : RefieldingKeepsModules
+pub field_renaming_keeps_typing_and_runs-holds : FieldRenamingKeepsTypingAndRuns
 unfolding WellTyped run
-refielding_keeps_modules-holds l m apart well = (
-  (subst (λ b. IsTrue b) (sym (declared_once-refield l apart m)) well.0, subst (λ b. IsTrue b) (sym (refielding_keeps_fitting-holds l m apart)) well.1),
-  λ input c t. sym (run-tagged l apart m well.1 input c t) ∙ (run-tagged bare bare-apart m well.1 input c t ∙ ap (λ a. run_over as_names a input c t) (refielded-bare m)),
+field_renaming_keeps_typing_and_runs-holds l m apart well = (
+  (subst (λ b. IsTrue b) (sym (declared_once-rename_fields l apart m)) well.0, subst (λ b. IsTrue b) (sym (field_renaming_keeps_type_check-holds l m apart)) well.1),
+  λ input c t. sym (run-tagged l apart m well.1 input c t) ∙ (run-tagged bare bare-apart m well.1 input c t ∙ ap (λ a. run_over naming_by_spelling a input c t) (rename_fields_in_module-bare m)),
 )

@@ -2,22 +2,22 @@
 use Rattle.std.proofs.Common.{◌≡◌, ℕ, zero, suc, ◌+◌, true, false, List, [], ◌∷◌, ◌++◌, map, length, Some, None, Option, option_map, option_and_then, sym, refl, ap, ◌∙◌, subst₂}
 use Rattle.std.proofs.lemmas.List.{length-map, map-append}
 use Rattle.ob0_tree.specs.Tree.{Tree, block, body, constant, constants, declares, declares_constant, declares_type, declares_variable, end, expression, further_section, has_body, item, items, maybe, more, procedure, then_section, type_name, type_names, variable, variables, written_type}
-use Rattle.ob0_language_names.specs.Names.{Name, as_names, same_name}
-use Rattle.ob0_language_names.specs.Parts.{names_listed, procedure_formals, procedure_name, section_constants, section_type, section_types, section_variables}
-use Rattle.ob0_language_types.specs.Declarations.{after_types, after_variables, declare_constants, declare_types, procedure_constructors}
-use Rattle.ob0_language_types.specs.Environments.{from_binding, meanings, newest}
+use Rattle.ob0_language_names.specs.Names.{Name, naming_by_spelling, same_name}
+use Rattle.ob0_language_names.specs.Parts.{names_in_list, procedure_formals, procedure_name, section_constants, section_type, section_types, section_variables}
+use Rattle.ob0_language_types.specs.Declarations.{constructor_after_types, constructor_after_variables, declare_constants, declare_types, procedure_constructor_count}
+use Rattle.ob0_language_types.specs.Environments.{environment_from_binding, meanings, newest_object}
 use Rattle.ob0_language_types.specs.Expressions.{Object, a_constant, a_procedure, a_standard, a_type, a_variable}
-use Rattle.ob0_language_types.specs.Typing.{constant_of, constant_value, constructors, denoted, type_of_name}
-use Rattle.ob0_language_types.specs.WellTyped.{Mode, TypeEnvironment, bind_typed, by_place, by_value}
+use Rattle.ob0_language_types.specs.Typing.{constant_of, constant_value, constructor_count, denoted, type_of_name}
+use Rattle.ob0_language_types.specs.WellTyped.{Mode, TypeEnvironment, bind_typed_parameters, by_place, by_value}
 use Rattle.ob0_language_values.specs.Values.{FieldShapes, Shape, Store, Value, array_shape, copies, elements, initial, initial_members, members, next_field_shape, next_member, next_value, no_field_shape, record_shape}
-use Rattle.ob0_language_runs.specs.Runs.{Activation, ProcedureText, Frame, Parameter, allocate, bind_parameter, bind_parameters, declare_block, declare_procedures, declare_variables, formal_modes, parameters, passing, statement_meanings, with_procedures}
-use Rattle.ob0_language_fields.specs.Fields.{FieldNames, types_after_heading, types_after_variables, parameters_of, refield_block, refield_procedure, refield_procedures, refield_sections, refield_type, refield_types, refield_variables}
+use Rattle.ob0_language_runs.specs.Runs.{Activation, ProcedureText, Frame, Parameter, allocate, bind_parameter, bind_parameters, declare_block, declare_procedures, declare_variables, formal_modes, parameters, statement_object, statement_meanings, declare_procedures_in_frame}
+use Rattle.ob0_language_fields.specs.Fields.{FieldRenaming, environment_after_heading, environment_after_variables, parameters_of, rename_fields_in_block, rename_fields_in_procedure, rename_fields_in_procedures, rename_fields_in_sections, rename_fields_in_type, rename_fields_in_types, rename_fields_in_variables}
 use Rattle.ob0_language_fields.proofs.NamesMeant.{named}
 use Rattle.ob0_language_field_laws.proofs.Apart.{fields_by, shape_by}
 use Rattle.ob0_language_field_laws.proofs.RefieldedExecution.{Given, Modes, argument_by, place_given, value_given}
 use Rattle.ob0_language_field_laws.proofs.RefieldedExpressions.{Scalar, Thing, Things, active, constant_thing, procedure_thing, scalar_value, standard_thing, thing_by, type_thing, variable_thing}
-use Rattle.ob0_language_field_laws.proofs.RefieldedModules.{procedure_constructors-refield, procedure_formals-refield, procedure_name-refield, section_mode-refield, section_names-refield, section_types-refield, section_variables-refield, types_count-refield, variables_count-refield}
-use Rattle.ob0_language_field_laws.proofs.RefieldedTypes.{constant_value-alike, constructors-refield, denoted-refield}
+use Rattle.ob0_language_field_laws.proofs.RefieldedModules.{procedure_constructor_count-rename_fields, procedure_formals-rename_fields, procedure_name-rename_fields, section_mode-rename_fields, section_names-rename_fields, section_types-rename_fields, section_variables-rename_fields, types_count-rename_fields, variables_count-rename_fields}
+use Rattle.ob0_language_field_laws.proofs.RefieldedTypes.{constant_value-alike, constructor_count-rename_fields, denoted-rename_fields}
 use Rattle.ob0_language_field_laws.proofs.ScalarConstants.{constant_value-scalar}
 use Rattle.ob0_language_field_laws.proofs.Values.{Spot, members_by, store_by, tagged, value_by, values_by}
 
@@ -28,13 +28,13 @@ pub record Text : Type 0 where
   pub checked : TypeEnvironment Name
   pub text : Tree Name (item procedure)
 
-abbrev pub code_by : FieldNames → Text → ProcedureText Name
-code_by l c = record { first_constructor = c.first; text = refield_procedure l c.checked c.first c.text }
+abbrev pub code_by : FieldRenaming → Text → ProcedureText Name
+code_by l c = record { first_constructor = c.first; text = rename_fields_in_procedure l c.checked c.first c.text }
 
 abbrev pub Scene : Type 0
 Scene = List (Name × Thing Text)
 
-abbrev pub env_as : FieldNames → Scene → Activation Name
+abbrev pub env_as : FieldRenaming → Scene → Activation Name
 env_as l [] = []
 env_as l (b ∷ scene) = (b.0, thing_by l (code_by l) b.1) ∷ env_as l scene
 
@@ -47,24 +47,24 @@ abbrev pub newest_thing : Scene → Option (Thing Text)
 newest_thing [] = None
 newest_thing (b ∷ scene) = Some b.1
 
-pub from_binding-as : (l : FieldNames) (scene : Scene) (x : Name) → from_binding as_names (env_as l scene) x ≡ env_as l (scene_from scene x)
-from_binding-as l [] x = refl
-from_binding-as l (b ∷ scene) x =
-    elim (same_name x b.0) as (λ v. (elim v [ true ↦ (b.0, thing_by l (code_by l) b.1) ∷ env_as l scene | false ↦ from_binding as_names (env_as l scene) x ]) ≡ env_as l (elim v [ true ↦ b ∷ scene | false ↦ scene_from scene x ]))
-    [ true ↦ refl | false ↦ from_binding-as l scene x ]
+pub environment_from_binding-as : (l : FieldRenaming) (scene : Scene) (x : Name) → environment_from_binding naming_by_spelling (env_as l scene) x ≡ env_as l (scene_from scene x)
+environment_from_binding-as l [] x = refl
+environment_from_binding-as l (b ∷ scene) x =
+    elim (same_name x b.0) as (λ v. (elim v [ true ↦ (b.0, thing_by l (code_by l) b.1) ∷ env_as l scene | false ↦ environment_from_binding naming_by_spelling (env_as l scene) x ]) ≡ env_as l (elim v [ true ↦ b ∷ scene | false ↦ scene_from scene x ]))
+    [ true ↦ refl | false ↦ environment_from_binding-as l scene x ]
 
-newest-as : (l : FieldNames) (scene : Scene) → newest (env_as l scene) ≡ option_map (thing_by l (code_by l)) (newest_thing scene)
-newest-as l [] = refl
-newest-as l (b ∷ scene) = refl
+newest_object-as : (l : FieldRenaming) (scene : Scene) → newest_object (env_as l scene) ≡ option_map (thing_by l (code_by l)) (newest_thing scene)
+newest_object-as l [] = refl
+newest_object-as l (b ∷ scene) = refl
 
-pub object-as : (l : FieldNames) (scene : Scene) (x : Name) → newest (from_binding as_names (env_as l scene) x) ≡ option_map (thing_by l (code_by l)) (newest_thing (scene_from scene x))
-object-as l scene x = ap newest (from_binding-as l scene x) ∙ newest-as l (scene_from scene x)
+pub object-as : (l : FieldRenaming) (scene : Scene) (x : Name) → newest_object (environment_from_binding naming_by_spelling (env_as l scene) x) ≡ option_map (thing_by l (code_by l)) (newest_thing (scene_from scene x))
+object-as l scene x = ap newest_object (environment_from_binding-as l scene x) ∙ newest_object-as l (scene_from scene x)
 
 -- The modes of a procedure's parameters are the same if fields have other names.
 
-pub formal_modes-refield : (l : FieldNames) (k : ℕ) (fs : Tree Name (items further_section)) → formal_modes (refield_sections l k fs) ≡ formal_modes fs
-formal_modes-refield l k end = refl
-formal_modes-refield l k (more (then_section f) fs) = λ i. map (λ x. section_mode-refield l k f i) (section_names-refield l k f i) ++ formal_modes-refield l (k + constructors (section_type f)) fs i
+pub formal_modes-rename_fields : (l : FieldRenaming) (k : ℕ) (fs : Tree Name (items further_section)) → formal_modes (rename_fields_in_sections l k fs) ≡ formal_modes fs
+formal_modes-rename_fields l k end = refl
+formal_modes-rename_fields l k (more (then_section f) fs) = λ i. map (λ x. section_mode-rename_fields l k f i) (section_names-rename_fields l k f i) ++ formal_modes-rename_fields l (k + constructor_count (section_type f)) fs i
 
 abbrev pub thing_modes : Thing Text → Thing Modes
 thing_modes (type_thing s) = type_thing s
@@ -76,12 +76,12 @@ thing_modes (standard_thing p) = standard_thing p
 abbrev pub things_in : Scene → Things Modes
 things_in scene x = option_map thing_modes (newest_thing (scene_from scene x))
 
-passing-as : (l : FieldNames) (o : Option (Thing Text)) → passing (option_map (thing_by l (code_by l)) o) ≡ option_map (thing_by l (λ p. p)) (option_map thing_modes o)
-passing-as l (Some (procedure_thing c)) = λ i. Some (a_procedure ((ap formal_modes (procedure_formals-refield l c.checked c.first c.text) ∙ formal_modes-refield l c.first (procedure_formals c.text)) i))
-passing-as l _ = refl
+statement_object-as : (l : FieldRenaming) (o : Option (Thing Text)) → statement_object (option_map (thing_by l (code_by l)) o) ≡ option_map (thing_by l (λ p. p)) (option_map thing_modes o)
+statement_object-as l (Some (procedure_thing c)) = λ i. Some (a_procedure ((ap formal_modes (procedure_formals-rename_fields l c.checked c.first c.text) ∙ formal_modes-rename_fields l c.first (procedure_formals c.text)) i))
+statement_object-as l _ = refl
 
-pub meanings-as : (l : FieldNames) (scene : Scene) → statement_meanings as_names (env_as l scene) ≡ active l (things_in scene)
-meanings-as l scene = λ i. named (λ x. (ap passing (object-as l scene x) ∙ passing-as l (newest_thing (scene_from scene x))) i)
+pub meanings-as : (l : FieldRenaming) (scene : Scene) → statement_meanings naming_by_spelling (env_as l scene) ≡ active l (things_in scene)
+meanings-as l scene = λ i. named (λ x. (ap statement_object (object-as l scene x) ∙ statement_object-as l (newest_thing (scene_from scene x))) i)
 
 -- returns the meaning of a name if each field has its present name
 
@@ -95,25 +95,25 @@ bare_object (standard_thing p) = a_standard p
 abbrev pub objects_in : Scene → Name → Option (Object Spot Text)
 objects_in scene x = option_map bare_object (newest_thing (scene_from scene x))
 
-constant-as : (l : FieldNames) (o : Option (Thing Text)) → constant_of (option_map (thing_by l (code_by l)) o) ≡ constant_of (option_map bare_object o)
+constant-as : (l : FieldRenaming) (o : Option (Thing Text)) → constant_of (option_map (thing_by l (code_by l)) o) ≡ constant_of (option_map bare_object o)
 constant-as l (Some (type_thing s)) = refl
 constant-as l _ = refl
 
-type-as : (l : FieldNames) (o : Option (Thing Text)) → type_of_name (option_map (thing_by l (code_by l)) o) ≡ option_map (shape_by l) (type_of_name (option_map bare_object o))
+type-as : (l : FieldRenaming) (o : Option (Thing Text)) → type_of_name (option_map (thing_by l (code_by l)) o) ≡ option_map (shape_by l) (type_of_name (option_map bare_object o))
 type-as l (Some (type_thing s)) = refl
 type-as l _ = refl
 
-pub constants-as : (l : FieldNames) (scene : Scene) (x : Name) → constant_of (newest (from_binding as_names (env_as l scene) x)) ≡ constant_of (objects_in scene x)
+pub constants-as : (l : FieldRenaming) (scene : Scene) (x : Name) → constant_of (newest_object (environment_from_binding naming_by_spelling (env_as l scene) x)) ≡ constant_of (objects_in scene x)
 constants-as l scene x = ap constant_of (object-as l scene x) ∙ constant-as l (newest_thing (scene_from scene x))
 
-pub types-as : (l : FieldNames) (scene : Scene) (x : Name) → type_of_name (newest (from_binding as_names (env_as l scene) x)) ≡ option_map (shape_by l) (type_of_name (objects_in scene x))
+pub types-as : (l : FieldRenaming) (scene : Scene) (x : Name) → type_of_name (newest_object (environment_from_binding naming_by_spelling (env_as l scene) x)) ≡ option_map (shape_by l) (type_of_name (objects_in scene x))
 types-as l scene x = ap type_of_name (object-as l scene x) ∙ type-as l (newest_thing (scene_from scene x))
 
-pub value-as : (l : FieldNames) (scene : Scene) (e : Tree Name expression) → constant_value (meanings as_names (env_as l scene)) e ≡ constant_value (named (objects_in scene)) e
-value-as l scene e = constant_value-alike (λ x. newest (from_binding as_names (env_as l scene) x)) (objects_in scene) (constants-as l scene) e
+pub value-as : (l : FieldRenaming) (scene : Scene) (e : Tree Name expression) → constant_value (meanings naming_by_spelling (env_as l scene)) e ≡ constant_value (named (objects_in scene)) e
+value-as l scene e = constant_value-alike (λ x. newest_object (environment_from_binding naming_by_spelling (env_as l scene) x)) (objects_in scene) (constants-as l scene) e
 
-pub denoted-as : (l : FieldNames) (scene : Scene) (k : ℕ) (t : Tree Name written_type) → denoted (meanings as_names (env_as l scene)) k (refield_type l k t) ≡ option_map (shape_by l) (denoted (named (objects_in scene)) k t)
-denoted-as l scene k t = denoted-refield l (λ x. newest (from_binding as_names (env_as l scene) x)) (objects_in scene) (constants-as l scene) (types-as l scene) k t
+pub denoted-as : (l : FieldRenaming) (scene : Scene) (k : ℕ) (t : Tree Name written_type) → denoted (meanings naming_by_spelling (env_as l scene)) k (rename_fields_in_type l k t) ≡ option_map (shape_by l) (denoted (named (objects_in scene)) k t)
+denoted-as l scene k t = denoted-rename_fields l (λ x. newest_object (environment_from_binding naming_by_spelling (env_as l scene) x)) (objects_in scene) (constants-as l scene) (types-as l scene) k t
 
 -- holds if both runs give results that stand for the same thing, or neither gives a result
 abbrev pub Both : {A X Y : Type 0} → (A → X) → (A → Y) → Option X → Option Y → Type 0
@@ -143,47 +143,47 @@ scalar-in : (o : Option (Thing Text)) → constant_of (option_map bare_object o)
 scalar-in (Some (type_thing s)) = refl
 scalar-in _ = refl
 
-value-both : (l : FieldNames) (scene : Scene) (e : Tree Name expression) → Both scalar_value scalar_value (constant_value (meanings as_names (env_as tagged scene)) e) (constant_value (meanings as_names (env_as l scene)) e)
+value-both : (l : FieldRenaming) (scene : Scene) (e : Tree Name expression) → Both scalar_value scalar_value (constant_value (meanings naming_by_spelling (env_as tagged scene)) e) (constant_value (meanings naming_by_spelling (env_as l scene)) e)
 value-both l scene e =
     let c = constant_value-scalar (objects_in scene) (λ x. option_and_then scalar_of (newest_thing (scene_from scene x))) (λ x. scalar-in (newest_thing (scene_from scene x))) e in
     (c.0, value-as tagged scene e ∙ c.1, value-as l scene e ∙ c.1)
 
-denoted-both : (l : FieldNames) (scene : Scene) (k : ℕ) (t : Tree Name written_type)
-    → Both (shape_by tagged) (shape_by l) (denoted (meanings as_names (env_as tagged scene)) k (refield_type tagged k t)) (denoted (meanings as_names (env_as l scene)) k (refield_type l k t))
+denoted-both : (l : FieldRenaming) (scene : Scene) (k : ℕ) (t : Tree Name written_type)
+    → Both (shape_by tagged) (shape_by l) (denoted (meanings naming_by_spelling (env_as tagged scene)) k (rename_fields_in_type tagged k t)) (denoted (meanings naming_by_spelling (env_as l scene)) k (rename_fields_in_type l k t))
 denoted-both l scene k t = (denoted (named (objects_in scene)) k t, denoted-as tagged scene k t, denoted-as l scene k t)
 
-pub declare_constants-both : (l : FieldNames) (scene : Scene) (cs : Tree Name (items constant)) → Both (env_as tagged) (env_as l) (declare_constants as_names (env_as tagged scene) cs) (declare_constants as_names (env_as l scene) cs)
+pub declare_constants-both : (l : FieldRenaming) (scene : Scene) (cs : Tree Name (items constant)) → Both (env_as tagged) (env_as l) (declare_constants naming_by_spelling (env_as tagged scene) cs) (declare_constants naming_by_spelling (env_as l scene) cs)
 unfolding declare_constants
 declare_constants-both l scene end = (Some scene, refl, refl)
 declare_constants-both l scene (more (declares_constant x e) cs) =
-    both-then scalar_value scalar_value (env_as tagged) (env_as l) (λ v. declare_constants as_names ((x, a_constant v) ∷ env_as tagged scene) cs) (λ v. declare_constants as_names ((x, a_constant v) ∷ env_as l scene) cs)
-    (constant_value (meanings as_names (env_as tagged scene)) e) (constant_value (meanings as_names (env_as l scene)) e) (value-both l scene e)
+    both-then scalar_value scalar_value (env_as tagged) (env_as l) (λ v. declare_constants naming_by_spelling ((x, a_constant v) ∷ env_as tagged scene) cs) (λ v. declare_constants naming_by_spelling ((x, a_constant v) ∷ env_as l scene) cs)
+    (constant_value (meanings naming_by_spelling (env_as tagged scene)) e) (constant_value (meanings naming_by_spelling (env_as l scene)) e) (value-both l scene e)
     (λ c. declare_constants-both l ((x, constant_thing c) ∷ scene) cs)
 
-pub declare_types-both : (l : FieldNames) (scene : Scene) (k : ℕ) (ds : Tree Name (items type_name)) → Both (env_as tagged) (env_as l) (declare_types as_names (env_as tagged scene) k (refield_types tagged k ds)) (declare_types as_names (env_as l scene) k (refield_types l k ds))
+pub declare_types-both : (l : FieldRenaming) (scene : Scene) (k : ℕ) (ds : Tree Name (items type_name)) → Both (env_as tagged) (env_as l) (declare_types naming_by_spelling (env_as tagged scene) k (rename_fields_in_types tagged k ds)) (declare_types naming_by_spelling (env_as l scene) k (rename_fields_in_types l k ds))
 unfolding declare_types
 declare_types-both l scene k end = (Some scene, refl, refl)
 declare_types-both l scene k (more (declares_type x u) ds) =
-    subst₂ (λ m n. Both (env_as tagged) (env_as l) (option_and_then (λ s. declare_types as_names ((x, a_type s) ∷ env_as tagged scene) (k + m) (refield_types tagged (k + constructors u) ds)) (denoted (meanings as_names (env_as tagged scene)) k (refield_type tagged k u)))
-    (option_and_then (λ s. declare_types as_names ((x, a_type s) ∷ env_as l scene) (k + n) (refield_types l (k + constructors u) ds)) (denoted (meanings as_names (env_as l scene)) k (refield_type l k u))))
-    (sym (constructors-refield tagged k u)) (sym (constructors-refield l k u))
-    (both-then (shape_by tagged) (shape_by l) (env_as tagged) (env_as l) (λ s. declare_types as_names ((x, a_type s) ∷ env_as tagged scene) (k + constructors u) (refield_types tagged (k + constructors u) ds)) (λ s. declare_types as_names ((x, a_type s) ∷ env_as l scene) (k + constructors u) (refield_types l (k + constructors u) ds))
-    (denoted (meanings as_names (env_as tagged scene)) k (refield_type tagged k u)) (denoted (meanings as_names (env_as l scene)) k (refield_type l k u)) (denoted-both l scene k u)
-    (λ s. declare_types-both l ((x, type_thing s) ∷ scene) (k + constructors u) ds))
+    subst₂ (λ m n. Both (env_as tagged) (env_as l) (option_and_then (λ s. declare_types naming_by_spelling ((x, a_type s) ∷ env_as tagged scene) (k + m) (rename_fields_in_types tagged (k + constructor_count u) ds)) (denoted (meanings naming_by_spelling (env_as tagged scene)) k (rename_fields_in_type tagged k u)))
+    (option_and_then (λ s. declare_types naming_by_spelling ((x, a_type s) ∷ env_as l scene) (k + n) (rename_fields_in_types l (k + constructor_count u) ds)) (denoted (meanings naming_by_spelling (env_as l scene)) k (rename_fields_in_type l k u))))
+    (sym (constructor_count-rename_fields tagged k u)) (sym (constructor_count-rename_fields l k u))
+    (both-then (shape_by tagged) (shape_by l) (env_as tagged) (env_as l) (λ s. declare_types naming_by_spelling ((x, a_type s) ∷ env_as tagged scene) (k + constructor_count u) (rename_fields_in_types tagged (k + constructor_count u) ds)) (λ s. declare_types naming_by_spelling ((x, a_type s) ∷ env_as l scene) (k + constructor_count u) (rename_fields_in_types l (k + constructor_count u) ds))
+    (denoted (meanings naming_by_spelling (env_as tagged scene)) k (rename_fields_in_type tagged k u)) (denoted (meanings naming_by_spelling (env_as l scene)) k (rename_fields_in_type l k u)) (denoted-both l scene k u)
+    (λ s. declare_types-both l ((x, type_thing s) ∷ scene) (k + constructor_count u) ds))
 
 -- If fields get other names, only these names change in the first values of variables.
 
-copies-by : (l : FieldNames) (n : ℕ) (v : Value) → copies n (value_by l v) ≡ values_by l (copies n v)
+copies-by : (l : FieldRenaming) (n : ℕ) (v : Value) → copies n (value_by l v) ≡ values_by l (copies n v)
 copies-by l zero v = refl
 copies-by l (suc n) v = λ i. next_value (value_by l v) (copies-by l n v i)
 
 mutual
-  pub initial-by : (l : FieldNames) (s : Shape) → initial (shape_by l s) ≡ value_by l (initial s)
+  pub initial-by : (l : FieldRenaming) (s : Shape) → initial (shape_by l s) ≡ value_by l (initial s)
   initial-by l (array_shape k n s) = (λ i. elements (copies n (initial-by l s i))) ∙ ap elements (copies-by l n (initial s))
   initial-by l (record_shape k fs) = λ i. members k (initial_members-by l k fs i)
   initial-by l _ = refl
 
-  pub initial_members-by : (l : FieldNames) (k : ℕ) (fs : FieldShapes) → initial_members (fields_by l k fs) ≡ members_by l k (initial_members fs)
+  pub initial_members-by : (l : FieldRenaming) (k : ℕ) (fs : FieldShapes) → initial_members (fields_by l k fs) ≡ members_by l k (initial_members fs)
   initial_members-by l k no_field_shape = refl
   initial_members-by l k (next_field_shape x s rest) = λ i. next_member (l (Some k) x) (initial-by l s i) (initial_members-by l k rest i)
 
@@ -193,104 +193,104 @@ pub record Stage : Type 0 where
   pub scene : Scene
   pub store : Store
 
-abbrev pub frame_by : FieldNames → Stage → Frame Name
+abbrev pub frame_by : FieldRenaming → Stage → Frame Name
 frame_by l f = record { env = env_as l f.scene; store = store_by l f.store }
 
-abbrev pub FramesBoth : FieldNames → Option (Frame Name) → Option (Frame Name) → Type 0
+abbrev pub FramesBoth : FieldRenaming → Option (Frame Name) → Option (Frame Name) → Type 0
 FramesBoth l = Both (frame_by tagged) (frame_by l)
 
 abbrev pub allocated : List Name → Value → Stage → Stage
 allocated [] v f = f
 allocated (x ∷ xs) v f = allocated xs v record { scene = (x, variable_thing record { variable = length f.store; moves = [] }) ∷ f.scene; store = f.store ++ v ∷ [] }
 
-pub allocate-by : (l : FieldNames) (xs : List Name) (v : Value) (f : Stage) → allocate xs (value_by l v) (frame_by l f) ≡ frame_by l (allocated xs v f)
+pub allocate-by : (l : FieldRenaming) (xs : List Name) (v : Value) (f : Stage) → allocate xs (value_by l v) (frame_by l f) ≡ frame_by l (allocated xs v f)
 allocate-by l [] v f = refl
 allocate-by l (x ∷ xs) v f =
     (λ i. allocate xs (value_by l v) record { env = (x, a_variable record { variable = length-map f.store (value_by l) i; path = [] }) ∷ env_as l f.scene; store = sym (map-append (value_by l) f.store (v ∷ [])) i })
     ∙ allocate-by l xs v record { scene = (x, variable_thing record { variable = length f.store; moves = [] }) ∷ f.scene; store = f.store ++ v ∷ [] }
 
-begun-by : (l : FieldNames) (xs : List Name) (s : Shape) (f : Stage) → allocate xs (initial (shape_by l s)) (frame_by l f) ≡ frame_by l (allocated xs (initial s) f)
+begun-by : (l : FieldRenaming) (xs : List Name) (s : Shape) (f : Stage) → allocate xs (initial (shape_by l s)) (frame_by l f) ≡ frame_by l (allocated xs (initial s) f)
 begun-by l xs s f = ap (λ v. allocate xs v (frame_by l f)) (initial-by l s) ∙ allocate-by l xs (initial s) f
 
-pub declare_variables-both : (l : FieldNames) (k : ℕ) (gs : Tree Name (items variable)) (f : Stage) → FramesBoth l (declare_variables as_names k (refield_variables tagged k gs) (frame_by tagged f)) (declare_variables as_names k (refield_variables l k gs) (frame_by l f))
+pub declare_variables-both : (l : FieldRenaming) (k : ℕ) (gs : Tree Name (items variable)) (f : Stage) → FramesBoth l (declare_variables naming_by_spelling k (rename_fields_in_variables tagged k gs) (frame_by tagged f)) (declare_variables naming_by_spelling k (rename_fields_in_variables l k gs) (frame_by l f))
 unfolding declare_variables
 declare_variables-both l k end f = (Some f, refl, refl)
 declare_variables-both l k (more (declares_variable ns u) gs) f =
-    subst₂ (λ m n. FramesBoth l (option_and_then (λ s. declare_variables as_names (k + m) (refield_variables tagged (k + constructors u) gs) (allocate (names_listed ns) (initial s) (frame_by tagged f))) (denoted (meanings as_names (env_as tagged f.scene)) k (refield_type tagged k u)))
-    (option_and_then (λ s. declare_variables as_names (k + n) (refield_variables l (k + constructors u) gs) (allocate (names_listed ns) (initial s) (frame_by l f))) (denoted (meanings as_names (env_as l f.scene)) k (refield_type l k u))))
-    (sym (constructors-refield tagged k u)) (sym (constructors-refield l k u))
-    (both-then (shape_by tagged) (shape_by l) (frame_by tagged) (frame_by l) (λ s. declare_variables as_names (k + constructors u) (refield_variables tagged (k + constructors u) gs) (allocate (names_listed ns) (initial s) (frame_by tagged f)))
-    (λ s. declare_variables as_names (k + constructors u) (refield_variables l (k + constructors u) gs) (allocate (names_listed ns) (initial s) (frame_by l f)))
-    (denoted (meanings as_names (env_as tagged f.scene)) k (refield_type tagged k u)) (denoted (meanings as_names (env_as l f.scene)) k (refield_type l k u)) (denoted-both l f.scene k u)
-    (λ s. subst₂ (λ a b. FramesBoth l (declare_variables as_names (k + constructors u) (refield_variables tagged (k + constructors u) gs) a) (declare_variables as_names (k + constructors u) (refield_variables l (k + constructors u) gs) b))
-    (sym (begun-by tagged (names_listed ns) s f)) (sym (begun-by l (names_listed ns) s f)) (declare_variables-both l (k + constructors u) gs (allocated (names_listed ns) (initial s) f))))
+    subst₂ (λ m n. FramesBoth l (option_and_then (λ s. declare_variables naming_by_spelling (k + m) (rename_fields_in_variables tagged (k + constructor_count u) gs) (allocate (names_in_list ns) (initial s) (frame_by tagged f))) (denoted (meanings naming_by_spelling (env_as tagged f.scene)) k (rename_fields_in_type tagged k u)))
+    (option_and_then (λ s. declare_variables naming_by_spelling (k + n) (rename_fields_in_variables l (k + constructor_count u) gs) (allocate (names_in_list ns) (initial s) (frame_by l f))) (denoted (meanings naming_by_spelling (env_as l f.scene)) k (rename_fields_in_type l k u))))
+    (sym (constructor_count-rename_fields tagged k u)) (sym (constructor_count-rename_fields l k u))
+    (both-then (shape_by tagged) (shape_by l) (frame_by tagged) (frame_by l) (λ s. declare_variables naming_by_spelling (k + constructor_count u) (rename_fields_in_variables tagged (k + constructor_count u) gs) (allocate (names_in_list ns) (initial s) (frame_by tagged f)))
+    (λ s. declare_variables naming_by_spelling (k + constructor_count u) (rename_fields_in_variables l (k + constructor_count u) gs) (allocate (names_in_list ns) (initial s) (frame_by l f)))
+    (denoted (meanings naming_by_spelling (env_as tagged f.scene)) k (rename_fields_in_type tagged k u)) (denoted (meanings naming_by_spelling (env_as l f.scene)) k (rename_fields_in_type l k u)) (denoted-both l f.scene k u)
+    (λ s. subst₂ (λ a b. FramesBoth l (declare_variables naming_by_spelling (k + constructor_count u) (rename_fields_in_variables tagged (k + constructor_count u) gs) a) (declare_variables naming_by_spelling (k + constructor_count u) (rename_fields_in_variables l (k + constructor_count u) gs) b))
+    (sym (begun-by tagged (names_in_list ns) s f)) (sym (begun-by l (names_in_list ns) s f)) (declare_variables-both l (k + constructor_count u) gs (allocated (names_in_list ns) (initial s) f))))
 
 -- binds the procedures of a block in a scene, each with its checked environment
 
 abbrev pub declared_procedures : ℕ → Tree Name (items procedure) → TypeEnvironment Name → Scene → Scene
 declared_procedures k end env scene = scene
 declared_procedures k (more p rest) env scene =
-    declared_procedures (k + procedure_constructors p) rest (types_after_heading env k p)
-    ((procedure_name p, procedure_thing record { first = k; checked = bind_typed (parameters_of env k p) (types_after_heading env k p); text = p }) ∷ scene)
+    declared_procedures (k + procedure_constructor_count p) rest (environment_after_heading env k p)
+    ((procedure_name p, procedure_thing record { first = k; checked = bind_typed_parameters (parameters_of env k p) (environment_after_heading env k p); text = p }) ∷ scene)
 
-pub declare_procedures-by : (l : FieldNames) (k : ℕ) (ps : Tree Name (items procedure)) (env : TypeEnvironment Name) (scene : Scene)
-    → declare_procedures k (refield_procedures l env k ps) (env_as l scene) ≡ env_as l (declared_procedures k ps env scene)
+pub declare_procedures-by : (l : FieldRenaming) (k : ℕ) (ps : Tree Name (items procedure)) (env : TypeEnvironment Name) (scene : Scene)
+    → declare_procedures k (rename_fields_in_procedures l env k ps) (env_as l scene) ≡ env_as l (declared_procedures k ps env scene)
 declare_procedures-by l k end env scene = refl
 declare_procedures-by l k (more p rest) env scene =
-    let e : TypeEnvironment Name = bind_typed (parameters_of env k p) (types_after_heading env k p) in
-    (λ i. declare_procedures (k + procedure_constructors-refield l e k p i) (refield_procedures l (types_after_heading env k p) (k + procedure_constructors p) rest)
-    ((procedure_name-refield l e k p i, a_procedure record { first_constructor = k; text = refield_procedure l e k p }) ∷ env_as l scene))
-    ∙ declare_procedures-by l (k + procedure_constructors p) rest (types_after_heading env k p) ((procedure_name p, procedure_thing record { first = k; checked = e; text = p }) ∷ scene)
+    let e : TypeEnvironment Name = bind_typed_parameters (parameters_of env k p) (environment_after_heading env k p) in
+    (λ i. declare_procedures (k + procedure_constructor_count-rename_fields l e k p i) (rename_fields_in_procedures l (environment_after_heading env k p) (k + procedure_constructor_count p) rest)
+    ((procedure_name-rename_fields l e k p i, a_procedure record { first_constructor = k; text = rename_fields_in_procedure l e k p }) ∷ env_as l scene))
+    ∙ declare_procedures-by l (k + procedure_constructor_count p) rest (environment_after_heading env k p) ((procedure_name p, procedure_thing record { first = k; checked = e; text = p }) ∷ scene)
 
 -- Declaring the parts of a block does the same in both runs.
 
-abbrev declared_parts : FieldNames → ℕ → ℕ → ℕ → Tree Name (items constant) → Tree Name (items type_name) → Tree Name (items variable) → Tree Name (items procedure) → TypeEnvironment Name → Stage → Option (Frame Name)
+abbrev declared_parts : FieldRenaming → ℕ → ℕ → ℕ → Tree Name (items constant) → Tree Name (items type_name) → Tree Name (items variable) → Tree Name (items procedure) → TypeEnvironment Name → Stage → Option (Frame Name)
 declared_parts l k j n cs ts vs ps inner f =
-    option_and_then (λ env. option_map (with_procedures n (refield_procedures l inner n ps)) (declare_variables as_names j (refield_variables l j vs) record { env = env; store = store_by l f.store }))
-    (option_and_then (λ env. declare_types as_names env k (refield_types l k ts)) (declare_constants as_names (env_as l f.scene) cs))
+    option_and_then (λ env. option_map (declare_procedures_in_frame n (rename_fields_in_procedures l inner n ps)) (declare_variables naming_by_spelling j (rename_fields_in_variables l j vs) record { env = env; store = store_by l f.store }))
+    (option_and_then (λ env. declare_types naming_by_spelling env k (rename_fields_in_types l k ts)) (declare_constants naming_by_spelling (env_as l f.scene) cs))
 
-declared_parts-both : (l : FieldNames) (k j n : ℕ) (cs : Tree Name (items constant)) (ts : Tree Name (items type_name)) (vs : Tree Name (items variable)) (ps : Tree Name (items procedure)) (inner : TypeEnvironment Name) (f : Stage)
+declared_parts-both : (l : FieldRenaming) (k j n : ℕ) (cs : Tree Name (items constant)) (ts : Tree Name (items type_name)) (vs : Tree Name (items variable)) (ps : Tree Name (items procedure)) (inner : TypeEnvironment Name) (f : Stage)
     → FramesBoth l (declared_parts tagged k j n cs ts vs ps inner f) (declared_parts l k j n cs ts vs ps inner f)
 declared_parts-both l k j n cs ts vs ps inner f =
     both-then (env_as tagged) (env_as l) (frame_by tagged) (frame_by l)
-    (λ env. option_map (with_procedures n (refield_procedures tagged inner n ps)) (declare_variables as_names j (refield_variables tagged j vs) record { env = env; store = store_by tagged f.store }))
-    (λ env. option_map (with_procedures n (refield_procedures l inner n ps)) (declare_variables as_names j (refield_variables l j vs) record { env = env; store = store_by l f.store }))
-    (option_and_then (λ env. declare_types as_names env k (refield_types tagged k ts)) (declare_constants as_names (env_as tagged f.scene) cs)) (option_and_then (λ env. declare_types as_names env k (refield_types l k ts)) (declare_constants as_names (env_as l f.scene) cs))
-    (both-then (env_as tagged) (env_as l) (env_as tagged) (env_as l) (λ env. declare_types as_names env k (refield_types tagged k ts)) (λ env. declare_types as_names env k (refield_types l k ts))
-    (declare_constants as_names (env_as tagged f.scene) cs) (declare_constants as_names (env_as l f.scene) cs) (declare_constants-both l f.scene cs) (λ scene. declare_types-both l scene k ts))
-    (λ scene. both-made (frame_by tagged) (frame_by l) (frame_by tagged) (frame_by l) (with_procedures n (refield_procedures tagged inner n ps)) (with_procedures n (refield_procedures l inner n ps)) (λ g. record { scene = declared_procedures n ps inner g.scene; store = g.store })
-    (declare_variables as_names j (refield_variables tagged j vs) record { env = env_as tagged scene; store = store_by tagged f.store }) (declare_variables as_names j (refield_variables l j vs) record { env = env_as l scene; store = store_by l f.store })
+    (λ env. option_map (declare_procedures_in_frame n (rename_fields_in_procedures tagged inner n ps)) (declare_variables naming_by_spelling j (rename_fields_in_variables tagged j vs) record { env = env; store = store_by tagged f.store }))
+    (λ env. option_map (declare_procedures_in_frame n (rename_fields_in_procedures l inner n ps)) (declare_variables naming_by_spelling j (rename_fields_in_variables l j vs) record { env = env; store = store_by l f.store }))
+    (option_and_then (λ env. declare_types naming_by_spelling env k (rename_fields_in_types tagged k ts)) (declare_constants naming_by_spelling (env_as tagged f.scene) cs)) (option_and_then (λ env. declare_types naming_by_spelling env k (rename_fields_in_types l k ts)) (declare_constants naming_by_spelling (env_as l f.scene) cs))
+    (both-then (env_as tagged) (env_as l) (env_as tagged) (env_as l) (λ env. declare_types naming_by_spelling env k (rename_fields_in_types tagged k ts)) (λ env. declare_types naming_by_spelling env k (rename_fields_in_types l k ts))
+    (declare_constants naming_by_spelling (env_as tagged f.scene) cs) (declare_constants naming_by_spelling (env_as l f.scene) cs) (declare_constants-both l f.scene cs) (λ scene. declare_types-both l scene k ts))
+    (λ scene. both-made (frame_by tagged) (frame_by l) (frame_by tagged) (frame_by l) (declare_procedures_in_frame n (rename_fields_in_procedures tagged inner n ps)) (declare_procedures_in_frame n (rename_fields_in_procedures l inner n ps)) (λ g. record { scene = declared_procedures n ps inner g.scene; store = g.store })
+    (declare_variables naming_by_spelling j (rename_fields_in_variables tagged j vs) record { env = env_as tagged scene; store = store_by tagged f.store }) (declare_variables naming_by_spelling j (rename_fields_in_variables l j vs) record { env = env_as l scene; store = store_by l f.store })
     (declare_variables-both l j vs record { scene = scene; store = f.store })
     (λ g i. record { env = declare_procedures-by tagged n ps inner g.scene i; store = store_by tagged g.store }) (λ g i. record { env = declare_procedures-by l n ps inner g.scene i; store = store_by l g.store }))
 
-declare_block-parts : (l : FieldNames) (checked : TypeEnvironment Name) (k : ℕ) (cs : Tree Name (maybe constants)) (ts : Tree Name (maybe type_names)) (vs : Tree Name (maybe variables)) (ps : Tree Name (items procedure)) (statements : Tree Name (maybe body)) (f : Stage)
-    → declare_block as_names k (refield_block l checked k (has_body (declares cs ts vs ps) statements)) (frame_by l f)
-    ≡ declared_parts l k (after_types k (has_body (declares cs ts vs ps) statements)) (after_variables k (has_body (declares cs ts vs ps) statements)) (section_constants cs) (section_types ts) (section_variables vs) ps (types_after_variables checked k (has_body (declares cs ts vs ps) statements)) f
+declare_block-parts : (l : FieldRenaming) (checked : TypeEnvironment Name) (k : ℕ) (cs : Tree Name (maybe constants)) (ts : Tree Name (maybe type_names)) (vs : Tree Name (maybe variables)) (ps : Tree Name (items procedure)) (statements : Tree Name (maybe body)) (f : Stage)
+    → declare_block naming_by_spelling k (rename_fields_in_block l checked k (has_body (declares cs ts vs ps) statements)) (frame_by l f)
+    ≡ declared_parts l k (constructor_after_types k (has_body (declares cs ts vs ps) statements)) (constructor_after_variables k (has_body (declares cs ts vs ps) statements)) (section_constants cs) (section_types ts) (section_variables vs) ps (environment_after_variables checked k (has_body (declares cs ts vs ps) statements)) f
 unfolding declare_block
 declare_block-parts l checked k cs ts vs ps statements f = λ i.
     let b : Tree Name block = has_body (declares cs ts vs ps) statements in
-    option_and_then (λ env. option_map (with_procedures (k + types_count-refield l k ts i + variables_count-refield l (after_types k b) vs i) (refield_procedures l (types_after_variables checked k b) (after_variables k b) ps))
-    (declare_variables as_names (k + types_count-refield l k ts i) (section_variables-refield l (after_types k b) vs i) record { env = env; store = store_by l f.store }))
-    (option_and_then (λ env. declare_types as_names env k (section_types-refield l k ts i)) (declare_constants as_names (env_as l f.scene) (section_constants cs)))
+    option_and_then (λ env. option_map (declare_procedures_in_frame (k + types_count-rename_fields l k ts i + variables_count-rename_fields l (constructor_after_types k b) vs i) (rename_fields_in_procedures l (environment_after_variables checked k b) (constructor_after_variables k b) ps))
+    (declare_variables naming_by_spelling (k + types_count-rename_fields l k ts i) (section_variables-rename_fields l (constructor_after_types k b) vs i) record { env = env; store = store_by l f.store }))
+    (option_and_then (λ env. declare_types naming_by_spelling env k (section_types-rename_fields l k ts i)) (declare_constants naming_by_spelling (env_as l f.scene) (section_constants cs)))
 
-pub declare_block-both : (l : FieldNames) (checked : TypeEnvironment Name) (k : ℕ) (b : Tree Name block) (f : Stage)
-    → FramesBoth l (declare_block as_names k (refield_block tagged checked k b) (frame_by tagged f)) (declare_block as_names k (refield_block l checked k b) (frame_by l f))
+pub declare_block-both : (l : FieldRenaming) (checked : TypeEnvironment Name) (k : ℕ) (b : Tree Name block) (f : Stage)
+    → FramesBoth l (declare_block naming_by_spelling k (rename_fields_in_block tagged checked k b) (frame_by tagged f)) (declare_block naming_by_spelling k (rename_fields_in_block l checked k b) (frame_by l f))
 declare_block-both l checked k (has_body (declares cs ts vs ps) statements) f =
     subst₂ (λ a b. FramesBoth l a b) (sym (declare_block-parts tagged checked k cs ts vs ps statements f)) (sym (declare_block-parts l checked k cs ts vs ps statements f))
-    (declared_parts-both l k (after_types k (has_body (declares cs ts vs ps) statements)) (after_variables k (has_body (declares cs ts vs ps) statements)) (section_constants cs) (section_types ts) (section_variables vs) ps (types_after_variables checked k (has_body (declares cs ts vs ps) statements)) f)
+    (declared_parts-both l k (constructor_after_types k (has_body (declares cs ts vs ps) statements)) (constructor_after_variables k (has_body (declares cs ts vs ps) statements)) (section_constants cs) (section_types ts) (section_variables vs) ps (environment_after_variables checked k (has_body (declares cs ts vs ps) statements)) f)
 
 -- Binding parameters to arguments does the same in both runs.
 
-pub parameters-refield : (l : FieldNames) (k : ℕ) (fs : Tree Name (items further_section)) → parameters (refield_sections l k fs) ≡ parameters fs
-parameters-refield l k end = refl
-parameters-refield l k (more (then_section f) fs) = λ i. map (λ x. record { mode = section_mode-refield l k f i; name = x }) (section_names-refield l k f i) ++ parameters-refield l (k + constructors (section_type f)) fs i
+pub parameters-rename_fields : (l : FieldRenaming) (k : ℕ) (fs : Tree Name (items further_section)) → parameters (rename_fields_in_sections l k fs) ≡ parameters fs
+parameters-rename_fields l k end = refl
+parameters-rename_fields l k (more (then_section f) fs) = λ i. map (λ x. record { mode = section_mode-rename_fields l k f i; name = x }) (section_names-rename_fields l k f i) ++ parameters-rename_fields l (k + constructor_count (section_type f)) fs i
 
-bind_parameter-both : (l : FieldNames) (m : Mode) (x : Name) (a : Given) (f : Stage) → FramesBoth l (bind_parameter m x (argument_by tagged a) (frame_by tagged f)) (bind_parameter m x (argument_by l a) (frame_by l f))
+bind_parameter-both : (l : FieldRenaming) (m : Mode) (x : Name) (a : Given) (f : Stage) → FramesBoth l (bind_parameter m x (argument_by tagged a) (frame_by tagged f)) (bind_parameter m x (argument_by l a) (frame_by l f))
 bind_parameter-both l by_place x (place_given p) f = (Some record { scene = (x, variable_thing p) ∷ f.scene; store = f.store }, refl, refl)
 bind_parameter-both l by_value x (value_given v) f = (Some (allocated (x ∷ []) v f), ap Some (allocate-by tagged (x ∷ []) v f), ap Some (allocate-by l (x ∷ []) v f))
 bind_parameter-both l _ x _ f = (None, refl, refl)
 
-pub bind_parameters-both : (l : FieldNames) (ps : List (Parameter Name)) (args : List Given) (f : Stage) → FramesBoth l (bind_parameters ps (map (argument_by tagged) args) (frame_by tagged f)) (bind_parameters ps (map (argument_by l) args) (frame_by l f))
+pub bind_parameters-both : (l : FieldRenaming) (ps : List (Parameter Name)) (args : List Given) (f : Stage) → FramesBoth l (bind_parameters ps (map (argument_by tagged) args) (frame_by tagged f)) (bind_parameters ps (map (argument_by l) args) (frame_by l f))
 bind_parameters-both l [] [] f = (Some f, refl, refl)
 bind_parameters-both l (p ∷ ps) (a ∷ args) f =
     both-then (frame_by tagged) (frame_by l) (frame_by tagged) (frame_by l) (bind_parameters ps (map (argument_by tagged) args)) (bind_parameters ps (map (argument_by l) args))

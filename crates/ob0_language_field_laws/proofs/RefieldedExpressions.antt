@@ -3,16 +3,16 @@ use Rattle.std.proofs.Common.{◌≡◌, ℤ, Bool, List, [], ◌∷◌, ◌++�
 use Rattle.std.proofs.lemmas.List.{map-append}
 use Rattle.ob0_tree.specs.Tree.{Tree, addend, adds, compares, designator, end, expression, factor, field, index, integer, items, more, multiplier, multiplies, negation, none, one, parenthesised, product, relates, selector, simple, sum, term}
 use Rattle.ob0_language_names.specs.Names.{Name}
-use Rattle.ob0_language_types.specs.Expressions.{Meanings, Object, Standard, a_constant, a_procedure, a_standard, a_type, a_variable, designate, element_step, evaluate, evaluate_addends, evaluate_factor, evaluate_multipliers, evaluate_simple, evaluate_term, follow, object_place, object_value}
+use Rattle.ob0_language_types.specs.Expressions.{Meanings, Object, StandardProcedure, a_constant, a_procedure, a_standard, a_type, a_variable, designate, element_step, evaluate, evaluate_addends, evaluate_factor, evaluate_multipliers, evaluate_simple, evaluate_term, follow, object_place, object_value}
 use Rattle.ob0_language_types.specs.Typing.{object_type}
-use Rattle.ob0_language_types.specs.WellTyped.{Typed}
-use Rattle.ob0_language_values.specs.Values.{Outcome, Place, Shape, Step, Store, Value, add, add_is_settled, at_path, gives, multiply, multiply_is_settled, negate, number, or_stuck, part, read_place, relate, apply_sign, truth, ◌>>=◌}
-use Rattle.ob0_language_fields.specs.Fields.{FieldNames, type_after, selected_record, refield}
+use Rattle.ob0_language_types.specs.WellTyped.{TypeMeanings}
+use Rattle.ob0_language_values.specs.Values.{Outcome, Place, Shape, Step, Store, Value, add, add_short_circuits, value_at_path, gives, multiply, multiply_short_circuits, negate, number, or_stuck, part, read_place, relate, apply_sign, truth, ◌>>=◌}
+use Rattle.ob0_language_fields.specs.Fields.{FieldRenaming, select_type, record_ordinal, rename_fields}
 use Rattle.ob0_language_fields.proofs.NamesMeant.{named}
-use Rattle.ob0_language_field_laws.specs.FieldLaws.{KeepsApart}
+use Rattle.ob0_language_field_laws.specs.FieldLaws.{KeepsFieldsDistinct}
 use Rattle.ob0_language_field_laws.proofs.Apart.{shape_by}
-use Rattle.ob0_language_field_laws.proofs.Outcomes.{Follows, ValuesFollow, add-follows, add_is_settled-by, element_step-follows, follows-then, multiply-follows, multiply_is_settled-by, negate-follows, or_stuck-follows, relate-follows, settled-follows, apply_sign-follows}
-use Rattle.ob0_language_field_laws.proofs.Values.{Move, Spot, at_path-finds, part-finds, place_by, read_place-finds, step_by, store_by, tagged, to_field, value_by}
+use Rattle.ob0_language_field_laws.proofs.Outcomes.{Follows, ValuesFollow, add-follows, add_short_circuits-by, element_step-follows, follows-then, multiply-follows, multiply_short_circuits-by, negate-follows, or_stuck-follows, relate-follows, settled-follows, apply_sign-follows}
+use Rattle.ob0_language_field_laws.proofs.Values.{Move, Spot, value_at_path-finds, part-finds, place_by, read_place-finds, step_by, store_by, tagged, to_field, value_by}
 
 -- the value of a constant: a number or a truth value
 pub data Scalar : Type 0 where
@@ -29,9 +29,9 @@ pub data Thing (P : Type 0) : Type 0 where
   constant_thing : Scalar → Thing P
   variable_thing : Spot → Thing P
   procedure_thing : P → Thing P
-  standard_thing : Standard → Thing P
+  standard_thing : StandardProcedure → Thing P
 
-abbrev pub thing_by : {P Q : Type 0} → FieldNames → (P → Q) → Thing P → Object Place Q
+abbrev pub thing_by : {P Q : Type 0} → FieldRenaming → (P → Q) → Thing P → Object Place Q
 thing_by l f (type_thing s) = a_type (shape_by l s)
 thing_by l f (constant_thing c) = a_constant (scalar_value c)
 thing_by l f (variable_thing p) = a_variable (place_by l p)
@@ -41,14 +41,14 @@ thing_by l f (standard_thing p) = a_standard p
 abbrev pub Things : Type 0 → Type 0
 Things P = Name → Option (Thing P)
 
-abbrev pub active : {P : Type 0} → FieldNames → Things P → Meanings Name Place P
+abbrev pub active : {P : Type 0} → FieldRenaming → Things P → Meanings Name Place P
 active l things = named (λ x. option_map (thing_by l (λ p. p)) (things x))
 
-scalar-follows : (l : FieldNames) (c : Scalar) → ValuesFollow l (gives (scalar_value c)) (gives (scalar_value c))
+scalar-follows : (l : FieldRenaming) (c : Scalar) → ValuesFollow l (gives (scalar_value c)) (gives (scalar_value c))
 scalar-follows l (whole n) = (number n, refl, refl)
 scalar-follows l (logical b) = (truth b, refl, refl)
 
-pub object_value-follows : {P : Type 0} (l : FieldNames) → KeepsApart l → (store : Store) (o : Option (Thing P))
+pub object_value-follows : {P : Type 0} (l : FieldRenaming) → KeepsFieldsDistinct l → (store : Store) (o : Option (Thing P))
     → ValuesFollow l (object_value (store_by tagged store) (option_map (thing_by {Q = P} tagged (λ p. p)) o)) (object_value (store_by l store) (option_map (thing_by {Q = P} l (λ p. p)) o))
 object_value-follows l apart store (Some (constant_thing c)) = scalar-follows l c
 object_value-follows l apart store (Some (variable_thing p)) =
@@ -56,14 +56,14 @@ object_value-follows l apart store (Some (variable_thing p)) =
 object_value-follows l apart store _ = inl refl
 
 -- holds if two outcomes give paths that stand for the same path
-abbrev pub PathsFollow : FieldNames → Outcome (List Step) → Outcome (List Step) → Type 0
+abbrev pub PathsFollow : FieldRenaming → Outcome (List Step) → Outcome (List Step) → Type 0
 PathsFollow l = Follows (map (step_by tagged)) (map (step_by l))
 
 -- makes a step, and then follows the path that continues from the selected part
 abbrev pub follow_on : (Value → Outcome (List Step)) → Value → Step → Outcome (List Step)
 follow_on next v s = or_stuck (part v s) >>= (λ w. next w >>= (λ steps. gives (s ∷ steps)))
 
-follow_on-follows : (l : FieldNames) → KeepsApart l → (n₁ n₂ : Value → Outcome (List Step)) → ((w : Value) → PathsFollow l (n₁ (value_by tagged w)) (n₂ (value_by l w))) → (v : Value) (m : Move)
+follow_on-follows : (l : FieldRenaming) → KeepsFieldsDistinct l → (n₁ n₂ : Value → Outcome (List Step)) → ((w : Value) → PathsFollow l (n₁ (value_by tagged w)) (n₂ (value_by l w))) → (v : Value) (m : Move)
     → PathsFollow l (follow_on n₁ (value_by tagged v) (step_by tagged m)) (follow_on n₂ (value_by l v) (step_by l m))
 follow_on-follows l apart n₁ n₂ next v m =
     follows-then (value_by tagged) (value_by l) (map (step_by tagged)) (map (step_by l)) (or_stuck (part (value_by tagged v) (step_by tagged m))) (or_stuck (part (value_by l v) (step_by l m)))
@@ -75,117 +75,117 @@ follow_on-follows l apart n₁ n₂ next v m =
 mutual
   unfolding evaluate
 
-  pub evaluate-follows : {P : Type 0} (l : FieldNames) → KeepsApart l → (things : Things P) (checked : Typed Name) (store : Store) (e : Tree Name expression)
-      → ValuesFollow l (evaluate (active tagged things) (store_by tagged store) (refield tagged checked None e)) (evaluate (active l things) (store_by l store) (refield l checked None e))
+  pub evaluate-follows : {P : Type 0} (l : FieldRenaming) → KeepsFieldsDistinct l → (things : Things P) (checked : TypeMeanings Name) (store : Store) (e : Tree Name expression)
+      → ValuesFollow l (evaluate (active tagged things) (store_by tagged store) (rename_fields tagged checked None e)) (evaluate (active l things) (store_by l store) (rename_fields l checked None e))
   evaluate-follows l apart things checked store (compares a none) = evaluate_simple-follows l apart things checked store a
   evaluate-follows l apart things checked store (compares a (one (relates r b))) =
       follows-then (value_by tagged) (value_by l) (value_by tagged) (value_by l) _ _
-      (λ x. evaluate_simple (active tagged things) (store_by tagged store) (refield tagged checked None b) >>= relate r x) (λ x. evaluate_simple (active l things) (store_by l store) (refield l checked None b) >>= relate r x)
+      (λ x. evaluate_simple (active tagged things) (store_by tagged store) (rename_fields tagged checked None b) >>= relate r x) (λ x. evaluate_simple (active l things) (store_by l store) (rename_fields l checked None b) >>= relate r x)
       (evaluate_simple-follows l apart things checked store a)
       (λ x. follows-then (value_by tagged) (value_by l) (value_by tagged) (value_by l) _ _ (relate r (value_by tagged x)) (relate r (value_by l x)) (evaluate_simple-follows l apart things checked store b) (relate-follows l r x))
 
-  pub evaluate_simple-follows : {P : Type 0} (l : FieldNames) → KeepsApart l → (things : Things P) (checked : Typed Name) (store : Store) (a : Tree Name simple)
-      → ValuesFollow l (evaluate_simple (active tagged things) (store_by tagged store) (refield tagged checked None a)) (evaluate_simple (active l things) (store_by l store) (refield l checked None a))
+  pub evaluate_simple-follows : {P : Type 0} (l : FieldRenaming) → KeepsFieldsDistinct l → (things : Things P) (checked : TypeMeanings Name) (store : Store) (a : Tree Name simple)
+      → ValuesFollow l (evaluate_simple (active tagged things) (store_by tagged store) (rename_fields tagged checked None a)) (evaluate_simple (active l things) (store_by l store) (rename_fields l checked None a))
   evaluate_simple-follows l apart things checked store (sum s t rest) =
       follows-then (value_by tagged) (value_by l) (value_by tagged) (value_by l) _ _
-      (λ x. apply_sign s x >>= (λ y. evaluate_addends (active tagged things) (store_by tagged store) y (refield tagged checked None rest))) (λ x. apply_sign s x >>= (λ y. evaluate_addends (active l things) (store_by l store) y (refield l checked None rest)))
+      (λ x. apply_sign s x >>= (λ y. evaluate_addends (active tagged things) (store_by tagged store) y (rename_fields tagged checked None rest))) (λ x. apply_sign s x >>= (λ y. evaluate_addends (active l things) (store_by l store) y (rename_fields l checked None rest)))
       (evaluate_term-follows l apart things checked store t)
       (λ x. follows-then (value_by tagged) (value_by l) (value_by tagged) (value_by l) (apply_sign s (value_by tagged x)) (apply_sign s (value_by l x))
-      (λ y. evaluate_addends (active tagged things) (store_by tagged store) y (refield tagged checked None rest)) (λ y. evaluate_addends (active l things) (store_by l store) y (refield l checked None rest)) (apply_sign-follows l s x)
+      (λ y. evaluate_addends (active tagged things) (store_by tagged store) y (rename_fields tagged checked None rest)) (λ y. evaluate_addends (active l things) (store_by l store) y (rename_fields l checked None rest)) (apply_sign-follows l s x)
       (λ y. evaluate_addends-follows l apart things checked store y rest))
 
-  pub evaluate_addends-follows : {P : Type 0} (l : FieldNames) → KeepsApart l → (things : Things P) (checked : Typed Name) (store : Store) (v : Value) (a : Tree Name (items addend))
-      → ValuesFollow l (evaluate_addends (active tagged things) (store_by tagged store) (value_by tagged v) (refield tagged checked None a)) (evaluate_addends (active l things) (store_by l store) (value_by l v) (refield l checked None a))
+  pub evaluate_addends-follows : {P : Type 0} (l : FieldRenaming) → KeepsFieldsDistinct l → (things : Things P) (checked : TypeMeanings Name) (store : Store) (v : Value) (a : Tree Name (items addend))
+      → ValuesFollow l (evaluate_addends (active tagged things) (store_by tagged store) (value_by tagged v) (rename_fields tagged checked None a)) (evaluate_addends (active l things) (store_by l store) (value_by l v) (rename_fields l checked None a))
   evaluate_addends-follows l apart things checked store v end = (v, refl, refl)
   evaluate_addends-follows l apart things checked store v (more (adds o t) rest) =
       follows-then (value_by tagged) (value_by l) (value_by tagged) (value_by l)
-      (elim (add_is_settled o (value_by tagged v)) [ true ↦ gives (value_by tagged v) | false ↦ evaluate_term (active tagged things) (store_by tagged store) (refield tagged checked None t) >>= add o (value_by tagged v) ])
-      (elim (add_is_settled o (value_by l v)) [ true ↦ gives (value_by l v) | false ↦ evaluate_term (active l things) (store_by l store) (refield l checked None t) >>= add o (value_by l v) ])
-      (λ y. evaluate_addends (active tagged things) (store_by tagged store) y (refield tagged checked None rest)) (λ y. evaluate_addends (active l things) (store_by l store) y (refield l checked None rest))
-      (settled-follows l (add_is_settled o v) (add_is_settled o (value_by tagged v)) (add_is_settled o (value_by l v)) v _ _ (add_is_settled-by tagged o v) (add_is_settled-by l o v)
+      (elim (add_short_circuits o (value_by tagged v)) [ true ↦ gives (value_by tagged v) | false ↦ evaluate_term (active tagged things) (store_by tagged store) (rename_fields tagged checked None t) >>= add o (value_by tagged v) ])
+      (elim (add_short_circuits o (value_by l v)) [ true ↦ gives (value_by l v) | false ↦ evaluate_term (active l things) (store_by l store) (rename_fields l checked None t) >>= add o (value_by l v) ])
+      (λ y. evaluate_addends (active tagged things) (store_by tagged store) y (rename_fields tagged checked None rest)) (λ y. evaluate_addends (active l things) (store_by l store) y (rename_fields l checked None rest))
+      (settled-follows l (add_short_circuits o v) (add_short_circuits o (value_by tagged v)) (add_short_circuits o (value_by l v)) v _ _ (add_short_circuits-by tagged o v) (add_short_circuits-by l o v)
       (follows-then (value_by tagged) (value_by l) (value_by tagged) (value_by l) _ _ (add o (value_by tagged v)) (add o (value_by l v)) (evaluate_term-follows l apart things checked store t) (add-follows l o v)))
       (λ y. evaluate_addends-follows l apart things checked store y rest)
 
-  pub evaluate_term-follows : {P : Type 0} (l : FieldNames) → KeepsApart l → (things : Things P) (checked : Typed Name) (store : Store) (a : Tree Name term)
-      → ValuesFollow l (evaluate_term (active tagged things) (store_by tagged store) (refield tagged checked None a)) (evaluate_term (active l things) (store_by l store) (refield l checked None a))
+  pub evaluate_term-follows : {P : Type 0} (l : FieldRenaming) → KeepsFieldsDistinct l → (things : Things P) (checked : TypeMeanings Name) (store : Store) (a : Tree Name term)
+      → ValuesFollow l (evaluate_term (active tagged things) (store_by tagged store) (rename_fields tagged checked None a)) (evaluate_term (active l things) (store_by l store) (rename_fields l checked None a))
   evaluate_term-follows l apart things checked store (product a rest) =
       follows-then (value_by tagged) (value_by l) (value_by tagged) (value_by l) _ _
-      (λ y. evaluate_multipliers (active tagged things) (store_by tagged store) y (refield tagged checked None rest)) (λ y. evaluate_multipliers (active l things) (store_by l store) y (refield l checked None rest))
+      (λ y. evaluate_multipliers (active tagged things) (store_by tagged store) y (rename_fields tagged checked None rest)) (λ y. evaluate_multipliers (active l things) (store_by l store) y (rename_fields l checked None rest))
       (evaluate_factor-follows l apart things checked store a) (λ y. evaluate_multipliers-follows l apart things checked store y rest)
 
-  pub evaluate_multipliers-follows : {P : Type 0} (l : FieldNames) → KeepsApart l → (things : Things P) (checked : Typed Name) (store : Store) (v : Value) (a : Tree Name (items multiplier))
-      → ValuesFollow l (evaluate_multipliers (active tagged things) (store_by tagged store) (value_by tagged v) (refield tagged checked None a)) (evaluate_multipliers (active l things) (store_by l store) (value_by l v) (refield l checked None a))
+  pub evaluate_multipliers-follows : {P : Type 0} (l : FieldRenaming) → KeepsFieldsDistinct l → (things : Things P) (checked : TypeMeanings Name) (store : Store) (v : Value) (a : Tree Name (items multiplier))
+      → ValuesFollow l (evaluate_multipliers (active tagged things) (store_by tagged store) (value_by tagged v) (rename_fields tagged checked None a)) (evaluate_multipliers (active l things) (store_by l store) (value_by l v) (rename_fields l checked None a))
   evaluate_multipliers-follows l apart things checked store v end = (v, refl, refl)
   evaluate_multipliers-follows l apart things checked store v (more (multiplies o t) rest) =
       follows-then (value_by tagged) (value_by l) (value_by tagged) (value_by l)
-      (elim (multiply_is_settled o (value_by tagged v)) [ true ↦ gives (value_by tagged v) | false ↦ evaluate_factor (active tagged things) (store_by tagged store) (refield tagged checked None t) >>= multiply o (value_by tagged v) ])
-      (elim (multiply_is_settled o (value_by l v)) [ true ↦ gives (value_by l v) | false ↦ evaluate_factor (active l things) (store_by l store) (refield l checked None t) >>= multiply o (value_by l v) ])
-      (λ y. evaluate_multipliers (active tagged things) (store_by tagged store) y (refield tagged checked None rest)) (λ y. evaluate_multipliers (active l things) (store_by l store) y (refield l checked None rest))
-      (settled-follows l (multiply_is_settled o v) (multiply_is_settled o (value_by tagged v)) (multiply_is_settled o (value_by l v)) v _ _ (multiply_is_settled-by tagged o v) (multiply_is_settled-by l o v)
+      (elim (multiply_short_circuits o (value_by tagged v)) [ true ↦ gives (value_by tagged v) | false ↦ evaluate_factor (active tagged things) (store_by tagged store) (rename_fields tagged checked None t) >>= multiply o (value_by tagged v) ])
+      (elim (multiply_short_circuits o (value_by l v)) [ true ↦ gives (value_by l v) | false ↦ evaluate_factor (active l things) (store_by l store) (rename_fields l checked None t) >>= multiply o (value_by l v) ])
+      (λ y. evaluate_multipliers (active tagged things) (store_by tagged store) y (rename_fields tagged checked None rest)) (λ y. evaluate_multipliers (active l things) (store_by l store) y (rename_fields l checked None rest))
+      (settled-follows l (multiply_short_circuits o v) (multiply_short_circuits o (value_by tagged v)) (multiply_short_circuits o (value_by l v)) v _ _ (multiply_short_circuits-by tagged o v) (multiply_short_circuits-by l o v)
       (follows-then (value_by tagged) (value_by l) (value_by tagged) (value_by l) _ _ (multiply o (value_by tagged v)) (multiply o (value_by l v)) (evaluate_factor-follows l apart things checked store t) (multiply-follows l o v)))
       (λ y. evaluate_multipliers-follows l apart things checked store y rest)
 
-  pub evaluate_factor-follows : {P : Type 0} (l : FieldNames) → KeepsApart l → (things : Things P) (checked : Typed Name) (store : Store) (a : Tree Name factor)
-      → ValuesFollow l (evaluate_factor (active tagged things) (store_by tagged store) (refield tagged checked None a)) (evaluate_factor (active l things) (store_by l store) (refield l checked None a))
+  pub evaluate_factor-follows : {P : Type 0} (l : FieldRenaming) → KeepsFieldsDistinct l → (things : Things P) (checked : TypeMeanings Name) (store : Store) (a : Tree Name factor)
+      → ValuesFollow l (evaluate_factor (active tagged things) (store_by tagged store) (rename_fields tagged checked None a)) (evaluate_factor (active l things) (store_by l store) (rename_fields l checked None a))
   evaluate_factor-follows l apart things checked store (designator x path) =
       follows-then (value_by tagged) (value_by l) (value_by tagged) (value_by l) (object_value (store_by tagged store) (option_map (thing_by tagged (λ p. p)) (things x))) (object_value (store_by l store) (option_map (thing_by l (λ p. p)) (things x)))
-      (λ v. follow (active tagged things) (store_by tagged store) v (refield tagged checked (object_type (checked.object_for x)) path) >>= (λ steps. or_stuck (at_path steps v)))
-      (λ v. follow (active l things) (store_by l store) v (refield l checked (object_type (checked.object_for x)) path) >>= (λ steps. or_stuck (at_path steps v)))
+      (λ v. follow (active tagged things) (store_by tagged store) v (rename_fields tagged checked (object_type (checked.object_for x)) path) >>= (λ steps. or_stuck (value_at_path steps v)))
+      (λ v. follow (active l things) (store_by l store) v (rename_fields l checked (object_type (checked.object_for x)) path) >>= (λ steps. or_stuck (value_at_path steps v)))
       (object_value-follows l apart store (things x))
       (λ v. follows-then (map (step_by tagged)) (map (step_by l)) (value_by tagged) (value_by l)
-      (follow (active tagged things) (store_by tagged store) (value_by tagged v) (refield tagged checked (object_type (checked.object_for x)) path)) (follow (active l things) (store_by l store) (value_by l v) (refield l checked (object_type (checked.object_for x)) path))
-      (λ steps. or_stuck (at_path steps (value_by tagged v))) (λ steps. or_stuck (at_path steps (value_by l v))) (follow-follows l apart things checked store (object_type (checked.object_for x)) v path)
-      (λ moves. or_stuck-follows (value_by tagged) (value_by l) (at_path (map (step_by tagged) moves) (value_by tagged v)) (at_path (map (step_by l) moves) (value_by l v)) (at_path-finds l apart moves v)))
+      (follow (active tagged things) (store_by tagged store) (value_by tagged v) (rename_fields tagged checked (object_type (checked.object_for x)) path)) (follow (active l things) (store_by l store) (value_by l v) (rename_fields l checked (object_type (checked.object_for x)) path))
+      (λ steps. or_stuck (value_at_path steps (value_by tagged v))) (λ steps. or_stuck (value_at_path steps (value_by l v))) (follow-follows l apart things checked store (object_type (checked.object_for x)) v path)
+      (λ moves. or_stuck-follows (value_by tagged) (value_by l) (value_at_path (map (step_by tagged) moves) (value_by tagged v)) (value_at_path (map (step_by l) moves) (value_by l v)) (value_at_path-finds l apart moves v)))
   evaluate_factor-follows l apart things checked store (integer n) = (number (pos n), refl, refl)
   evaluate_factor-follows l apart things checked store (parenthesised e) = evaluate-follows l apart things checked store e
   evaluate_factor-follows l apart things checked store (negation a) =
       follows-then (value_by tagged) (value_by l) (value_by tagged) (value_by l) _ _ negate negate (evaluate_factor-follows l apart things checked store a) (negate-follows l)
 
-  pub follow-follows : {P : Type 0} (l : FieldNames) → KeepsApart l → (things : Things P) (checked : Typed Name) (store : Store) (s : Option Shape) (v : Value) (path : Tree Name (items selector))
-      → PathsFollow l (follow (active tagged things) (store_by tagged store) (value_by tagged v) (refield tagged checked s path)) (follow (active l things) (store_by l store) (value_by l v) (refield l checked s path))
+  pub follow-follows : {P : Type 0} (l : FieldRenaming) → KeepsFieldsDistinct l → (things : Things P) (checked : TypeMeanings Name) (store : Store) (s : Option Shape) (v : Value) (path : Tree Name (items selector))
+      → PathsFollow l (follow (active tagged things) (store_by tagged store) (value_by tagged v) (rename_fields tagged checked s path)) (follow (active l things) (store_by l store) (value_by l v) (rename_fields l checked s path))
   follow-follows l apart things checked store s v end = ([], refl, refl)
   follow-follows l apart things checked store s v (more (field x) rest) =
-      follow_on-follows l apart (λ w. follow (active tagged things) (store_by tagged store) w (refield tagged checked (type_after s (field x)) rest)) (λ w. follow (active l things) (store_by l store) w (refield l checked (type_after s (field x)) rest))
-      (λ w. follow-follows l apart things checked store (type_after s (field x)) w rest) v (to_field (selected_record s) x)
+      follow_on-follows l apart (λ w. follow (active tagged things) (store_by tagged store) w (rename_fields tagged checked (select_type s (field x)) rest)) (λ w. follow (active l things) (store_by l store) w (rename_fields l checked (select_type s (field x)) rest))
+      (λ w. follow-follows l apart things checked store (select_type s (field x)) w rest) v (to_field (record_ordinal s) x)
   follow-follows l apart things checked store s v (more (index e) rest) =
       follows-then (value_by tagged) (value_by l) (map (step_by tagged)) (map (step_by l)) _ _
-      (λ i. element_step (value_by tagged v) i >>= follow_on (λ w. follow (active tagged things) (store_by tagged store) w (refield tagged checked (type_after s (index e)) rest)) (value_by tagged v))
-      (λ i. element_step (value_by l v) i >>= follow_on (λ w. follow (active l things) (store_by l store) w (refield l checked (type_after s (index e)) rest)) (value_by l v))
+      (λ i. element_step (value_by tagged v) i >>= follow_on (λ w. follow (active tagged things) (store_by tagged store) w (rename_fields tagged checked (select_type s (index e)) rest)) (value_by tagged v))
+      (λ i. element_step (value_by l v) i >>= follow_on (λ w. follow (active l things) (store_by l store) w (rename_fields l checked (select_type s (index e)) rest)) (value_by l v))
       (evaluate-follows l apart things checked store e)
       (λ i. follows-then (step_by tagged) (step_by l) (map (step_by tagged)) (map (step_by l)) (element_step (value_by tagged v) (value_by tagged i)) (element_step (value_by l v) (value_by l i))
-      (follow_on (λ w. follow (active tagged things) (store_by tagged store) w (refield tagged checked (type_after s (index e)) rest)) (value_by tagged v)) (follow_on (λ w. follow (active l things) (store_by l store) w (refield l checked (type_after s (index e)) rest)) (value_by l v))
+      (follow_on (λ w. follow (active tagged things) (store_by tagged store) w (rename_fields tagged checked (select_type s (index e)) rest)) (value_by tagged v)) (follow_on (λ w. follow (active l things) (store_by l store) w (rename_fields l checked (select_type s (index e)) rest)) (value_by l v))
       (element_step-follows l v i)
-      (λ m. follow_on-follows l apart (λ w. follow (active tagged things) (store_by tagged store) w (refield tagged checked (type_after s (index e)) rest)) (λ w. follow (active l things) (store_by l store) w (refield l checked (type_after s (index e)) rest))
-      (λ w. follow-follows l apart things checked store (type_after s (index e)) w rest) v m))
+      (λ m. follow_on-follows l apart (λ w. follow (active tagged things) (store_by tagged store) w (rename_fields tagged checked (select_type s (index e)) rest)) (λ w. follow (active l things) (store_by l store) w (rename_fields l checked (select_type s (index e)) rest))
+      (λ w. follow-follows l apart things checked store (select_type s (index e)) w rest) v m))
 
 -- holds if two outcomes give places that stand for the same place
 
-abbrev pub PlacesFollow : FieldNames → Outcome Place → Outcome Place → Type 0
+abbrev pub PlacesFollow : FieldRenaming → Outcome Place → Outcome Place → Type 0
 PlacesFollow l = Follows (place_by tagged) (place_by l)
 
-object_place-follows : {P : Type 0} (l : FieldNames) (o : Option (Thing P)) → PlacesFollow l (object_place (option_map (thing_by {Q = P} tagged (λ p. p)) o)) (object_place (option_map (thing_by {Q = P} l (λ p. p)) o))
+object_place-follows : {P : Type 0} (l : FieldRenaming) (o : Option (Thing P)) → PlacesFollow l (object_place (option_map (thing_by {Q = P} tagged (λ p. p)) o)) (object_place (option_map (thing_by {Q = P} l (λ p. p)) o))
 object_place-follows l (Some (variable_thing p)) = (p, refl, refl)
 object_place-follows l _ = inl refl
 
 abbrev spot_further : Spot → List Move → Spot
 spot_further p moves = record { variable = p.variable; moves = p.moves ++ moves }
 
-place-further : (l : FieldNames) (p : Spot) (moves : List Move) → (record { variable = p.variable; path = map (step_by l) p.moves ++ map (step_by l) moves }) ≡ place_by l (spot_further p moves)
+place-further : (l : FieldRenaming) (p : Spot) (moves : List Move) → (record { variable = p.variable; path = map (step_by l) p.moves ++ map (step_by l) moves }) ≡ place_by l (spot_further p moves)
 place-further l p moves = λ i. record { variable = p.variable; path = sym (map-append (step_by l) p.moves moves) i }
 
-pub designate-follows : {P : Type 0} (l : FieldNames) → KeepsApart l → (things : Things P) (checked : Typed Name) (store : Store) (s : Option Shape) (x : Name) (path : Tree Name (items selector))
-    → PlacesFollow l (designate (active tagged things) (store_by tagged store) x (refield tagged checked s path)) (designate (active l things) (store_by l store) x (refield l checked s path))
+pub designate-follows : {P : Type 0} (l : FieldRenaming) → KeepsFieldsDistinct l → (things : Things P) (checked : TypeMeanings Name) (store : Store) (s : Option Shape) (x : Name) (path : Tree Name (items selector))
+    → PlacesFollow l (designate (active tagged things) (store_by tagged store) x (rename_fields tagged checked s path)) (designate (active l things) (store_by l store) x (rename_fields l checked s path))
 unfolding designate
 designate-follows l apart things checked store s x path =
     follows-then (place_by tagged) (place_by l) (place_by tagged) (place_by l) (object_place (option_map (thing_by tagged (λ p. p)) (things x))) (object_place (option_map (thing_by l (λ p. p)) (things x)))
-    (λ p. or_stuck (read_place (store_by tagged store) p) >>= (λ v. follow (active tagged things) (store_by tagged store) v (refield tagged checked s path) >>= (λ steps. gives record { variable = p.variable; path = p.path ++ steps })))
-    (λ p. or_stuck (read_place (store_by l store) p) >>= (λ v. follow (active l things) (store_by l store) v (refield l checked s path) >>= (λ steps. gives record { variable = p.variable; path = p.path ++ steps })))
+    (λ p. or_stuck (read_place (store_by tagged store) p) >>= (λ v. follow (active tagged things) (store_by tagged store) v (rename_fields tagged checked s path) >>= (λ steps. gives record { variable = p.variable; path = p.path ++ steps })))
+    (λ p. or_stuck (read_place (store_by l store) p) >>= (λ v. follow (active l things) (store_by l store) v (rename_fields l checked s path) >>= (λ steps. gives record { variable = p.variable; path = p.path ++ steps })))
     (object_place-follows l (things x))
     (λ p. follows-then (value_by tagged) (value_by l) (place_by tagged) (place_by l) (or_stuck (read_place (store_by tagged store) (place_by tagged p))) (or_stuck (read_place (store_by l store) (place_by l p)))
-    (λ v. follow (active tagged things) (store_by tagged store) v (refield tagged checked s path) >>= (λ steps. gives record { variable = p.variable; path = map (step_by tagged) p.moves ++ steps }))
-    (λ v. follow (active l things) (store_by l store) v (refield l checked s path) >>= (λ steps. gives record { variable = p.variable; path = map (step_by l) p.moves ++ steps }))
+    (λ v. follow (active tagged things) (store_by tagged store) v (rename_fields tagged checked s path) >>= (λ steps. gives record { variable = p.variable; path = map (step_by tagged) p.moves ++ steps }))
+    (λ v. follow (active l things) (store_by l store) v (rename_fields l checked s path) >>= (λ steps. gives record { variable = p.variable; path = map (step_by l) p.moves ++ steps }))
     (or_stuck-follows (value_by tagged) (value_by l) (read_place (store_by tagged store) (place_by tagged p)) (read_place (store_by l store) (place_by l p)) (read_place-finds l apart store p))
-    (λ v. follows-then (map (step_by tagged)) (map (step_by l)) (place_by tagged) (place_by l) (follow (active tagged things) (store_by tagged store) (value_by tagged v) (refield tagged checked s path)) (follow (active l things) (store_by l store) (value_by l v) (refield l checked s path))
+    (λ v. follows-then (map (step_by tagged)) (map (step_by l)) (place_by tagged) (place_by l) (follow (active tagged things) (store_by tagged store) (value_by tagged v) (rename_fields tagged checked s path)) (follow (active l things) (store_by l store) (value_by l v) (rename_fields l checked s path))
     (λ steps. gives record { variable = p.variable; path = map (step_by tagged) p.moves ++ steps }) (λ steps. gives record { variable = p.variable; path = map (step_by l) p.moves ++ steps })
     (follow-follows l apart things checked store s v path)
     (λ moves. (spot_further p moves, place-further tagged p moves, place-further l p moves))))

@@ -11,8 +11,8 @@ use Rattle.ob0_tree.specs.declared.tree.MultiplyOperator.TheVariants as multiply
 use Rattle.ob0_tree.specs.Tree.{Tree, addend, adds, compares, designator, end, expression, factor, integer, items, more, multiplier, multiplies, negation, none, one, parenthesised, product, relates, simple, sum, term}
 use Rattle.ob0_language_names.specs.Names.{Name}
 use Rattle.ob0_language_types.specs.Expressions.{Meanings, Object, a_constant, evaluate, evaluate_addends, evaluate_factor, evaluate_multipliers, evaluate_simple, evaluate_term, follow, object_value}
-use Rattle.ob0_language_types.specs.Typing.{constant_of, constant_value, constants_only, given_value, type_of}
-use Rattle.ob0_language_values.specs.Values.{Outcome, Overflow, Place, Shape, Step, Value, add, add_is_settled, at_path, divided, divided_by, elements, ends, fits, gives, in_range, members, multiply, multiply_is_settled, negate, number, or_stuck, quotient, relate, remainder, apply_sign, truth, ◌>>=◌}
+use Rattle.ob0_language_types.specs.Typing.{constant_of, constant_value, constant_meanings, outcome_value, type_of}
+use Rattle.ob0_language_values.specs.Values.{Outcome, Overflow, Place, Shape, Step, Value, add, add_short_circuits, value_at_path, checked_division, division_outcome, elements, ends, fits, gives, checked_number, members, multiply, multiply_short_circuits, negate, number, or_stuck, quotient, relate, remainder, apply_sign, truth, ◌>>=◌}
 use Rattle.ob0_language_field_laws.proofs.RefieldedExpressions.{Scalar, logical, scalar_value, whole}
 use Rattle.ob0_language_fields.proofs.NamesMeant.{named}
 
@@ -35,23 +35,23 @@ holds-with : {A B : Type 0} (Q : A → Type 0) (P : B → Type 0) (o : Outcome A
 holds-with Q P (gives a) next h each = each a h
 holds-with Q P (ends e) next h each = tt
 
-in_range-scalar : (n : ℤ) → Holds IsScalarValue (in_range n)
-in_range-scalar n = elim (fits n) as (λ b. Holds IsScalarValue (if b then gives (number n) else ends Overflow)) [ true ↦ tt | false ↦ tt ]
+checked_number-scalar : (n : ℤ) → Holds IsScalarValue (checked_number n)
+checked_number-scalar n = elim (fits n) as (λ b. Holds IsScalarValue (if b then gives (number n) else ends Overflow)) [ true ↦ tt | false ↦ tt ]
 
-divided_by-scalar : (result : Option ℤ) → Holds IsScalarValue (divided_by result)
-divided_by-scalar None = tt
-divided_by-scalar (Some n) = in_range-scalar n
+division_outcome-scalar : (result : Option ℤ) → Holds IsScalarValue (division_outcome result)
+division_outcome-scalar None = tt
+division_outcome-scalar (Some n) = checked_number-scalar n
 
 add-scalar : (o : AddOperator) (v w : Value) → Holds IsScalarValue (add o v w)
-add-scalar add_operator.Add (number a) (number b) = in_range-scalar (a +ℤ b)
-add-scalar add_operator.Subtract (number a) (number b) = in_range-scalar (a -ℤ b)
+add-scalar add_operator.Add (number a) (number b) = checked_number-scalar (a +ℤ b)
+add-scalar add_operator.Subtract (number a) (number b) = checked_number-scalar (a -ℤ b)
 add-scalar add_operator.Or (truth a) (truth b) = tt
 add-scalar _ _ _ = tt
 
 multiply-scalar : (o : MultiplyOperator) (v w : Value) → Holds IsScalarValue (multiply o v w)
-multiply-scalar multiply_operator.Multiply (number a) (number b) = in_range-scalar (a *ℤ b)
-multiply-scalar multiply_operator.Divide (number a) (number b) = divided_by-scalar (divided quotient a b)
-multiply-scalar multiply_operator.Modulo (number a) (number b) = divided_by-scalar (divided remainder a b)
+multiply-scalar multiply_operator.Multiply (number a) (number b) = checked_number-scalar (a *ℤ b)
+multiply-scalar multiply_operator.Divide (number a) (number b) = division_outcome-scalar (checked_division quotient a b)
+multiply-scalar multiply_operator.Modulo (number a) (number b) = division_outcome-scalar (checked_division remainder a b)
 multiply-scalar multiply_operator.And (truth a) (truth b) = tt
 multiply-scalar _ _ _ = tt
 
@@ -63,8 +63,8 @@ relate-scalar _ _ _ = tt
 
 apply_sign-scalar : (s : Option Sign) (v : Value) → IsScalarValue v → Holds IsScalarValue (apply_sign s v)
 apply_sign-scalar None v h = h
-apply_sign-scalar (Some sign.Plus) (number a) h = in_range-scalar a
-apply_sign-scalar (Some sign.Minus) (number a) h = in_range-scalar (neg_ℤ a)
+apply_sign-scalar (Some sign.Plus) (number a) h = checked_number-scalar a
+apply_sign-scalar (Some sign.Minus) (number a) h = checked_number-scalar (neg_ℤ a)
 apply_sign-scalar _ _ h = tt
 
 negate-scalar : (v : Value) → Holds IsScalarValue (negate v)
@@ -76,11 +76,11 @@ settled-scalar true v o h k = h
 settled-scalar false v o h k = k
 
 -- A scalar has no parts, so following a path from it gives a scalar or no value.
-at_path-scalar : (steps : List Step) (v : Value) → IsScalarValue v → Holds IsScalarValue (or_stuck (at_path steps v))
-at_path-scalar [] v h = h
-at_path-scalar (s ∷ steps) (elements vs) h = absurd h
-at_path-scalar (s ∷ steps) (members k ms) h = absurd h
-at_path-scalar _ _ h = tt
+value_at_path-scalar : (steps : List Step) (v : Value) → IsScalarValue v → Holds IsScalarValue (or_stuck (value_at_path steps v))
+value_at_path-scalar [] v h = h
+value_at_path-scalar (s ∷ steps) (elements vs) h = absurd h
+value_at_path-scalar (s ∷ steps) (members k ms) h = absurd h
+value_at_path-scalar _ _ h = tt
 
 abbrev pub Constants : Type 0
 Constants = Name → Option Scalar
@@ -109,8 +109,8 @@ mutual
   evaluate_addends-scalar : (cs : Constants) (v : Value) (a : Tree Name (items addend)) → IsScalarValue v → Holds IsScalarValue (evaluate_addends {P = Unit {0}} (constant_meaning cs) [] v a)
   evaluate_addends-scalar cs v end h = h
   evaluate_addends-scalar cs v (more (adds o t) rest) h =
-      holds-with IsScalarValue IsScalarValue (elim (add_is_settled o v) [ true ↦ gives v | false ↦ evaluate_term {P = Unit {0}} (constant_meaning cs) [] t >>= add o v ]) (λ y. evaluate_addends {P = Unit {0}} (constant_meaning cs) [] y rest)
-      (settled-scalar (add_is_settled o v) v (evaluate_term {P = Unit {0}} (constant_meaning cs) [] t >>= add o v) h (holds-then IsScalarValue (evaluate_term {P = Unit {0}} (constant_meaning cs) [] t) (add o v) (add-scalar o v)))
+      holds-with IsScalarValue IsScalarValue (elim (add_short_circuits o v) [ true ↦ gives v | false ↦ evaluate_term {P = Unit {0}} (constant_meaning cs) [] t >>= add o v ]) (λ y. evaluate_addends {P = Unit {0}} (constant_meaning cs) [] y rest)
+      (settled-scalar (add_short_circuits o v) v (evaluate_term {P = Unit {0}} (constant_meaning cs) [] t >>= add o v) h (holds-then IsScalarValue (evaluate_term {P = Unit {0}} (constant_meaning cs) [] t) (add o v) (add-scalar o v)))
       (λ y hy. evaluate_addends-scalar cs y rest hy)
 
   evaluate_term-scalar : (cs : Constants) (a : Tree Name term) → Holds IsScalarValue (evaluate_term {P = Unit {0}} (constant_meaning cs) [] a)
@@ -120,14 +120,14 @@ mutual
   evaluate_multipliers-scalar : (cs : Constants) (v : Value) (a : Tree Name (items multiplier)) → IsScalarValue v → Holds IsScalarValue (evaluate_multipliers {P = Unit {0}} (constant_meaning cs) [] v a)
   evaluate_multipliers-scalar cs v end h = h
   evaluate_multipliers-scalar cs v (more (multiplies o t) rest) h =
-      holds-with IsScalarValue IsScalarValue (elim (multiply_is_settled o v) [ true ↦ gives v | false ↦ evaluate_factor {P = Unit {0}} (constant_meaning cs) [] t >>= multiply o v ]) (λ y. evaluate_multipliers {P = Unit {0}} (constant_meaning cs) [] y rest)
-      (settled-scalar (multiply_is_settled o v) v (evaluate_factor {P = Unit {0}} (constant_meaning cs) [] t >>= multiply o v) h (holds-then IsScalarValue (evaluate_factor {P = Unit {0}} (constant_meaning cs) [] t) (multiply o v) (multiply-scalar o v)))
+      holds-with IsScalarValue IsScalarValue (elim (multiply_short_circuits o v) [ true ↦ gives v | false ↦ evaluate_factor {P = Unit {0}} (constant_meaning cs) [] t >>= multiply o v ]) (λ y. evaluate_multipliers {P = Unit {0}} (constant_meaning cs) [] y rest)
+      (settled-scalar (multiply_short_circuits o v) v (evaluate_factor {P = Unit {0}} (constant_meaning cs) [] t >>= multiply o v) h (holds-then IsScalarValue (evaluate_factor {P = Unit {0}} (constant_meaning cs) [] t) (multiply o v) (multiply-scalar o v)))
       (λ y hy. evaluate_multipliers-scalar cs y rest hy)
 
   evaluate_factor-scalar : (cs : Constants) (a : Tree Name factor) → Holds IsScalarValue (evaluate_factor {P = Unit {0}} (constant_meaning cs) [] a)
   evaluate_factor-scalar cs (designator x path) =
-      holds-with IsScalarValue IsScalarValue (object_value {P = Unit {0}} [] (option_map (λ c. a_constant (scalar_value c)) (cs x))) (λ v. follow {P = Unit {0}} (constant_meaning cs) [] v path >>= (λ steps. or_stuck (at_path steps v))) (object_value-scalar (cs x))
-      (λ v hv. holds-then IsScalarValue (follow {P = Unit {0}} (constant_meaning cs) [] v path) (λ steps. or_stuck (at_path steps v)) (λ steps. at_path-scalar steps v hv))
+      holds-with IsScalarValue IsScalarValue (object_value {P = Unit {0}} [] (option_map (λ c. a_constant (scalar_value c)) (cs x))) (λ v. follow {P = Unit {0}} (constant_meaning cs) [] v path >>= (λ steps. or_stuck (value_at_path steps v))) (object_value-scalar (cs x))
+      (λ v hv. holds-then IsScalarValue (follow {P = Unit {0}} (constant_meaning cs) [] v path) (λ steps. or_stuck (value_at_path steps v)) (λ steps. value_at_path-scalar steps v hv))
   evaluate_factor-scalar cs (integer n) = tt
   evaluate_factor-scalar cs (parenthesised e) = evaluate-scalar cs e
   evaluate_factor-scalar cs (negation a) = holds-then IsScalarValue (evaluate_factor {P = Unit {0}} (constant_meaning cs) [] a) negate negate-scalar
@@ -137,7 +137,7 @@ scalar_is (number n) h = (whole n, refl)
 scalar_is (truth b) h = (logical b, refl)
 scalar_is _ h = absurd h
 
-given-scalar : (o : Outcome Value) → Holds IsScalarValue o → (c : Option Scalar) × (given_value o ≡ option_map scalar_value c)
+given-scalar : (o : Outcome Value) → Holds IsScalarValue o → (c : Option Scalar) × (outcome_value o ≡ option_map scalar_value c)
 given-scalar (gives v) h = let s = scalar_is v h in (Some s.0, ap Some s.1)
 given-scalar (ends e) h = (None, refl)
 
@@ -148,15 +148,15 @@ as_constant v = a_constant v
 pub constant_value-scalar : {V P : Type 0} (objects : Name → Option (Object V P)) (cs : Constants) → ((x : Name) → constant_of (objects x) ≡ option_map scalar_value (cs x)) → (e : Tree Name expression)
     → (c : Option Scalar) × (constant_value (named objects) e ≡ option_map scalar_value c)
 unfolding constant_value
-constant_value-scalar objects cs same e = of_type (type_of {P = Unit {0}} (constants_only (named objects)) e)
+constant_value-scalar objects cs same e = of_type (type_of {P = Unit {0}} (constant_meanings (named objects)) e)
   where
-    only-constants : constants_only {W = Place} {Q = Unit {0}} (named objects) ≡ constant_meaning cs
+    only-constants : constant_meanings {W = Place} {Q = Unit {0}} (named objects) ≡ constant_meaning cs
     only-constants = λ i. named (λ x. (ap (option_map as_constant) (same x) ∙ twice (cs x)) i)
       where
         twice : (o : Option Scalar) → option_map as_constant (option_map scalar_value o) ≡ option_map (λ c. a_constant (scalar_value c)) o
         twice None = refl
         twice (Some c) = refl
 
-    of_type : (o : Option Shape) → (c : Option Scalar) × (option_and_then (λ s. given_value (evaluate {P = Unit {0}} (constants_only (named objects)) [] e)) o ≡ option_map scalar_value c)
+    of_type : (o : Option Shape) → (c : Option Scalar) × (option_and_then (λ s. outcome_value (evaluate {P = Unit {0}} (constant_meanings (named objects)) [] e)) o ≡ option_map scalar_value c)
     of_type None = (None, refl)
-    of_type (Some s) = given-scalar (evaluate {P = Unit {0}} (constants_only (named objects)) [] e) (subst (λ m. Holds IsScalarValue (evaluate {P = Unit {0}} m [] e)) (sym only-constants) (evaluate-scalar cs e))
+    of_type (Some s) = given-scalar (evaluate {P = Unit {0}} (constant_meanings (named objects)) [] e) (subst (λ m. Holds IsScalarValue (evaluate {P = Unit {0}} m [] e)) (sym only-constants) (evaluate-scalar cs e))

@@ -10,33 +10,33 @@ use Rattle.std.proofs.Math.Dec.{eqb-suc-suc, eqb-zero-suc}
 use Rattle.std.proofs.lemmas.Bool.{eqb-true}
 use Rattle.std.proofs.lemmas.Option.{slice_get-map}
 use Rattle.ob0_language_names.specs.Names.{Name, same_name}
-use Rattle.ob0_language_values.specs.Values.{Members, Place, Step, Store, Value, Values, at_field, at_index, at_path, count_values, elements, members, named_member, next_member, next_value, no_member, no_value, nth_value, number, part, read_place, truth, with_at_path, with_named_member, with_nth_value, with_part, write_place}
-use Rattle.ob0_language_fields.specs.Fields.{FieldNames}
+use Rattle.ob0_language_values.specs.Values.{Members, Place, Step, Store, Value, Values, at_field, at_index, value_at_path, count_values, elements, members, named_member, next_member, next_value, no_member, no_value, nth_value, number, part, read_place, truth, with_value_at_path, with_named_member, with_nth_value, with_part, write_place}
+use Rattle.ob0_language_fields.specs.Fields.{FieldRenaming}
 use Rattle.ob0_language_fields.proofs.Bare.{bare}
-use Rattle.ob0_language_field_laws.specs.FieldLaws.{KeepsApart}
+use Rattle.ob0_language_field_laws.specs.FieldLaws.{KeepsFieldsDistinct}
 use Rattle.ob0_language_field_laws.proofs.Apart.{choose-map}
 
 -- puts the ordinal of its record before a field's name, so that fields of different records never share a name
-abbrev pub tagged : FieldNames
+abbrev pub tagged : FieldRenaming
 tagged None x = 0 ∷ x
 tagged (Some k) x = suc k ∷ x
 
-pub tagged-apart : KeepsApart tagged
+pub tagged-apart : KeepsFieldsDistinct tagged
 tagged-apart k x y = ap (λ b. b && same_name x y) (eq-eqb (suc k) (suc k) refl)
 
 -- Returns a value, its elements or its members with all fields under other names.
 abbrev mutual
-  pub value_by : FieldNames → Value → Value
+  pub value_by : FieldRenaming → Value → Value
   value_by l (number n) = number n
   value_by l (truth b) = truth b
   value_by l (elements vs) = elements (values_by l vs)
   value_by l (members k ms) = members k (members_by l k ms)
 
-  pub values_by : FieldNames → Values → Values
+  pub values_by : FieldRenaming → Values → Values
   values_by l no_value = no_value
   values_by l (next_value v rest) = next_value (value_by l v) (values_by l rest)
 
-  pub members_by : FieldNames → ℕ → Members → Members
+  pub members_by : FieldRenaming → ℕ → Members → Members
   members_by l k no_member = no_member
   members_by l k (next_member x v rest) = next_member (l (Some k) x) (value_by l v) (members_by l k rest)
 
@@ -45,7 +45,7 @@ pub data Move : Type 0 where
   to_index : ℕ → Move
   to_field : Option ℕ → Name → Move
 
-abbrev pub step_by : FieldNames → Move → Step
+abbrev pub step_by : FieldRenaming → Move → Step
 step_by l (to_index i) = at_index i
 step_by l (to_field o x) = at_field (l o x)
 
@@ -53,10 +53,10 @@ pub record Spot : Type 0 where
   pub variable : ℕ
   pub moves : List Move
 
-abbrev pub place_by : FieldNames → Spot → Place
+abbrev pub place_by : FieldRenaming → Spot → Place
 place_by l p = record { variable = p.variable; path = map (step_by l) p.moves }
 
-abbrev pub store_by : FieldNames → Store → Store
+abbrev pub store_by : FieldRenaming → Store → Store
 store_by l store = map (value_by l) store
 
 -- holds if the second run finds whatever the first one finds
@@ -83,28 +83,28 @@ finds-made f g f' g' (Some x) (Some y) n₁ n₂ n h e₁ e₂ = (n h.0, ap n₁
 
 -- If fields get other names, only these names change in the elements and members of a value.
 
-pub nth_value-by : (l : FieldNames) (vs : Values) (i : ℕ) → nth_value (values_by l vs) i ≡ option_map (value_by l) (nth_value vs i)
+pub nth_value-by : (l : FieldRenaming) (vs : Values) (i : ℕ) → nth_value (values_by l vs) i ≡ option_map (value_by l) (nth_value vs i)
 nth_value-by l (next_value v rest) (suc i) = nth_value-by l rest i
 nth_value-by l _ _ = refl
 
-pub with_nth_value-by : (l : FieldNames) (vs : Values) (i : ℕ) (new : Value) → with_nth_value (values_by l vs) i (value_by l new) ≡ values_by l (with_nth_value vs i new)
+pub with_nth_value-by : (l : FieldRenaming) (vs : Values) (i : ℕ) (new : Value) → with_nth_value (values_by l vs) i (value_by l new) ≡ values_by l (with_nth_value vs i new)
 with_nth_value-by l (next_value v rest) (suc i) new = λ j. next_value (value_by l v) (with_nth_value-by l rest i new j)
 with_nth_value-by l _ _ new = refl
 
-pub count_values-by : (l : FieldNames) (vs : Values) → count_values (values_by l vs) ≡ count_values vs
+pub count_values-by : (l : FieldRenaming) (vs : Values) → count_values (values_by l vs) ≡ count_values vs
 count_values-by l no_value = refl
 count_values-by l (next_value v rest) = λ i. suc (count_values-by l rest i)
 
-pub named_member-by : (l : FieldNames) → KeepsApart l → (k : ℕ) (ms : Members) (x : Name) → named_member (members_by l k ms) (l (Some k) x) ≡ option_map (value_by l) (named_member ms x)
+pub named_member-by : (l : FieldRenaming) → KeepsFieldsDistinct l → (k : ℕ) (ms : Members) (x : Name) → named_member (members_by l k ms) (l (Some k) x) ≡ option_map (value_by l) (named_member ms x)
 named_member-by l apart k no_member x = refl
 named_member-by l apart k (next_member y v rest) x =
     (λ i. if apart k x y i then Some (value_by l v) else named_member-by l apart k rest x i) ∙ choose-map (value_by l) (same_name x y) v (named_member rest x)
 
-choose-member : (l : FieldNames) (k : ℕ) (b : Bool) (m n : Members) → (if b then members_by l k m else members_by l k n) ≡ members_by l k (if b then m else n)
+choose-member : (l : FieldRenaming) (k : ℕ) (b : Bool) (m n : Members) → (if b then members_by l k m else members_by l k n) ≡ members_by l k (if b then m else n)
 choose-member l k true m n = refl
 choose-member l k false m n = refl
 
-pub with_named_member-by : (l : FieldNames) → KeepsApart l → (k : ℕ) (ms : Members) (x : Name) (new : Value) → with_named_member (members_by l k ms) (l (Some k) x) (value_by l new) ≡ members_by l k (with_named_member ms x new)
+pub with_named_member-by : (l : FieldRenaming) → KeepsFieldsDistinct l → (k : ℕ) (ms : Members) (x : Name) (new : Value) → with_named_member (members_by l k ms) (l (Some k) x) (value_by l new) ≡ members_by l k (with_named_member ms x new)
 with_named_member-by l apart k no_member x new = refl
 with_named_member-by l apart k (next_member y v rest) x new =
     (λ i. if apart k x y i then next_member (l (Some k) y) (value_by l new) (members_by l k rest) else next_member (l (Some k) y) (value_by l v) (with_named_member-by l apart k rest x new i))
@@ -117,21 +117,21 @@ other-tag k (next_member y v rest) o x differs =
     ap (λ b. if b then Some (value_by tagged v) else named_member (members_by tagged k rest) (tagged o x)) (differs y) ∙ other-tag k rest o x differs
 
 -- holds if a step selects and replaces the same part of a value when its fields have other names
-pub record Moved (l : FieldNames) (v : Value) (m : Move) : Type 0 where
+pub record Moved (l : FieldRenaming) (v : Value) (m : Move) : Type 0 where
   pub reached : part (value_by l v) (step_by l m) ≡ option_map (value_by l) (part v (step_by bare m))
   pub written : (new : Value) → with_part (value_by l v) (step_by l m) (value_by l new) ≡ value_by l (with_part v (step_by bare m) new)
 
-pub moved-index : (l : FieldNames) (vs : Values) (i : ℕ) → Moved l (elements vs) (to_index i)
+pub moved-index : (l : FieldRenaming) (vs : Values) (i : ℕ) → Moved l (elements vs) (to_index i)
 moved-index l vs i = record { reached = nth_value-by l vs i; written = λ new. ap elements (with_nth_value-by l vs i new) }
 
-pub moved-field : (l : FieldNames) → KeepsApart l → (k : ℕ) (ms : Members) (x : Name) → Moved l (members k ms) (to_field (Some k) x)
+pub moved-field : (l : FieldRenaming) → KeepsFieldsDistinct l → (k : ℕ) (ms : Members) (x : Name) → Moved l (members k ms) (to_field (Some k) x)
 moved-field l apart k ms x = record { reached = named_member-by l apart k ms x; written = λ new. ap (members k) (with_named_member-by l apart k ms x new) }
 
 -- holds if the first run finds nothing, or both runs make the step
-abbrev pub Reaches : FieldNames → Value → Move → Type 0
+abbrev pub Reaches : FieldRenaming → Value → Move → Type 0
 Reaches l v m = (part (value_by tagged v) (step_by tagged m) ≡ None) ⊎ (Moved tagged v m × Moved l v m)
 
-pub reaches : (l : FieldNames) → KeepsApart l → (v : Value) (m : Move) → Reaches l v m
+pub reaches : (l : FieldRenaming) → KeepsFieldsDistinct l → (v : Value) (m : Move) → Reaches l v m
 reaches l apart (elements vs) (to_index i) = inr (moved-index tagged vs i, moved-index l vs i)
 reaches l apart (members k ms) (to_field None x) = inl (other-tag k ms None x (λ y. ap (λ b. b && same_name x y) (eqb-zero-suc k)))
 reaches l apart (members k ms) (to_field (Some j) x) =
@@ -141,7 +141,7 @@ reaches l apart (members k ms) (to_field (Some j) x) =
     ]) refl
 reaches l apart _ _ = inl refl
 
-pub part-finds : (l : FieldNames) → KeepsApart l → (v : Value) (m : Move) → Finds (value_by tagged) (value_by l) (part (value_by tagged v) (step_by tagged m)) (part (value_by l v) (step_by l m))
+pub part-finds : (l : FieldRenaming) → KeepsFieldsDistinct l → (v : Value) (m : Move) → Finds (value_by tagged) (value_by l) (part (value_by tagged v) (step_by tagged m)) (part (value_by l v) (step_by l m))
 part-finds l apart v m = go (reaches l apart v m)
   where
     go : Reaches l v m → Finds (value_by tagged) (value_by l) (part (value_by tagged v) (step_by tagged m)) (part (value_by l v) (step_by l m))
@@ -150,52 +150,52 @@ part-finds l apart v m = go (reaches l apart v m)
 
 -- The second run finds a part at a path if the first run finds one.
 
-pub at_path-finds : (l : FieldNames) → KeepsApart l → (moves : List Move) (v : Value) → Finds (value_by tagged) (value_by l) (at_path (map (step_by tagged) moves) (value_by tagged v)) (at_path (map (step_by l) moves) (value_by l v))
-at_path-finds l apart [] v = (v, refl, refl)
-at_path-finds l apart (m ∷ moves) v =
-    finds-then (value_by tagged) (value_by l) (value_by tagged) (value_by l) (part (value_by tagged v) (step_by tagged m)) (part (value_by l v) (step_by l m)) (at_path (map (step_by tagged) moves)) (at_path (map (step_by l) moves)) (part-finds l apart v m)
-    (λ w. at_path-finds l apart moves w)
+pub value_at_path-finds : (l : FieldRenaming) → KeepsFieldsDistinct l → (moves : List Move) (v : Value) → Finds (value_by tagged) (value_by l) (value_at_path (map (step_by tagged) moves) (value_by tagged v)) (value_at_path (map (step_by l) moves) (value_by l v))
+value_at_path-finds l apart [] v = (v, refl, refl)
+value_at_path-finds l apart (m ∷ moves) v =
+    finds-then (value_by tagged) (value_by l) (value_by tagged) (value_by l) (part (value_by tagged v) (step_by tagged m)) (part (value_by l v) (step_by l m)) (value_at_path (map (step_by tagged) moves)) (value_at_path (map (step_by l) moves)) (part-finds l apart v m)
+    (λ w. value_at_path-finds l apart moves w)
 
 -- replaces the rest of a path within one part of a value
-abbrev pub following_part : FieldNames → List Move → Value → Value → Move → Option Value → Option Value
-following_part l moves new v m o = option_and_then (λ old. option_map (with_part (value_by l v) (step_by l m)) (with_at_path (map (step_by l) moves) (value_by l new) old)) o
+abbrev pub following_part : FieldRenaming → List Move → Value → Value → Move → Option Value → Option Value
+following_part l moves new v m o = option_and_then (λ old. option_map (with_part (value_by l v) (step_by l m)) (with_value_at_path (map (step_by l) moves) (value_by l new) old)) o
 
-pub with_at_path-finds : (l : FieldNames) → KeepsApart l → (moves : List Move) (new v : Value)
-    → Finds (value_by tagged) (value_by l) (with_at_path (map (step_by tagged) moves) (value_by tagged new) (value_by tagged v)) (with_at_path (map (step_by l) moves) (value_by l new) (value_by l v))
-with_at_path-finds l apart [] new v = (new, refl, refl)
-with_at_path-finds l apart (m ∷ moves) new v =
-    go (reaches l apart v m) (part v (step_by bare m)) refl (λ old. with_at_path-finds l apart moves new old)
+pub with_value_at_path-finds : (l : FieldRenaming) → KeepsFieldsDistinct l → (moves : List Move) (new v : Value)
+    → Finds (value_by tagged) (value_by l) (with_value_at_path (map (step_by tagged) moves) (value_by tagged new) (value_by tagged v)) (with_value_at_path (map (step_by l) moves) (value_by l new) (value_by l v))
+with_value_at_path-finds l apart [] new v = (new, refl, refl)
+with_value_at_path-finds l apart (m ∷ moves) new v =
+    go (reaches l apart v m) (part v (step_by bare m)) refl (λ old. with_value_at_path-finds l apart moves new old)
   where
     go : Reaches l v m → (o : Option Value) → part v (step_by bare m) ≡ o
-        → ((old : Value) → Finds (value_by tagged) (value_by l) (with_at_path (map (step_by tagged) moves) (value_by tagged new) (value_by tagged old)) (with_at_path (map (step_by l) moves) (value_by l new) (value_by l old)))
+        → ((old : Value) → Finds (value_by tagged) (value_by l) (with_value_at_path (map (step_by tagged) moves) (value_by tagged new) (value_by tagged old)) (with_value_at_path (map (step_by l) moves) (value_by l new) (value_by l old)))
         → Finds (value_by tagged) (value_by l) (following_part tagged moves new v m (part (value_by tagged v) (step_by tagged m))) (following_part l moves new v m (part (value_by l v) (step_by l m)))
     go (inl e) o eo below = subst (λ p. Finds (value_by tagged) (value_by l) (following_part tagged moves new v m p) (following_part l moves new v m (part (value_by l v) (step_by l m)))) (sym e) tt
     go (inr h) None eo below =
         subst (λ p. Finds (value_by tagged) (value_by l) (following_part tagged moves new v m p) (following_part l moves new v m (part (value_by l v) (step_by l m)))) (sym (h.0.reached ∙ ap (option_map (value_by tagged)) eo)) tt
     go (inr h) (Some old) eo below =
         subst₂ (λ p q. Finds (value_by tagged) (value_by l) (following_part tagged moves new v m p) (following_part l moves new v m q)) (sym (h.0.reached ∙ ap (option_map (value_by tagged)) eo)) (sym (h.1.reached ∙ ap (option_map (value_by l)) eo))
-        (finds-made (value_by tagged) (value_by l) (value_by tagged) (value_by l) (with_at_path (map (step_by tagged) moves) (value_by tagged new) (value_by tagged old)) (with_at_path (map (step_by l) moves) (value_by l new) (value_by l old))
+        (finds-made (value_by tagged) (value_by l) (value_by tagged) (value_by l) (with_value_at_path (map (step_by tagged) moves) (value_by tagged new) (value_by tagged old)) (with_value_at_path (map (step_by l) moves) (value_by l new) (value_by l old))
         (with_part (value_by tagged v) (step_by tagged m)) (with_part (value_by l v) (step_by l m)) (with_part v (step_by bare m)) (below old) h.0.written h.1.written)
 
 -- Looking up and replacing variables of the store does the same in both runs.
 
-pub slice_set-by : (l : FieldNames) (store : Store) (n : ℕ) (new : Value) → slice_set (store_by l store) n (value_by l new) ≡ store_by l (slice_set store n new)
+pub slice_set-by : (l : FieldRenaming) (store : Store) (n : ℕ) (new : Value) → slice_set (store_by l store) n (value_by l new) ≡ store_by l (slice_set store n new)
 slice_set-by l (v ∷ store) (suc n) new = λ i. value_by l v ∷ slice_set-by l store n new i
 slice_set-by l _ _ new = refl
 
-pub slice_get-finds : (l : FieldNames) (store : Store) (n : ℕ) → Finds (value_by tagged) (value_by l) (slice_get (store_by tagged store) n) (slice_get (store_by l store) n)
+pub slice_get-finds : (l : FieldRenaming) (store : Store) (n : ℕ) → Finds (value_by tagged) (value_by l) (slice_get (store_by tagged store) n) (slice_get (store_by l store) n)
 slice_get-finds l store n =
     subst₂ (λ o p. Finds (value_by tagged) (value_by l) o p) (sym (slice_get-map (value_by tagged) store n)) (sym (slice_get-map (value_by l) store n)) (finds-map (value_by tagged) (value_by l) (slice_get store n))
 
-pub read_place-finds : (l : FieldNames) → KeepsApart l → (store : Store) (p : Spot) → Finds (value_by tagged) (value_by l) (read_place (store_by tagged store) (place_by tagged p)) (read_place (store_by l store) (place_by l p))
+pub read_place-finds : (l : FieldRenaming) → KeepsFieldsDistinct l → (store : Store) (p : Spot) → Finds (value_by tagged) (value_by l) (read_place (store_by tagged store) (place_by tagged p)) (read_place (store_by l store) (place_by l p))
 read_place-finds l apart store p =
-    finds-then (value_by tagged) (value_by l) (value_by tagged) (value_by l) (slice_get (store_by tagged store) p.variable) (slice_get (store_by l store) p.variable) (at_path (map (step_by tagged) p.moves)) (at_path (map (step_by l) p.moves)) (slice_get-finds l store p.variable)
-    (at_path-finds l apart p.moves)
+    finds-then (value_by tagged) (value_by l) (value_by tagged) (value_by l) (slice_get (store_by tagged store) p.variable) (slice_get (store_by l store) p.variable) (value_at_path (map (step_by tagged) p.moves)) (value_at_path (map (step_by l) p.moves)) (slice_get-finds l store p.variable)
+    (value_at_path-finds l apart p.moves)
 
-pub write_place-finds : (l : FieldNames) → KeepsApart l → (store : Store) (p : Spot) (new : Value)
+pub write_place-finds : (l : FieldRenaming) → KeepsFieldsDistinct l → (store : Store) (p : Spot) (new : Value)
     → Finds (store_by tagged) (store_by l) (write_place (store_by tagged store) (place_by tagged p) (value_by tagged new)) (write_place (store_by l store) (place_by l p) (value_by l new))
 write_place-finds l apart store p new =
     finds-then (value_by tagged) (value_by l) (store_by tagged) (store_by l) (slice_get (store_by tagged store) p.variable) (slice_get (store_by l store) p.variable)
-    (λ old. option_map (slice_set (store_by tagged store) p.variable) (with_at_path (map (step_by tagged) p.moves) (value_by tagged new) old)) (λ old. option_map (slice_set (store_by l store) p.variable) (with_at_path (map (step_by l) p.moves) (value_by l new) old)) (slice_get-finds l store p.variable)
-    (λ old. finds-made (value_by tagged) (value_by l) (store_by tagged) (store_by l) (with_at_path (map (step_by tagged) p.moves) (value_by tagged new) (value_by tagged old)) (with_at_path (map (step_by l) p.moves) (value_by l new) (value_by l old))
-    (slice_set (store_by tagged store) p.variable) (slice_set (store_by l store) p.variable) (slice_set store p.variable) (with_at_path-finds l apart p.moves new old) (slice_set-by tagged store p.variable) (slice_set-by l store p.variable))
+    (λ old. option_map (slice_set (store_by tagged store) p.variable) (with_value_at_path (map (step_by tagged) p.moves) (value_by tagged new) old)) (λ old. option_map (slice_set (store_by l store) p.variable) (with_value_at_path (map (step_by l) p.moves) (value_by l new) old)) (slice_get-finds l store p.variable)
+    (λ old. finds-made (value_by tagged) (value_by l) (store_by tagged) (store_by l) (with_value_at_path (map (step_by tagged) p.moves) (value_by tagged new) (value_by tagged old)) (with_value_at_path (map (step_by l) p.moves) (value_by l new) (value_by l old))
+    (slice_set (store_by tagged store) p.variable) (slice_set (store_by l store) p.variable) (slice_set store p.variable) (with_value_at_path-finds l apart p.moves new old) (slice_set-by tagged store p.variable) (slice_set-by l store p.variable))

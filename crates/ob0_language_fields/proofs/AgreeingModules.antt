@@ -2,179 +2,179 @@
 -- both functions must agree on each field that its records declare.
 use Rattle.std.proofs.Common.{◌≡◌, ℕ, ◌+◌, true, false, ◌&&◌, List, [], ◌∷◌, ◌++◌, map, Some, None, option_and_then, unwrap_or, sym, refl, ap, subst}
 use Rattle.ob0_tree.specs.Tree.{Tree, begins, block, body, constant, declares, declares_constant, declares_procedure, declares_type, declares_types, declares_variable, declares_variables, end, formals, further_section, has_body, is_module, item, items, maybe, module_text, more, no_formals, none, one, procedure, section, some_formals, then_section, type_name, type_names, value_section, variable, variable_section, variables}
-use Rattle.ob0_language_names.specs.Names.{Name, as_names, same_name}
-use Rattle.ob0_language_names.specs.Parts.{formal_sections, names_listed, procedure_formals, procedure_name, section_constants, section_names, section_type, section_types, section_variables}
-use Rattle.ob0_language_types.specs.Declarations.{after_formals, after_types, after_variables, declare_constants, declare_first, declare_types, formals_constructors, procedure_constructors}
-use Rattle.ob0_language_types.specs.Environments.{from_binding, meanings, newest, outermost}
+use Rattle.ob0_language_names.specs.Names.{Name, naming_by_spelling, same_name}
+use Rattle.ob0_language_names.specs.Parts.{formal_sections, names_in_list, procedure_formals, procedure_name, section_constants, section_names, section_type, section_types, section_variables}
+use Rattle.ob0_language_types.specs.Declarations.{constructor_after_formals, constructor_after_types, constructor_after_variables, declare_constants, declare_first, declare_types, formals_constructor_count, procedure_constructor_count}
+use Rattle.ob0_language_types.specs.Environments.{environment_from_binding, meanings, newest_object, outermost}
 use Rattle.ob0_language_types.specs.Expressions.{Object, a_constant, a_type, a_variable}
-use Rattle.ob0_language_types.specs.Typing.{constant_value, constructors, denoted}
-use Rattle.ob0_language_types.specs.WellTyped.{Mode, TypeEnvironment, TypedParameter, Signature, bind_names, bind_typed, block_fits, body_fits, declare_typed, fits_over, heading, procedure_fits, procedures_fit, section_mode, typed_parameters}
+use Rattle.ob0_language_types.specs.Typing.{constant_value, constructor_count, denoted}
+use Rattle.ob0_language_types.specs.WellTyped.{Mode, TypeEnvironment, TypedParameter, Signature, bind_names, bind_typed_parameters, block_fits, body_fits, declare_typed, fits_over, bind_procedure, procedure_fits, procedures_fit, section_mode, typed_parameters}
 use Rattle.ob0_language_types.proofs.Conditions.{both_true, hold-true}
 use Rattle.ob0_language_types.proofs.Literals.{some_inverse}
 use Rattle.ob0_language_types.proofs.TypedElsewhere.{then_some}
 use Rattle.ob0_language_values.specs.Values.{Shape}
-use Rattle.ob0_language_fields.specs.Fields.{FieldNames, types_after_procedures, refield, refield_block, refield_formals, refield_procedure, refield_procedures, refield_section, refield_sections, refield_type_section, refield_types, refield_variable_section, refield_variables, refielded}
+use Rattle.ob0_language_fields.specs.Fields.{FieldRenaming, environment_after_procedures, rename_fields, rename_fields_in_block, rename_fields_in_formals, rename_fields_in_procedure, rename_fields_in_procedures, rename_fields_in_section, rename_fields_in_sections, rename_fields_in_type_section, rename_fields_in_types, rename_fields_in_variable_section, rename_fields_in_variables, rename_fields_in_module}
 use Rattle.ob0_language_fields.specs.Renaming.{records, records_in_block, records_in_procedure, records_in_procedures, records_in_sections, records_in_type, records_in_types, records_in_variables}
 use Rattle.ob0_language_fields.proofs.AgreeingFields.{ObjectsAgree, ObjectAgrees, OptionAgrees, RecordsAgree, ShapeAgrees, denoted-agrees, records-split, sequence-alike, type-alike}
 use Rattle.ob0_language_fields.proofs.NamesMeant.{parameter_of, object_in}
 
 -- holds if two functions for the names of fields agree on all types of an environment
 
-abbrev pub EnvironmentAgrees : FieldNames → FieldNames → TypeEnvironment Name → Type 0
+abbrev pub EnvironmentAgrees : FieldRenaming → FieldRenaming → TypeEnvironment Name → Type 0
 EnvironmentAgrees p q [] = Unit {0}
 EnvironmentAgrees p q (b ∷ env) = ObjectAgrees p q b.1 × EnvironmentAgrees p q env
 
-pub objects-agree : (p q : FieldNames) (env : TypeEnvironment Name) → EnvironmentAgrees p q env → ObjectsAgree p q (object_in env)
+pub objects-agree : (p q : FieldRenaming) (env : TypeEnvironment Name) → EnvironmentAgrees p q env → ObjectsAgree p q (object_in env)
 objects-agree p q [] h x = tt
 objects-agree p q (b ∷ env) h x =
-    elim (same_name x b.0) as (λ v. OptionAgrees p q (newest (elim v [ true ↦ b ∷ env | false ↦ from_binding as_names env x ]))) [ true ↦ h.0 | false ↦ objects-agree p q env h.1 x ]
+    elim (same_name x b.0) as (λ v. OptionAgrees p q (newest_object (elim v [ true ↦ b ∷ env | false ↦ environment_from_binding naming_by_spelling env x ]))) [ true ↦ h.0 | false ↦ objects-agree p q env h.1 x ]
 
-pub bind_names-agree : (p q : FieldNames) (xs : List Name) (o : Object Shape Signature) (env : TypeEnvironment Name) → ObjectAgrees p q o → EnvironmentAgrees p q env → EnvironmentAgrees p q (bind_names xs o env)
+pub bind_names-agree : (p q : FieldRenaming) (xs : List Name) (o : Object Shape Signature) (env : TypeEnvironment Name) → ObjectAgrees p q o → EnvironmentAgrees p q env → EnvironmentAgrees p q (bind_names xs o env)
 bind_names-agree p q [] o env h k = k
 bind_names-agree p q (x ∷ xs) o env h k = bind_names-agree p q xs o ((x, o) ∷ env) h (h, k)
 
-abbrev pub ParametersAgree : FieldNames → FieldNames → List (TypedParameter Name) → Type 0
+abbrev pub ParametersAgree : FieldRenaming → FieldRenaming → List (TypedParameter Name) → Type 0
 ParametersAgree p q [] = Unit {0}
 ParametersAgree p q (a ∷ ps) = ShapeAgrees p q a.formal.shape × ParametersAgree p q ps
 
-bind_typed-agrees : (p q : FieldNames) (ps : List (TypedParameter Name)) (env : TypeEnvironment Name) → ParametersAgree p q ps → EnvironmentAgrees p q env → EnvironmentAgrees p q (bind_typed ps env)
-bind_typed-agrees p q [] env h k = k
-bind_typed-agrees p q (a ∷ ps) env h k = bind_typed-agrees p q ps ((a.name, a_variable a.formal.shape) ∷ env) h.1 (h.0, k)
+bind_typed_parameters-agrees : (p q : FieldRenaming) (ps : List (TypedParameter Name)) (env : TypeEnvironment Name) → ParametersAgree p q ps → EnvironmentAgrees p q env → EnvironmentAgrees p q (bind_typed_parameters ps env)
+bind_typed_parameters-agrees p q [] env h k = k
+bind_typed_parameters-agrees p q (a ∷ ps) env h k = bind_typed_parameters-agrees p q ps ((a.name, a_variable a.formal.shape) ∷ env) h.1 (h.0, k)
 
 -- Declarations make bindings on which two functions agree, if they agree on the environment and the declared records.
 
-constants-agree : (p q : FieldNames) (env : TypeEnvironment Name) (cs : Tree Name (items constant)) (after : TypeEnvironment Name) → EnvironmentAgrees p q env → declare_constants as_names env cs ≡ Some after → EnvironmentAgrees p q after
+constants-agree : (p q : FieldRenaming) (env : TypeEnvironment Name) (cs : Tree Name (items constant)) (after : TypeEnvironment Name) → EnvironmentAgrees p q env → declare_constants naming_by_spelling env cs ≡ Some after → EnvironmentAgrees p q after
 unfolding declare_constants
 constants-agree p q env end after h e = subst (EnvironmentAgrees p q) (some_inverse {a = env} {b = after} e) h
 constants-agree p q env (more (declares_constant x c) cs) after h e =
-    let (v, ev, e₁) = then_some (constant_value (meanings as_names env) c) (λ v. declare_constants as_names ((x, a_constant v) ∷ env) cs) after e in
+    let (v, ev, e₁) = then_some (constant_value (meanings naming_by_spelling env) c) (λ v. declare_constants naming_by_spelling ((x, a_constant v) ∷ env) cs) after e in
     constants-agree p q ((x, a_constant v) ∷ env) cs after (tt, h) e₁
 
-types-agree : (p q : FieldNames) (env : TypeEnvironment Name) (k : ℕ) (ds : Tree Name (items type_name)) (after : TypeEnvironment Name) → EnvironmentAgrees p q env → RecordsAgree p q (records_in_types k ds) → declare_types as_names env k ds ≡ Some after → EnvironmentAgrees p q after
+types-agree : (p q : FieldRenaming) (env : TypeEnvironment Name) (k : ℕ) (ds : Tree Name (items type_name)) (after : TypeEnvironment Name) → EnvironmentAgrees p q env → RecordsAgree p q (records_in_types k ds) → declare_types naming_by_spelling env k ds ≡ Some after → EnvironmentAgrees p q after
 unfolding declare_types
 types-agree p q env k end after h r e = subst (EnvironmentAgrees p q) (some_inverse {a = env} {b = after} e) h
 types-agree p q env k (more (declares_type x u) ds) after h r e =
-    let r₁ = records-split p q (records_in_type k u) (records_in_types (k + constructors u) ds) r in
-    let (s, es, e₁) = then_some (denoted (meanings as_names env) k u) (λ s. declare_types as_names ((x, a_type s) ∷ env) (k + constructors u) ds) after e in
-    types-agree p q ((x, a_type s) ∷ env) (k + constructors u) ds after (denoted-agrees p q (object_in env) (objects-agree p q env h) k u s r₁.0 es, h) r₁.1 e₁
+    let r₁ = records-split p q (records_in_type k u) (records_in_types (k + constructor_count u) ds) r in
+    let (s, es, e₁) = then_some (denoted (meanings naming_by_spelling env) k u) (λ s. declare_types naming_by_spelling ((x, a_type s) ∷ env) (k + constructor_count u) ds) after e in
+    types-agree p q ((x, a_type s) ∷ env) (k + constructor_count u) ds after (denoted-agrees p q (object_in env) (objects-agree p q env h) k u s r₁.0 es, h) r₁.1 e₁
 
-variables-agree : (p q : FieldNames) (env : TypeEnvironment Name) (k : ℕ) (gs : Tree Name (items variable)) (after : TypeEnvironment Name) → EnvironmentAgrees p q env → RecordsAgree p q (records_in_variables k gs) → declare_typed as_names k gs env ≡ Some after → EnvironmentAgrees p q after
+variables-agree : (p q : FieldRenaming) (env : TypeEnvironment Name) (k : ℕ) (gs : Tree Name (items variable)) (after : TypeEnvironment Name) → EnvironmentAgrees p q env → RecordsAgree p q (records_in_variables k gs) → declare_typed naming_by_spelling k gs env ≡ Some after → EnvironmentAgrees p q after
 unfolding declare_typed
 variables-agree p q env k end after h r e = subst (EnvironmentAgrees p q) (some_inverse {a = env} {b = after} e) h
 variables-agree p q env k (more (declares_variable ns u) gs) after h r e =
-    let r₁ = records-split p q (records_in_type k u) (records_in_variables (k + constructors u) gs) r in
-    let (s, es, e₁) = then_some (denoted (meanings as_names env) k u) (λ s. declare_typed as_names (k + constructors u) gs (bind_names (names_listed ns) (a_variable s) env)) after e in
-    variables-agree p q (bind_names (names_listed ns) (a_variable s) env) (k + constructors u) gs after
-    (bind_names-agree p q (names_listed ns) (a_variable s) env (denoted-agrees p q (object_in env) (objects-agree p q env h) k u s r₁.0 es) h) r₁.1 e₁
+    let r₁ = records-split p q (records_in_type k u) (records_in_variables (k + constructor_count u) gs) r in
+    let (s, es, e₁) = then_some (denoted (meanings naming_by_spelling env) k u) (λ s. declare_typed naming_by_spelling (k + constructor_count u) gs (bind_names (names_in_list ns) (a_variable s) env)) after e in
+    variables-agree p q (bind_names (names_in_list ns) (a_variable s) env) (k + constructor_count u) gs after
+    (bind_names-agree p q (names_in_list ns) (a_variable s) env (denoted-agrees p q (object_in env) (objects-agree p q env h) k u s r₁.0 es) h) r₁.1 e₁
 
-parameters-join : (p q : FieldNames) (m : Mode) (s : Shape) (xs : List Name) (rest : List (TypedParameter Name)) → ShapeAgrees p q s → ParametersAgree p q rest → ParametersAgree p q (map (parameter_of m s) xs ++ rest)
+parameters-join : (p q : FieldRenaming) (m : Mode) (s : Shape) (xs : List Name) (rest : List (TypedParameter Name)) → ShapeAgrees p q s → ParametersAgree p q rest → ParametersAgree p q (map (parameter_of m s) xs ++ rest)
 parameters-join p q m s [] rest h k = k
 parameters-join p q m s (x ∷ xs) rest h k = (h, parameters-join p q m s xs rest h k)
 
-parameters-agree : (p q : FieldNames) (env : TypeEnvironment Name) (k : ℕ) (fs : Tree Name (items further_section)) (ps : List (TypedParameter Name)) → EnvironmentAgrees p q env → RecordsAgree p q (records_in_sections k fs) → typed_parameters as_names env k fs ≡ Some ps → ParametersAgree p q ps
+parameters-agree : (p q : FieldRenaming) (env : TypeEnvironment Name) (k : ℕ) (fs : Tree Name (items further_section)) (ps : List (TypedParameter Name)) → EnvironmentAgrees p q env → RecordsAgree p q (records_in_sections k fs) → typed_parameters naming_by_spelling env k fs ≡ Some ps → ParametersAgree p q ps
 unfolding typed_parameters
 parameters-agree p q env k end ps h r e = subst (ParametersAgree p q) (some_inverse {a = []} {b = ps} e) tt
 parameters-agree p q env k (more (then_section f) fs) ps h r e =
-    let r₁ = records-split p q (records_in_type k (section_type f)) (records_in_sections (k + constructors (section_type f)) fs) r in
-    let (s, es, e₁) = then_some (denoted (meanings as_names env) k (section_type f)) (λ s. option_and_then (λ rest. Some (map (parameter_of (section_mode f) s) (section_names f) ++ rest)) (typed_parameters as_names (bind_names (section_names f) (a_variable s) env) (k + constructors (section_type f)) fs)) ps e in
-    let (rest, er, e₂) = then_some (typed_parameters as_names (bind_names (section_names f) (a_variable s) env) (k + constructors (section_type f)) fs) (λ rest. Some (map (parameter_of (section_mode f) s) (section_names f) ++ rest)) ps e₁ in
+    let r₁ = records-split p q (records_in_type k (section_type f)) (records_in_sections (k + constructor_count (section_type f)) fs) r in
+    let (s, es, e₁) = then_some (denoted (meanings naming_by_spelling env) k (section_type f)) (λ s. option_and_then (λ rest. Some (map (parameter_of (section_mode f) s) (section_names f) ++ rest)) (typed_parameters naming_by_spelling (bind_names (section_names f) (a_variable s) env) (k + constructor_count (section_type f)) fs)) ps e in
+    let (rest, er, e₂) = then_some (typed_parameters naming_by_spelling (bind_names (section_names f) (a_variable s) env) (k + constructor_count (section_type f)) fs) (λ rest. Some (map (parameter_of (section_mode f) s) (section_names f) ++ rest)) ps e₁ in
     let agrees : ShapeAgrees p q s = denoted-agrees p q (object_in env) (objects-agree p q env h) k (section_type f) s r₁.0 es in
     subst (ParametersAgree p q) (some_inverse {a = map (parameter_of (section_mode f) s) (section_names f) ++ rest} {b = ps} e₂)
     (parameters-join p q (section_mode f) s (section_names f) rest agrees
-    (parameters-agree p q (bind_names (section_names f) (a_variable s) env) (k + constructors (section_type f)) fs rest (bind_names-agree p q (section_names f) (a_variable s) env agrees h) r₁.1 er))
+    (parameters-agree p q (bind_names (section_names f) (a_variable s) env) (k + constructor_count (section_type f)) fs rest (bind_names-agree p q (section_names f) (a_variable s) env agrees h) r₁.1 er))
 
 -- The texts of declarations are the same under two functions that agree on their records.
 
-types-alike : (p q : FieldNames) (k : ℕ) (ds : Tree Name (items type_name)) → RecordsAgree p q (records_in_types k ds) → refield_types p k ds ≡ refield_types q k ds
+types-alike : (p q : FieldRenaming) (k : ℕ) (ds : Tree Name (items type_name)) → RecordsAgree p q (records_in_types k ds) → rename_fields_in_types p k ds ≡ rename_fields_in_types q k ds
 types-alike p q k end r = refl
 types-alike p q k (more (declares_type x u) ds) r =
-    let r₁ = records-split p q (records_in_type k u) (records_in_types (k + constructors u) ds) r in λ i. more (declares_type x (type-alike p q k u r₁.0 i)) (types-alike p q (k + constructors u) ds r₁.1 i)
+    let r₁ = records-split p q (records_in_type k u) (records_in_types (k + constructor_count u) ds) r in λ i. more (declares_type x (type-alike p q k u r₁.0 i)) (types-alike p q (k + constructor_count u) ds r₁.1 i)
 
-type_section-alike : (p q : FieldNames) (k : ℕ) (ts : Tree Name (maybe type_names)) → RecordsAgree p q (records_in_types k (section_types ts)) → refield_type_section p k ts ≡ refield_type_section q k ts
+type_section-alike : (p q : FieldRenaming) (k : ℕ) (ts : Tree Name (maybe type_names)) → RecordsAgree p q (records_in_types k (section_types ts)) → rename_fields_in_type_section p k ts ≡ rename_fields_in_type_section q k ts
 type_section-alike p q k none r = refl
 type_section-alike p q k (one (declares_types ts)) r = λ i. one (declares_types (types-alike p q k ts r i))
 
-variables-alike : (p q : FieldNames) (k : ℕ) (gs : Tree Name (items variable)) → RecordsAgree p q (records_in_variables k gs) → refield_variables p k gs ≡ refield_variables q k gs
+variables-alike : (p q : FieldRenaming) (k : ℕ) (gs : Tree Name (items variable)) → RecordsAgree p q (records_in_variables k gs) → rename_fields_in_variables p k gs ≡ rename_fields_in_variables q k gs
 variables-alike p q k end r = refl
 variables-alike p q k (more (declares_variable ns u) gs) r =
-    let r₁ = records-split p q (records_in_type k u) (records_in_variables (k + constructors u) gs) r in λ i. more (declares_variable ns (type-alike p q k u r₁.0 i)) (variables-alike p q (k + constructors u) gs r₁.1 i)
+    let r₁ = records-split p q (records_in_type k u) (records_in_variables (k + constructor_count u) gs) r in λ i. more (declares_variable ns (type-alike p q k u r₁.0 i)) (variables-alike p q (k + constructor_count u) gs r₁.1 i)
 
-variable_section-alike : (p q : FieldNames) (k : ℕ) (vs : Tree Name (maybe variables)) → RecordsAgree p q (records_in_variables k (section_variables vs)) → refield_variable_section p k vs ≡ refield_variable_section q k vs
+variable_section-alike : (p q : FieldRenaming) (k : ℕ) (vs : Tree Name (maybe variables)) → RecordsAgree p q (records_in_variables k (section_variables vs)) → rename_fields_in_variable_section p k vs ≡ rename_fields_in_variable_section q k vs
 variable_section-alike p q k none r = refl
 variable_section-alike p q k (one (declares_variables vs)) r = λ i. one (declares_variables (variables-alike p q k vs r i))
 
-section-alike : (p q : FieldNames) (k : ℕ) (f : Tree Name section) → RecordsAgree p q (records_in_type k (section_type f)) → refield_section p k f ≡ refield_section q k f
+section-alike : (p q : FieldRenaming) (k : ℕ) (f : Tree Name section) → RecordsAgree p q (records_in_type k (section_type f)) → rename_fields_in_section p k f ≡ rename_fields_in_section q k f
 section-alike p q k (value_section ns u) r = λ i. value_section ns (type-alike p q k u r i)
 section-alike p q k (variable_section ns u) r = λ i. variable_section ns (type-alike p q k u r i)
 
-sections-alike : (p q : FieldNames) (k : ℕ) (fs : Tree Name (items further_section)) → RecordsAgree p q (records_in_sections k fs) → refield_sections p k fs ≡ refield_sections q k fs
+sections-alike : (p q : FieldRenaming) (k : ℕ) (fs : Tree Name (items further_section)) → RecordsAgree p q (records_in_sections k fs) → rename_fields_in_sections p k fs ≡ rename_fields_in_sections q k fs
 sections-alike p q k end r = refl
 sections-alike p q k (more (then_section f) fs) r =
-    let r₁ = records-split p q (records_in_type k (section_type f)) (records_in_sections (k + constructors (section_type f)) fs) r in
-    λ i. more (then_section (section-alike p q k f r₁.0 i)) (sections-alike p q (k + constructors (section_type f)) fs r₁.1 i)
+    let r₁ = records-split p q (records_in_type k (section_type f)) (records_in_sections (k + constructor_count (section_type f)) fs) r in
+    λ i. more (then_section (section-alike p q k f r₁.0 i)) (sections-alike p q (k + constructor_count (section_type f)) fs r₁.1 i)
 
-formals-alike : (p q : FieldNames) (k : ℕ) (fs : Tree Name (maybe formals)) → RecordsAgree p q (records_in_sections k (formal_sections fs)) → refield_formals p k fs ≡ refield_formals q k fs
+formals-alike : (p q : FieldRenaming) (k : ℕ) (fs : Tree Name (maybe formals)) → RecordsAgree p q (records_in_sections k (formal_sections fs)) → rename_fields_in_formals p k fs ≡ rename_fields_in_formals q k fs
 formals-alike p q k none r = refl
 formals-alike p q k (one no_formals) r = refl
 formals-alike p q k (one (some_formals f fs)) r =
-    let r₁ = records-split p q (records_in_type k (section_type f)) (records_in_sections (k + constructors (section_type f)) fs) r in
-    λ i. one (some_formals (section-alike p q k f r₁.0 i) (sections-alike p q (k + constructors (section_type f)) fs r₁.1 i))
+    let r₁ = records-split p q (records_in_type k (section_type f)) (records_in_sections (k + constructor_count (section_type f)) fs) r in
+    λ i. one (some_formals (section-alike p q k f r₁.0 i) (sections-alike p q (k + constructor_count (section_type f)) fs r₁.1 i))
 
-procedure-records : (p q : FieldNames) (k : ℕ) (a : Tree Name (item procedure)) → RecordsAgree p q (records_in_procedure k a) → RecordsAgree p q (records_in_sections k (procedure_formals a))
-procedure-records p q k (declares_procedure x fs b closing) r = (records-split p q (records_in_sections k (formal_sections fs)) (records_in_block (after_formals k (declares_procedure x fs b closing)) b) r).0
+procedure-records : (p q : FieldRenaming) (k : ℕ) (a : Tree Name (item procedure)) → RecordsAgree p q (records_in_procedure k a) → RecordsAgree p q (records_in_sections k (procedure_formals a))
+procedure-records p q k (declares_procedure x fs b closing) r = (records-split p q (records_in_sections k (formal_sections fs)) (records_in_block (constructor_after_formals k (declares_procedure x fs b closing)) b) r).0
 
 -- A well-typed block is the same under two functions that agree on its environment and its records.
 
-body-alike : (p q : FieldNames) (env : TypeEnvironment Name) (statements : Tree Name (maybe body)) → EnvironmentAgrees p q env → body_fits as_names env statements ≡ true
-    → refield p (meanings as_names env) None statements ≡ refield q (meanings as_names env) None statements
+body-alike : (p q : FieldRenaming) (env : TypeEnvironment Name) (statements : Tree Name (maybe body)) → EnvironmentAgrees p q env → body_fits naming_by_spelling env statements ≡ true
+    → rename_fields p (meanings naming_by_spelling env) None statements ≡ rename_fields q (meanings naming_by_spelling env) None statements
 unfolding body_fits
 body-alike p q env none h e = refl
 body-alike p q env (one (begins a)) h e = λ i. one (begins (sequence-alike p q (object_in env) (objects-agree p q env h) a e i))
 
-abbrev ProceduresAlike : FieldNames → FieldNames → TypeEnvironment Name → ℕ → Tree Name (maybe body) → Tree Name (items procedure) → Type 0
+abbrev ProceduresAlike : FieldRenaming → FieldRenaming → TypeEnvironment Name → ℕ → Tree Name (maybe body) → Tree Name (items procedure) → Type 0
 ProceduresAlike p q env k statements ps =
-    (refield_procedures p env k ps ≡ refield_procedures q env k ps)
-    × (refield p (meanings as_names (types_after_procedures env k ps)) None statements ≡ refield q (meanings as_names (types_after_procedures env k ps)) None statements)
+    (rename_fields_in_procedures p env k ps ≡ rename_fields_in_procedures q env k ps)
+    × (rename_fields p (meanings naming_by_spelling (environment_after_procedures env k ps)) None statements ≡ rename_fields q (meanings naming_by_spelling (environment_after_procedures env k ps)) None statements)
 
 mutual
   unfolding block_fits
 
-  pub block-alike : (p q : FieldNames) (env : TypeEnvironment Name) (k : ℕ) (b : Tree Name block) → EnvironmentAgrees p q env → RecordsAgree p q (records_in_block k b) → block_fits as_names env k b ≡ true → refield_block p env k b ≡ refield_block q env k b
+  pub block-alike : (p q : FieldRenaming) (env : TypeEnvironment Name) (k : ℕ) (b : Tree Name block) → EnvironmentAgrees p q env → RecordsAgree p q (records_in_block k b) → block_fits naming_by_spelling env k b ≡ true → rename_fields_in_block p env k b ≡ rename_fields_in_block q env k b
   block-alike p q env k (has_body (declares cs ts vs ps) statements) h r e =
       let b : Tree Name block = has_body (declares cs ts vs ps) statements in
-      let r₁ = records-split p q (records_in_types k (section_types ts)) (records_in_variables (after_types k b) (section_variables vs) ++ records_in_procedures (after_variables k b) ps) r in
-      let r₂ = records-split p q (records_in_variables (after_types k b) (section_variables vs)) (records_in_procedures (after_variables k b) ps) r₁.1 in
-      let (inner, e₁, e₂) = hold-true (option_and_then (declare_typed as_names (after_types k b) (section_variables vs)) (declare_first as_names env k b)) (λ inner. procedures_fit as_names inner (after_variables k b) statements ps) e in
-      let (first, ef, e₃) = then_some (declare_first as_names env k b) (declare_typed as_names (after_types k b) (section_variables vs)) inner e₁ in
-      let (consts, ec, e₄) = then_some (declare_constants as_names env (section_constants cs)) (λ env. declare_types as_names env k (section_types ts)) first ef in
+      let r₁ = records-split p q (records_in_types k (section_types ts)) (records_in_variables (constructor_after_types k b) (section_variables vs) ++ records_in_procedures (constructor_after_variables k b) ps) r in
+      let r₂ = records-split p q (records_in_variables (constructor_after_types k b) (section_variables vs)) (records_in_procedures (constructor_after_variables k b) ps) r₁.1 in
+      let (inner, e₁, e₂) = hold-true (option_and_then (declare_typed naming_by_spelling (constructor_after_types k b) (section_variables vs)) (declare_first naming_by_spelling env k b)) (λ inner. procedures_fit naming_by_spelling inner (constructor_after_variables k b) statements ps) e in
+      let (first, ef, e₃) = then_some (declare_first naming_by_spelling env k b) (declare_typed naming_by_spelling (constructor_after_types k b) (section_variables vs)) inner e₁ in
+      let (consts, ec, e₄) = then_some (declare_constants naming_by_spelling env (section_constants cs)) (λ env. declare_types naming_by_spelling env k (section_types ts)) first ef in
       let agrees : EnvironmentAgrees p q inner =
-      variables-agree p q first (after_types k b) (section_variables vs) inner (types-agree p q consts k (section_types ts) first (constants-agree p q env (section_constants cs) consts h ec) r₁.0 e₄) r₂.0 e₃ in
-      let alike = subst (λ inner. ProceduresAlike p q inner (after_variables k b) statements ps) (sym (ap (λ o. unwrap_or o env) e₁)) (procedures-alike p q inner (after_variables k b) statements ps agrees r₂.1 e₂) in
-      λ i. has_body (declares cs (type_section-alike p q k ts r₁.0 i) (variable_section-alike p q (after_types k b) vs r₂.0 i) (alike.0 i)) (alike.1 i)
+      variables-agree p q first (constructor_after_types k b) (section_variables vs) inner (types-agree p q consts k (section_types ts) first (constants-agree p q env (section_constants cs) consts h ec) r₁.0 e₄) r₂.0 e₃ in
+      let alike = subst (λ inner. ProceduresAlike p q inner (constructor_after_variables k b) statements ps) (sym (ap (λ o. unwrap_or o env) e₁)) (procedures-alike p q inner (constructor_after_variables k b) statements ps agrees r₂.1 e₂) in
+      λ i. has_body (declares cs (type_section-alike p q k ts r₁.0 i) (variable_section-alike p q (constructor_after_types k b) vs r₂.0 i) (alike.0 i)) (alike.1 i)
 
-  pub procedures-alike : (p q : FieldNames) (env : TypeEnvironment Name) (k : ℕ) (statements : Tree Name (maybe body)) (ps : Tree Name (items procedure)) → EnvironmentAgrees p q env → RecordsAgree p q (records_in_procedures k ps)
-      → procedures_fit as_names env k statements ps ≡ true → ProceduresAlike p q env k statements ps
+  pub procedures-alike : (p q : FieldRenaming) (env : TypeEnvironment Name) (k : ℕ) (statements : Tree Name (maybe body)) (ps : Tree Name (items procedure)) → EnvironmentAgrees p q env → RecordsAgree p q (records_in_procedures k ps)
+      → procedures_fit naming_by_spelling env k statements ps ≡ true → ProceduresAlike p q env k statements ps
   procedures-alike p q env k statements end h r e = (refl, body-alike p q env statements h e)
   procedures-alike p q env k statements (more a rest) h r e =
-      let r₁ = records-split p q (records_in_procedure k a) (records_in_procedures (k + procedure_constructors a) rest) r in
-      let (qs, eqs, e₁) = hold-true (typed_parameters as_names env k (procedure_formals a)) (λ qs. procedure_fits as_names (bind_typed qs (heading (procedure_name a) qs env)) k a && procedures_fit as_names (heading (procedure_name a) qs env) (k + procedure_constructors a) statements rest) e in
-      let both = both_true (procedure_fits as_names (bind_typed qs (heading (procedure_name a) qs env)) k a) (procedures_fit as_names (heading (procedure_name a) qs env) (k + procedure_constructors a) statements rest) e₁ in
+      let r₁ = records-split p q (records_in_procedure k a) (records_in_procedures (k + procedure_constructor_count a) rest) r in
+      let (qs, eqs, e₁) = hold-true (typed_parameters naming_by_spelling env k (procedure_formals a)) (λ qs. procedure_fits naming_by_spelling (bind_typed_parameters qs (bind_procedure (procedure_name a) qs env)) k a && procedures_fit naming_by_spelling (bind_procedure (procedure_name a) qs env) (k + procedure_constructor_count a) statements rest) e in
+      let both = both_true (procedure_fits naming_by_spelling (bind_typed_parameters qs (bind_procedure (procedure_name a) qs env)) k a) (procedures_fit naming_by_spelling (bind_procedure (procedure_name a) qs env) (k + procedure_constructor_count a) statements rest) e₁ in
       let agree = parameters-agree p q env k (procedure_formals a) qs h (procedure-records p q k a r₁.0) eqs in
-      let own : refield_procedure p (bind_typed qs (heading (procedure_name a) qs env)) k a ≡ refield_procedure q (bind_typed qs (heading (procedure_name a) qs env)) k a =
-      procedure-alike p q (bind_typed qs (heading (procedure_name a) qs env)) k a (bind_typed-agrees p q qs (heading (procedure_name a) qs env) agree (tt, h)) r₁.0 both.0 in
-      let others : ProceduresAlike p q (heading (procedure_name a) qs env) (k + procedure_constructors a) statements rest =
-      procedures-alike p q (heading (procedure_name a) qs env) (k + procedure_constructors a) statements rest (tt, h) r₁.1 both.1 in
-      subst (λ qs. (more (refield_procedure p (bind_typed qs (heading (procedure_name a) qs env)) k a) (refield_procedures p (heading (procedure_name a) qs env) (k + procedure_constructors a) rest)
-      ≡ more (refield_procedure q (bind_typed qs (heading (procedure_name a) qs env)) k a) (refield_procedures q (heading (procedure_name a) qs env) (k + procedure_constructors a) rest))
-      × (refield p (meanings as_names (types_after_procedures (heading (procedure_name a) qs env) (k + procedure_constructors a) rest)) None statements ≡ refield q (meanings as_names (types_after_procedures (heading (procedure_name a) qs env) (k + procedure_constructors a) rest)) None statements))
+      let own : rename_fields_in_procedure p (bind_typed_parameters qs (bind_procedure (procedure_name a) qs env)) k a ≡ rename_fields_in_procedure q (bind_typed_parameters qs (bind_procedure (procedure_name a) qs env)) k a =
+      procedure-alike p q (bind_typed_parameters qs (bind_procedure (procedure_name a) qs env)) k a (bind_typed_parameters-agrees p q qs (bind_procedure (procedure_name a) qs env) agree (tt, h)) r₁.0 both.0 in
+      let others : ProceduresAlike p q (bind_procedure (procedure_name a) qs env) (k + procedure_constructor_count a) statements rest =
+      procedures-alike p q (bind_procedure (procedure_name a) qs env) (k + procedure_constructor_count a) statements rest (tt, h) r₁.1 both.1 in
+      subst (λ qs. (more (rename_fields_in_procedure p (bind_typed_parameters qs (bind_procedure (procedure_name a) qs env)) k a) (rename_fields_in_procedures p (bind_procedure (procedure_name a) qs env) (k + procedure_constructor_count a) rest)
+      ≡ more (rename_fields_in_procedure q (bind_typed_parameters qs (bind_procedure (procedure_name a) qs env)) k a) (rename_fields_in_procedures q (bind_procedure (procedure_name a) qs env) (k + procedure_constructor_count a) rest))
+      × (rename_fields p (meanings naming_by_spelling (environment_after_procedures (bind_procedure (procedure_name a) qs env) (k + procedure_constructor_count a) rest)) None statements ≡ rename_fields q (meanings naming_by_spelling (environment_after_procedures (bind_procedure (procedure_name a) qs env) (k + procedure_constructor_count a) rest)) None statements))
       (sym (ap (λ o. unwrap_or o []) eqs)) (λ i. more (own i) (others.0 i), others.1)
 
-  pub procedure-alike : (p q : FieldNames) (env : TypeEnvironment Name) (k : ℕ) (a : Tree Name (item procedure)) → EnvironmentAgrees p q env → RecordsAgree p q (records_in_procedure k a) → procedure_fits as_names env k a ≡ true
-      → refield_procedure p env k a ≡ refield_procedure q env k a
+  pub procedure-alike : (p q : FieldRenaming) (env : TypeEnvironment Name) (k : ℕ) (a : Tree Name (item procedure)) → EnvironmentAgrees p q env → RecordsAgree p q (records_in_procedure k a) → procedure_fits naming_by_spelling env k a ≡ true
+      → rename_fields_in_procedure p env k a ≡ rename_fields_in_procedure q env k a
   procedure-alike p q env k (declares_procedure x fs b closing) h r e =
-      let r₁ = records-split p q (records_in_sections k (formal_sections fs)) (records_in_block (after_formals k (declares_procedure x fs b closing)) b) r in
-      λ i. declares_procedure x (formals-alike p q k fs r₁.0 i) (block-alike p q env (k + formals_constructors (formal_sections fs)) b h r₁.1 e i) closing
+      let r₁ = records-split p q (records_in_sections k (formal_sections fs)) (records_in_block (constructor_after_formals k (declares_procedure x fs b closing)) b) r in
+      λ i. declares_procedure x (formals-alike p q k fs r₁.0 i) (block-alike p q env (k + formals_constructor_count (formal_sections fs)) b h r₁.1 e i) closing
 
-pub module-alike : (p q : FieldNames) (m : Tree Name module_text) → RecordsAgree p q (records m) → fits_over as_names m ≡ true → refielded p m ≡ refielded q m
+pub module-alike : (p q : FieldRenaming) (m : Tree Name module_text) → RecordsAgree p q (records m) → fits_over naming_by_spelling m ≡ true → rename_fields_in_module p m ≡ rename_fields_in_module q m
 unfolding fits_over
-module-alike p q (is_module x b closing) r e = λ i. is_module x (block-alike p q (outermost as_names) 0 b (tt, (tt, (tt, (tt, (tt, (tt, (tt, tt))))))) r e i) closing
+module-alike p q (is_module x b closing) r e = λ i. is_module x (block-alike p q (outermost naming_by_spelling) 0 b (tt, (tt, (tt, (tt, (tt, (tt, (tt, tt))))))) r e i) closing

@@ -7,7 +7,7 @@ use Rattle.ob0_language_names.proofs.WorkedTrees as worked
 use Rattle.ob0_language_names.proofs.WorkedTrees.{alone}
 use Rattle.ob0_language_types.specs.Declarations.{declare_first}
 use Rattle.ob0_language_types.specs.WellTyped.{declare_typed, typed_parameters}
-use Rattle.ob0_language_fields.specs.Renaming.{FieldFree, field_renamed, is_duplicate_field, records}
+use Rattle.ob0_language_fields.specs.Renaming.{IsFreeFieldName, with_renamed_field, is_duplicate_field, records}
 
 -- TYPE R = RECORD a, b: INTEGER END; VAR r: R; s: RECORD a: INTEGER END; a: INTEGER; BEGIN r.a :=
 -- 1; s.a := 2; a := r.a + s.a; Write(a) END M.
@@ -16,7 +16,7 @@ abbrev two_records_renamed : Tree Name module_text
 two_records_renamed =
     is_module (codes "M") (has_body (declares none (one (declares_types (more (declares_type (codes "R") (record_type (some_fields (listed (codes "c") (more (then_name (codes "b")) end)) (named_type (codes "INTEGER"))) end)) end))) (one (declares_variables (more (declares_variable (listed (codes "r") end) (named_type (codes "R"))) (more (declares_variable (listed (codes "s") end) (record_type (some_fields (listed (codes "a") end) (named_type (codes "INTEGER"))) end)) (more (declares_variable (listed (codes "a") end) (named_type (codes "INTEGER"))) end))))) end) (one (begins (runs (assigns (codes "r") (more (field (codes "c")) end) (alone (integer 1))) (more (then_statement (assigns (codes "s") (more (field (codes "a")) end) (alone (integer 2)))) (more (then_statement (assigns (codes "a") end (compares (sum None (product (designator (codes "r") (more (field (codes "c")) end)) end) (more (adds add_operator.Add (product (designator (codes "s") (more (field (codes "a")) end)) end)) end)) none))) (more (then_statement (calls (codes "Write") (one (some_arguments (alone (designator (codes "a") end)) end)))) end))))))) (codes "M")
 
-pub first_record-renamed : field_renamed worked.records 0 (codes "a") (codes "c") ≡ two_records_renamed
+pub first_record-renamed : with_renamed_field worked.records 0 (codes "a") (codes "c") ≡ two_records_renamed
 unfolding declare_first declare_typed typed_parameters
 first_record-renamed = refl
 
@@ -24,16 +24,16 @@ pub records-of_two : records worked.records ≡ record { ordinal = 0; declared =
 records-of_two = refl
 
 -- The field a of the first record can be renamed to c, to r and to a itself, and the field a of the second record to b.
-pub to_c-free : FieldFree worked.records 0 (codes "a") (codes "c")
+pub to_c-free : IsFreeFieldName worked.records 0 (codes "a") (codes "c")
 to_c-free = refl
 
-pub to_r-free : FieldFree worked.records 0 (codes "a") (codes "r")
+pub to_r-free : IsFreeFieldName worked.records 0 (codes "a") (codes "r")
 to_r-free = refl
 
-pub to_itself-free : FieldFree worked.records 0 (codes "a") (codes "a")
+pub to_itself-free : IsFreeFieldName worked.records 0 (codes "a") (codes "a")
 to_itself-free = refl
 
-pub second_record-free : FieldFree worked.records 1 (codes "a") (codes "b")
+pub second_record-free : IsFreeFieldName worked.records 1 (codes "a") (codes "b")
 second_record-free = refl
 
 -- The field a of the first record can't be renamed to b, because this record has another field b.
@@ -57,16 +57,16 @@ nested outer inner =
     (one (begins (runs (calls (codes "S") (one (some_arguments (alone (designator (codes "p") end)) (more (then_argument (alone (designator (codes "p") (more (field outer) end)))) end)))) end))))
     (codes "M")
 
-pub outer-renamed : field_renamed (nested (codes "x") (codes "x")) 0 (codes "x") (codes "y") ≡ nested (codes "y") (codes "x")
+pub outer-renamed : with_renamed_field (nested (codes "x") (codes "x")) 0 (codes "x") (codes "y") ≡ nested (codes "y") (codes "x")
 unfolding declare_first declare_typed typed_parameters
 outer-renamed = refl
 
-pub inner-renamed : field_renamed (nested (codes "x") (codes "x")) 2 (codes "x") (codes "y") ≡ nested (codes "x") (codes "y")
+pub inner-renamed : with_renamed_field (nested (codes "x") (codes "x")) 2 (codes "x") (codes "y") ≡ nested (codes "x") (codes "y")
 unfolding declare_first declare_typed typed_parameters
 inner-renamed = refl
 
 -- An array has no fields. So renaming a field of the type with an array's ordinal changes nothing.
-pub array-renamed : field_renamed (nested (codes "x") (codes "x")) 1 (codes "x") (codes "y") ≡ nested (codes "x") (codes "x")
+pub array-renamed : with_renamed_field (nested (codes "x") (codes "x")) 1 (codes "x") (codes "y") ≡ nested (codes "x") (codes "x")
 unfolding declare_first declare_typed typed_parameters
 array-renamed = refl
 
@@ -88,10 +88,10 @@ hidden outer inner =
     (one (begins (runs (calls (codes "P") none) (more (then_statement (assigns (codes "v") (more (field outer) end) (alone (integer 0)))) end)))))
     (codes "M")
 
-pub hiding-renamed : field_renamed (hidden (codes "a") (codes "a")) 1 (codes "a") (codes "b") ≡ hidden (codes "a") (codes "b")
+pub hiding-renamed : with_renamed_field (hidden (codes "a") (codes "a")) 1 (codes "a") (codes "b") ≡ hidden (codes "a") (codes "b")
 unfolding declare_first declare_typed typed_parameters
 hiding-renamed = refl
 
-pub hidden-renamed : field_renamed (hidden (codes "a") (codes "a")) 0 (codes "a") (codes "b") ≡ hidden (codes "b") (codes "a")
+pub hidden-renamed : with_renamed_field (hidden (codes "a") (codes "a")) 0 (codes "a") (codes "b") ≡ hidden (codes "b") (codes "a")
 unfolding declare_first declare_typed typed_parameters
 hidden-renamed = refl

@@ -3,28 +3,28 @@
 -- or neither.
 use Rattle.std.proofs.Common.{Bool, List, [], add-zero, ap, arith, eqb-true, false, if◌then◌else◌, length, ne_eqb, refl, subst, suc, sym, true, ℕ, ◌&&◌, ◌++◌, ◌+◌, ◌<◌, ◌==◌, ◌∙◌, ◌∷◌, ◌≡◌}
 use Rattle.ob0_tree.specs.Tree.{Sort, Tree, adds, array_type, assigns, begins, block, branches, calls, compares, constant, constants, declares, declares_constant, declares_constants, declares_procedure, declares_type, declares_types, declares_variable, declares_variables, designator, else_branch, elsif_branch, empty, end, factor, field, further_name, has_body, index, integer, is_module, item, items, listed, maybe, module_text, more, multiplies, named_type, names, negation, no_arguments, no_fields, no_formals, none, occurrences, one, parenthesised, procedure, product, record_type, relates, repeat_loop, runs, some_arguments, some_fields, some_formals, sum, then_argument, then_fields, then_name, then_section, then_statement, value_section, variable_section, while_loop}
-use Rattle.ob0_language_names.specs.Inlining.{Uses, block_without, inline_in, inlined, module_without, procedure_without, procedures_without, section_without, without}
-use Rattle.ob0_language_names.specs.Mapping.{with_names}
+use Rattle.ob0_language_names.specs.Inlining.{OccurrenceSet, block_without, inline_in, inlined, module_without, procedure_without, procedures_without, section_without, constants_without}
+use Rattle.ob0_language_names.specs.Mapping.{map_names}
 use Rattle.ob0_language_names.specs.Names.{Name}
 use Rattle.ob0_language_names.specs.Parts.{formal_names, formal_sections}
-use Rattle.ob0_language_names.specs.Scopes.{after_names, after_procedure, first_procedure}
+use Rattle.ob0_language_names.specs.Scopes.{ordinal_after_names, ordinal_after_procedure, first_procedure_ordinal}
 
-abbrev pub UsesNone : Uses → ℕ → List Name → Type 0
+abbrev pub UsesNone : OccurrenceSet → ℕ → List Name → Type 0
 UsesNone uses k [] = Unit {0}
 UsesNone uses k (x ∷ xs) = (uses k ≡ false) × UsesNone uses (suc k) xs
 
-pub none-split : (uses : Uses) (k : ℕ) (xs ys : List Name) → UsesNone uses k (xs ++ ys) → UsesNone uses k xs × UsesNone uses (k + length xs) ys
+pub none-split : (uses : OccurrenceSet) (k : ℕ) (xs ys : List Name) → UsesNone uses k (xs ++ ys) → UsesNone uses k xs × UsesNone uses (k + length xs) ys
 none-split uses k [] ys h = (tt, subst (λ n. UsesNone uses n ys) (sym (add-zero k)) h)
 none-split uses k (x ∷ xs) ys h =
     let g = none-split uses (suc k) xs ys h.1 in
     let e : suc k + length xs ≡ k + suc (length xs) = omega arith in
     ((h.0, g.0), subst (λ n. UsesNone uses n ys) e g.1)
 
-further-nothing : (uses : Uses) (v : Tree Name factor) (k : ℕ) (ns : Tree Name (items further_name)) → inline_in uses v k ns ≡ ns
+further-nothing : (uses : OccurrenceSet) (v : Tree Name factor) (k : ℕ) (ns : Tree Name (items further_name)) → inline_in uses v k ns ≡ ns
 further-nothing uses v k end = refl
 further-nothing uses v k (more (then_name x) ns) = λ i. more (then_name x) (further-nothing uses v (k + 0) ns i)
 
-pub inline-nothing : {s : Sort} (uses : Uses) (v : Tree Name factor) (k : ℕ) (t : Tree Name s) → UsesNone uses k (occurrences t) → inline_in uses v k t ≡ t
+pub inline-nothing : {s : Sort} (uses : OccurrenceSet) (v : Tree Name factor) (k : ℕ) (t : Tree Name s) → UsesNone uses k (occurrences t) → inline_in uses v k t ≡ t
 inline-nothing uses v k none u = refl
 inline-nothing uses v k (one t) u = λ i. one (inline-nothing uses v k t u i)
 inline-nothing uses v k end u = refl
@@ -88,72 +88,72 @@ pub same-split : {N M : Type 0} (f g : N → M) (xs ys : List N) → SameAt f g 
 same-split f g [] ys h = (tt, h)
 same-split f g (x ∷ xs) ys h = let s = same-split f g xs ys h.1 in ((h.0, s.0), s.1)
 
-pub further-same : {N M : Type 0} (f g h : N → M) (ns : Tree N (items further_name)) → with_names f h ns ≡ with_names g h ns
+pub further-same : {N M : Type 0} (f g h : N → M) (ns : Tree N (items further_name)) → map_names f h ns ≡ map_names g h ns
 further-same f g h end = refl
 further-same f g h (more (then_name x) ns) = λ i. more (then_name (h x)) (further-same f g h ns i)
 
-pub names-same : {N M : Type 0} (f g h : N → M) (ns : Tree N names) → with_names f h ns ≡ with_names g h ns
+pub names-same : {N M : Type 0} (f g h : N → M) (ns : Tree N names) → map_names f h ns ≡ map_names g h ns
 names-same f g h (listed x ns) = λ i. listed (h x) (further-same f g h ns i)
 
-pub with_names-same : {N M : Type 0} {s : Sort} (f g h : N → M) (t : Tree N s) → SameAt f g (occurrences t) → with_names f h t ≡ with_names g h t
-with_names-same f g h none u = refl
-with_names-same f g h (one t) u = λ i. one (with_names-same f g h t u i)
-with_names-same f g h end u = refl
-with_names-same f g h (more t ts) u = let s0 = same-split f g (occurrences t) (occurrences ts) u in λ i. more (with_names-same f g h t s0.0 i) (with_names-same f g h ts s0.1 i)
-with_names-same f g h (compares left compared) u = let s0 = same-split f g (occurrences left) (occurrences compared) u in λ i. compares (with_names-same f g h left s0.0 i) (with_names-same f g h compared s0.1 i)
-with_names-same f g h (relates relation right) u = λ i. relates relation (with_names-same f g h right u i)
-with_names-same f g h (sum sign first terms) u = let s0 = same-split f g (occurrences first) (occurrences terms) u in λ i. sum sign (with_names-same f g h first s0.0 i) (with_names-same f g h terms s0.1 i)
-with_names-same f g h (adds operator t) u = λ i. adds operator (with_names-same f g h t u i)
-with_names-same f g h (product first factors) u = let s0 = same-split f g (occurrences first) (occurrences factors) u in λ i. product (with_names-same f g h first s0.0 i) (with_names-same f g h factors s0.1 i)
-with_names-same f g h (multiplies operator t0) u = λ i. multiplies operator (with_names-same f g h t0 u i)
-with_names-same f g h (designator name selectors) u = λ i. designator (u.0 i) (with_names-same f g h selectors u.1 i)
-with_names-same f g h (integer n) u = refl
-with_names-same f g h (parenthesised e) u = λ i. parenthesised (with_names-same f g h e u i)
-with_names-same f g h (negation t0) u = λ i. negation (with_names-same f g h t0 u i)
-with_names-same f g h (field name) u = refl
-with_names-same f g h (index e) u = λ i. index (with_names-same f g h e u i)
-with_names-same f g h empty u = refl
-with_names-same f g h (assigns name selectors e) u = let s0 = same-split f g (occurrences selectors) (occurrences e) u.1 in λ i. assigns (u.0 i) (with_names-same f g h selectors s0.0 i) (with_names-same f g h e s0.1 i)
-with_names-same f g h (calls name args) u = λ i. calls (u.0 i) (with_names-same f g h args u.1 i)
-with_names-same f g h (branches condition s elsifs rest) u = let s0 = same-split f g (occurrences condition) (occurrences s ++ (occurrences elsifs ++ (occurrences rest))) u in let s1 = same-split f g (occurrences s) (occurrences elsifs ++ (occurrences rest)) s0.1 in let s2 = same-split f g (occurrences elsifs) (occurrences rest) s1.1 in λ i. branches (with_names-same f g h condition s0.0 i) (with_names-same f g h s s1.0 i) (with_names-same f g h elsifs s2.0 i) (with_names-same f g h rest s2.1 i)
-with_names-same f g h (while_loop condition s) u = let s0 = same-split f g (occurrences condition) (occurrences s) u in λ i. while_loop (with_names-same f g h condition s0.0 i) (with_names-same f g h s s0.1 i)
-with_names-same f g h (repeat_loop s condition) u = let s0 = same-split f g (occurrences s) (occurrences condition) u in λ i. repeat_loop (with_names-same f g h s s0.0 i) (with_names-same f g h condition s0.1 i)
-with_names-same f g h no_arguments u = refl
-with_names-same f g h (some_arguments e es) u = let s0 = same-split f g (occurrences e) (occurrences es) u in λ i. some_arguments (with_names-same f g h e s0.0 i) (with_names-same f g h es s0.1 i)
-with_names-same f g h (then_argument e) u = λ i. then_argument (with_names-same f g h e u i)
-with_names-same f g h (runs first statements) u = let s0 = same-split f g (occurrences first) (occurrences statements) u in λ i. runs (with_names-same f g h first s0.0 i) (with_names-same f g h statements s0.1 i)
-with_names-same f g h (then_statement s) u = λ i. then_statement (with_names-same f g h s u i)
-with_names-same f g h (elsif_branch condition s) u = let s0 = same-split f g (occurrences condition) (occurrences s) u in λ i. elsif_branch (with_names-same f g h condition s0.0 i) (with_names-same f g h s s0.1 i)
-with_names-same f g h (else_branch s) u = λ i. else_branch (with_names-same f g h s u i)
-with_names-same f g h (listed name others) u = λ i. listed (h name) (further-same f g h others i)
-with_names-same f g h (then_name name) u = refl
-with_names-same f g h (named_type name) u = λ i. named_type (u.0 i)
-with_names-same f g h (array_type size t) u = let s0 = same-split f g (occurrences size) (occurrences t) u in λ i. array_type (with_names-same f g h size s0.0 i) (with_names-same f g h t s0.1 i)
-with_names-same f g h (record_type first others) u = let s0 = same-split f g (occurrences first) (occurrences others) u in λ i. record_type (with_names-same f g h first s0.0 i) (with_names-same f g h others s0.1 i)
-with_names-same f g h no_fields u = refl
-with_names-same f g h (some_fields ns t) u = λ i. some_fields (names-same f g h ns i) (with_names-same f g h t u i)
-with_names-same f g h (then_fields t0) u = λ i. then_fields (with_names-same f g h t0 u i)
-with_names-same f g h no_formals u = refl
-with_names-same f g h (some_formals first others) u = let s0 = same-split f g (occurrences first) (occurrences others) u in λ i. some_formals (with_names-same f g h first s0.0 i) (with_names-same f g h others s0.1 i)
-with_names-same f g h (value_section ns t) u = λ i. value_section (names-same f g h ns i) (with_names-same f g h t u i)
-with_names-same f g h (variable_section ns t) u = λ i. variable_section (names-same f g h ns i) (with_names-same f g h t u i)
-with_names-same f g h (then_section s) u = λ i. then_section (with_names-same f g h s u i)
-with_names-same f g h (declares_constant name e) u = λ i. declares_constant (h name) (with_names-same f g h e u i)
-with_names-same f g h (declares_constants cs) u = λ i. declares_constants (with_names-same f g h cs u i)
-with_names-same f g h (declares_type name t) u = λ i. declares_type (h name) (with_names-same f g h t u i)
-with_names-same f g h (declares_types ts) u = λ i. declares_types (with_names-same f g h ts u i)
-with_names-same f g h (declares_variable ns t) u = λ i. declares_variable (names-same f g h ns i) (with_names-same f g h t u i)
-with_names-same f g h (declares_variables vs) u = λ i. declares_variables (with_names-same f g h vs u i)
-with_names-same f g h (declares_procedure name fs b closing) u = let s0 = same-split f g (occurrences fs) (occurrences b) u in λ i. declares_procedure (h name) (with_names-same f g h fs s0.0 i) (with_names-same f g h b s0.1 i) (h closing)
-with_names-same f g h (declares cs ts vs ps) u = let s0 = same-split f g (occurrences cs) (occurrences ts ++ (occurrences vs ++ (occurrences ps))) u in let s1 = same-split f g (occurrences ts) (occurrences vs ++ (occurrences ps)) s0.1 in let s2 = same-split f g (occurrences vs) (occurrences ps) s1.1 in λ i. declares (with_names-same f g h cs s0.0 i) (with_names-same f g h ts s1.0 i) (with_names-same f g h vs s2.0 i) (with_names-same f g h ps s2.1 i)
-with_names-same f g h (begins s) u = λ i. begins (with_names-same f g h s u i)
-with_names-same f g h (has_body ds b) u = let s0 = same-split f g (occurrences ds) (occurrences b) u in λ i. has_body (with_names-same f g h ds s0.0 i) (with_names-same f g h b s0.1 i)
-with_names-same f g h (is_module name b closing) u = λ i. is_module (h name) (with_names-same f g h b u i) (h closing)
+pub map_names-same : {N M : Type 0} {s : Sort} (f g h : N → M) (t : Tree N s) → SameAt f g (occurrences t) → map_names f h t ≡ map_names g h t
+map_names-same f g h none u = refl
+map_names-same f g h (one t) u = λ i. one (map_names-same f g h t u i)
+map_names-same f g h end u = refl
+map_names-same f g h (more t ts) u = let s0 = same-split f g (occurrences t) (occurrences ts) u in λ i. more (map_names-same f g h t s0.0 i) (map_names-same f g h ts s0.1 i)
+map_names-same f g h (compares left compared) u = let s0 = same-split f g (occurrences left) (occurrences compared) u in λ i. compares (map_names-same f g h left s0.0 i) (map_names-same f g h compared s0.1 i)
+map_names-same f g h (relates relation right) u = λ i. relates relation (map_names-same f g h right u i)
+map_names-same f g h (sum sign first terms) u = let s0 = same-split f g (occurrences first) (occurrences terms) u in λ i. sum sign (map_names-same f g h first s0.0 i) (map_names-same f g h terms s0.1 i)
+map_names-same f g h (adds operator t) u = λ i. adds operator (map_names-same f g h t u i)
+map_names-same f g h (product first factors) u = let s0 = same-split f g (occurrences first) (occurrences factors) u in λ i. product (map_names-same f g h first s0.0 i) (map_names-same f g h factors s0.1 i)
+map_names-same f g h (multiplies operator t0) u = λ i. multiplies operator (map_names-same f g h t0 u i)
+map_names-same f g h (designator name selectors) u = λ i. designator (u.0 i) (map_names-same f g h selectors u.1 i)
+map_names-same f g h (integer n) u = refl
+map_names-same f g h (parenthesised e) u = λ i. parenthesised (map_names-same f g h e u i)
+map_names-same f g h (negation t0) u = λ i. negation (map_names-same f g h t0 u i)
+map_names-same f g h (field name) u = refl
+map_names-same f g h (index e) u = λ i. index (map_names-same f g h e u i)
+map_names-same f g h empty u = refl
+map_names-same f g h (assigns name selectors e) u = let s0 = same-split f g (occurrences selectors) (occurrences e) u.1 in λ i. assigns (u.0 i) (map_names-same f g h selectors s0.0 i) (map_names-same f g h e s0.1 i)
+map_names-same f g h (calls name args) u = λ i. calls (u.0 i) (map_names-same f g h args u.1 i)
+map_names-same f g h (branches condition s elsifs rest) u = let s0 = same-split f g (occurrences condition) (occurrences s ++ (occurrences elsifs ++ (occurrences rest))) u in let s1 = same-split f g (occurrences s) (occurrences elsifs ++ (occurrences rest)) s0.1 in let s2 = same-split f g (occurrences elsifs) (occurrences rest) s1.1 in λ i. branches (map_names-same f g h condition s0.0 i) (map_names-same f g h s s1.0 i) (map_names-same f g h elsifs s2.0 i) (map_names-same f g h rest s2.1 i)
+map_names-same f g h (while_loop condition s) u = let s0 = same-split f g (occurrences condition) (occurrences s) u in λ i. while_loop (map_names-same f g h condition s0.0 i) (map_names-same f g h s s0.1 i)
+map_names-same f g h (repeat_loop s condition) u = let s0 = same-split f g (occurrences s) (occurrences condition) u in λ i. repeat_loop (map_names-same f g h s s0.0 i) (map_names-same f g h condition s0.1 i)
+map_names-same f g h no_arguments u = refl
+map_names-same f g h (some_arguments e es) u = let s0 = same-split f g (occurrences e) (occurrences es) u in λ i. some_arguments (map_names-same f g h e s0.0 i) (map_names-same f g h es s0.1 i)
+map_names-same f g h (then_argument e) u = λ i. then_argument (map_names-same f g h e u i)
+map_names-same f g h (runs first statements) u = let s0 = same-split f g (occurrences first) (occurrences statements) u in λ i. runs (map_names-same f g h first s0.0 i) (map_names-same f g h statements s0.1 i)
+map_names-same f g h (then_statement s) u = λ i. then_statement (map_names-same f g h s u i)
+map_names-same f g h (elsif_branch condition s) u = let s0 = same-split f g (occurrences condition) (occurrences s) u in λ i. elsif_branch (map_names-same f g h condition s0.0 i) (map_names-same f g h s s0.1 i)
+map_names-same f g h (else_branch s) u = λ i. else_branch (map_names-same f g h s u i)
+map_names-same f g h (listed name others) u = λ i. listed (h name) (further-same f g h others i)
+map_names-same f g h (then_name name) u = refl
+map_names-same f g h (named_type name) u = λ i. named_type (u.0 i)
+map_names-same f g h (array_type size t) u = let s0 = same-split f g (occurrences size) (occurrences t) u in λ i. array_type (map_names-same f g h size s0.0 i) (map_names-same f g h t s0.1 i)
+map_names-same f g h (record_type first others) u = let s0 = same-split f g (occurrences first) (occurrences others) u in λ i. record_type (map_names-same f g h first s0.0 i) (map_names-same f g h others s0.1 i)
+map_names-same f g h no_fields u = refl
+map_names-same f g h (some_fields ns t) u = λ i. some_fields (names-same f g h ns i) (map_names-same f g h t u i)
+map_names-same f g h (then_fields t0) u = λ i. then_fields (map_names-same f g h t0 u i)
+map_names-same f g h no_formals u = refl
+map_names-same f g h (some_formals first others) u = let s0 = same-split f g (occurrences first) (occurrences others) u in λ i. some_formals (map_names-same f g h first s0.0 i) (map_names-same f g h others s0.1 i)
+map_names-same f g h (value_section ns t) u = λ i. value_section (names-same f g h ns i) (map_names-same f g h t u i)
+map_names-same f g h (variable_section ns t) u = λ i. variable_section (names-same f g h ns i) (map_names-same f g h t u i)
+map_names-same f g h (then_section s) u = λ i. then_section (map_names-same f g h s u i)
+map_names-same f g h (declares_constant name e) u = λ i. declares_constant (h name) (map_names-same f g h e u i)
+map_names-same f g h (declares_constants cs) u = λ i. declares_constants (map_names-same f g h cs u i)
+map_names-same f g h (declares_type name t) u = λ i. declares_type (h name) (map_names-same f g h t u i)
+map_names-same f g h (declares_types ts) u = λ i. declares_types (map_names-same f g h ts u i)
+map_names-same f g h (declares_variable ns t) u = λ i. declares_variable (names-same f g h ns i) (map_names-same f g h t u i)
+map_names-same f g h (declares_variables vs) u = λ i. declares_variables (map_names-same f g h vs u i)
+map_names-same f g h (declares_procedure name fs b closing) u = let s0 = same-split f g (occurrences fs) (occurrences b) u in λ i. declares_procedure (h name) (map_names-same f g h fs s0.0 i) (map_names-same f g h b s0.1 i) (h closing)
+map_names-same f g h (declares cs ts vs ps) u = let s0 = same-split f g (occurrences cs) (occurrences ts ++ (occurrences vs ++ (occurrences ps))) u in let s1 = same-split f g (occurrences ts) (occurrences vs ++ (occurrences ps)) s0.1 in let s2 = same-split f g (occurrences vs) (occurrences ps) s1.1 in λ i. declares (map_names-same f g h cs s0.0 i) (map_names-same f g h ts s1.0 i) (map_names-same f g h vs s2.0 i) (map_names-same f g h ps s2.1 i)
+map_names-same f g h (begins s) u = λ i. begins (map_names-same f g h s u i)
+map_names-same f g h (has_body ds b) u = let s0 = same-split f g (occurrences ds) (occurrences b) u in λ i. has_body (map_names-same f g h ds s0.0 i) (map_names-same f g h b s0.1 i)
+map_names-same f g h (is_module name b closing) u = λ i. is_module (h name) (map_names-same f g h b u i) (h closing)
 
 -- an edit: the occurrences that the literal replaces, the literal, the constant, and whether the constant's declaration
 -- is removed
 pub record Edit : Type 0 where
-  pub uses : Uses
+  pub uses : OccurrenceSet
   pub literal : Tree Name factor
   pub constant : ℕ
   pub gone : Bool
@@ -176,50 +176,50 @@ abbrev mutual
   edited_block edit j k (has_body (declares cs ts vs ps) statements) =
       has_body
       (declares (edited_section edit j k cs) (leaf edit (j + length (occurrences cs)) ts) (leaf edit (j + length (occurrences cs) + length (occurrences ts)) vs)
-      (edited_procedures edit (j + length (occurrences cs) + length (occurrences ts) + length (occurrences vs)) (first_procedure k (has_body (declares cs ts vs ps) statements)) ps))
+      (edited_procedures edit (j + length (occurrences cs) + length (occurrences ts) + length (occurrences vs)) (first_procedure_ordinal k (has_body (declares cs ts vs ps) statements)) ps))
       (leaf edit (j + length (occurrences (declares cs ts vs ps))) statements)
 
   pub edited_procedures : Edit → ℕ → ℕ → Tree Name (items procedure) → Tree Name (items procedure)
   edited_procedures edit j k end = end
-  edited_procedures edit j k (more p rest) = more (edited_procedure edit j (suc k) p) (edited_procedures edit (j + length (occurrences p)) (after_procedure (suc k) p) rest)
+  edited_procedures edit j k (more p rest) = more (edited_procedure edit j (suc k) p) (edited_procedures edit (j + length (occurrences p)) (ordinal_after_procedure (suc k) p) rest)
 
   pub edited_procedure : Edit → ℕ → ℕ → Tree Name (item procedure) → Tree Name (item procedure)
   edited_procedure edit j k (declares_procedure x fs b closing) =
-      declares_procedure x (leaf edit j fs) (edited_block edit (j + length (occurrences fs)) (after_names k (formal_names (formal_sections fs))) b) closing
+      declares_procedure x (leaf edit j fs) (edited_block edit (j + length (occurrences fs)) (ordinal_after_names k (formal_names (formal_sections fs))) b) closing
 
 -- If no declaration is removed, an edited block is the block with the literals written in.
 
-abbrev pub writing : Uses → Tree Name factor → ℕ → Edit
+abbrev pub writing : OccurrenceSet → Tree Name factor → ℕ → Edit
 writing uses v d = record { uses = uses; literal = v; constant = d; gone = false }
 
-written-constants : (uses : Uses) (v : Tree Name factor) (d j k : ℕ) (cs : Tree Name (items constant)) → edited_constants (writing uses v d) j k cs ≡ inline_in uses v j cs
+written-constants : (uses : OccurrenceSet) (v : Tree Name factor) (d j k : ℕ) (cs : Tree Name (items constant)) → edited_constants (writing uses v d) j k cs ≡ inline_in uses v j cs
 written-constants uses v d j k end = refl
 written-constants uses v d j k (more (declares_constant x e) cs) = λ i. more (declares_constant x (inline_in uses v j e)) (written-constants uses v d (j + length (occurrences e)) (suc k) cs i)
 
-written-section : (uses : Uses) (v : Tree Name factor) (d j k : ℕ) (cs : Tree Name (maybe constants)) → edited_section (writing uses v d) j k cs ≡ inline_in uses v j cs
+written-section : (uses : OccurrenceSet) (v : Tree Name factor) (d j k : ℕ) (cs : Tree Name (maybe constants)) → edited_section (writing uses v d) j k cs ≡ inline_in uses v j cs
 written-section uses v d j k none = refl
 written-section uses v d j k (one (declares_constants cs)) = λ i. one (declares_constants (written-constants uses v d j k cs i))
 
 mutual
-  pub written-block : (uses : Uses) (v : Tree Name factor) (d j k : ℕ) (b : Tree Name block) → edited_block (writing uses v d) j k b ≡ inline_in uses v j b
+  pub written-block : (uses : OccurrenceSet) (v : Tree Name factor) (d j k : ℕ) (b : Tree Name block) → edited_block (writing uses v d) j k b ≡ inline_in uses v j b
   written-block uses v d j k (has_body (declares cs ts vs ps) statements) = λ i.
       has_body
       (declares (written-section uses v d j k cs i) (inline_in uses v (j + length (occurrences cs)) ts) (inline_in uses v (j + length (occurrences cs) + length (occurrences ts)) vs)
-      (written-procedures uses v d (j + length (occurrences cs) + length (occurrences ts) + length (occurrences vs)) (first_procedure k (has_body (declares cs ts vs ps) statements)) ps i))
+      (written-procedures uses v d (j + length (occurrences cs) + length (occurrences ts) + length (occurrences vs)) (first_procedure_ordinal k (has_body (declares cs ts vs ps) statements)) ps i))
       (inline_in uses v (j + length (occurrences (declares cs ts vs ps))) statements)
 
-  written-procedures : (uses : Uses) (v : Tree Name factor) (d j k : ℕ) (ps : Tree Name (items procedure)) → edited_procedures (writing uses v d) j k ps ≡ inline_in uses v j ps
+  written-procedures : (uses : OccurrenceSet) (v : Tree Name factor) (d j k : ℕ) (ps : Tree Name (items procedure)) → edited_procedures (writing uses v d) j k ps ≡ inline_in uses v j ps
   written-procedures uses v d j k end = refl
   written-procedures uses v d j k (more p rest) = λ i.
-      more (written-procedure uses v d j (suc k) p i) (written-procedures uses v d (j + length (occurrences p)) (after_procedure (suc k) p) rest i)
+      more (written-procedure uses v d j (suc k) p i) (written-procedures uses v d (j + length (occurrences p)) (ordinal_after_procedure (suc k) p) rest i)
 
-  written-procedure : (uses : Uses) (v : Tree Name factor) (d j k : ℕ) (p : Tree Name (item procedure)) → edited_procedure (writing uses v d) j k p ≡ inline_in uses v j p
+  written-procedure : (uses : OccurrenceSet) (v : Tree Name factor) (d j k : ℕ) (p : Tree Name (item procedure)) → edited_procedure (writing uses v d) j k p ≡ inline_in uses v j p
   written-procedure uses v d j k (declares_procedure x fs b closing) = λ i.
-      declares_procedure x (inline_in uses v j fs) (written-block uses v d (j + length (occurrences fs)) (after_names k (formal_names (formal_sections fs))) b i) closing
+      declares_procedure x (inline_in uses v j fs) (written-block uses v d (j + length (occurrences fs)) (ordinal_after_names k (formal_names (formal_sections fs))) b i) closing
 
 -- If there are no uses, an edited block is the block without the declaration.
 
-abbrev pub no_uses : Uses
+abbrev pub no_uses : OccurrenceSet
 no_uses k = false
 
 uses-none : (k : ℕ) (xs : List Name) → UsesNone no_uses k xs
@@ -239,11 +239,11 @@ left-later v d j k (more (declares_constant x e) cs) h =
     (ne_eqb k d (λ e. omega (arith, e, h)))
     ∙ (λ i. more (declares_constant x (leaf-kept v j e i)) (left-later v d (j + length (occurrences e)) (suc k) cs (omega (arith, h)) i))
 
-left-constants : (v : Tree Name factor) (d j k : ℕ) (cs : Tree Name (items constant)) → edited_constants (leaving_out v d) j k cs ≡ without d k cs
+left-constants : (v : Tree Name factor) (d j k : ℕ) (cs : Tree Name (items constant)) → edited_constants (leaving_out v d) j k cs ≡ constants_without d k cs
 left-constants v d j k end = refl
 left-constants v d j k (more (declares_constant x e) cs) =
     (elim (k == d) as (λ b. k == d ≡ b → (if b then edited_constants (leaving_out v d) (j + length (occurrences e)) (suc k) cs else more (declares_constant x (leaf (leaving_out v d) j e)) (edited_constants (leaving_out v d) (j + length (occurrences e)) (suc k) cs))
-    ≡ (if b then cs else more (declares_constant x e) (without d (suc k) cs))) [
+    ≡ (if b then cs else more (declares_constant x e) (constants_without d (suc k) cs))) [
       | true ↦ λ h. left-later v d (j + length (occurrences e)) (suc k) cs (omega (arith, eqb-true k d h))
       | false ↦ λ h i. more (declares_constant x (leaf-kept v j e i)) (left-constants v d (j + length (occurrences e)) (suc k) cs i)
     ]) refl
@@ -257,22 +257,22 @@ mutual
   left-block v d j k (has_body (declares cs ts vs ps) statements) = λ i.
       has_body
       (declares (left-section v d j k cs i) (leaf-kept v (j + length (occurrences cs)) ts i) (leaf-kept v (j + length (occurrences cs) + length (occurrences ts)) vs i)
-      (left-procedures v d (j + length (occurrences cs) + length (occurrences ts) + length (occurrences vs)) (first_procedure k (has_body (declares cs ts vs ps) statements)) ps i))
+      (left-procedures v d (j + length (occurrences cs) + length (occurrences ts) + length (occurrences vs)) (first_procedure_ordinal k (has_body (declares cs ts vs ps) statements)) ps i))
       (leaf-kept v (j + length (occurrences (declares cs ts vs ps))) statements i)
 
   left-procedures : (v : Tree Name factor) (d j k : ℕ) (ps : Tree Name (items procedure)) → edited_procedures (leaving_out v d) j k ps ≡ procedures_without d k ps
   left-procedures v d j k end = refl
   left-procedures v d j k (more p rest) = λ i.
-      more (left-procedure v d j (suc k) p i) (left-procedures v d (j + length (occurrences p)) (after_procedure (suc k) p) rest i)
+      more (left-procedure v d j (suc k) p i) (left-procedures v d (j + length (occurrences p)) (ordinal_after_procedure (suc k) p) rest i)
 
   left-procedure : (v : Tree Name factor) (d j k : ℕ) (p : Tree Name (item procedure)) → edited_procedure (leaving_out v d) j k p ≡ procedure_without d k p
   left-procedure v d j k (declares_procedure x fs b closing) = λ i.
-      declares_procedure x (leaf-kept v j fs i) (left-block v d (j + length (occurrences fs)) (after_names k (formal_names (formal_sections fs))) b i) closing
+      declares_procedure x (leaf-kept v j fs i) (left-block v d (j + length (occurrences fs)) (ordinal_after_names k (formal_names (formal_sections fs))) b i) closing
 
 abbrev pub edited : Edit → Tree Name module_text → Tree Name module_text
 edited edit (is_module x b closing) = is_module x (edited_block edit 0 7 b) closing
 
-pub written-module : (uses : Uses) (v : Tree Name factor) (d : ℕ) (m : Tree Name module_text) → edited (writing uses v d) m ≡ inlined m uses v
+pub written-module : (uses : OccurrenceSet) (v : Tree Name factor) (d : ℕ) (m : Tree Name module_text) → edited (writing uses v d) m ≡ inlined m uses v
 written-module uses v d (is_module x b closing) = λ i. is_module x (written-block uses v d 0 7 b i) closing
 
 pub left-module : (v : Tree Name factor) (d : ℕ) (m : Tree Name module_text) → edited (leaving_out v d) m ≡ module_without d m

@@ -2,7 +2,7 @@
 -- after another from the front of both lists.
 use Rattle.std.proofs.Common.{◌≡◌, List, [], ◌∷◌, ◌++◌, sym, refl, ap, ◌∙◌, append_assoc}
 use Rattle.ob0_tree.specs.Tree.{Sort, Tree, adds, array_type, assigns, begins, branches, calls, compares, declares, declares_constant, declares_constants, declares_procedure, declares_type, declares_types, declares_variable, declares_variables, designator, else_branch, elsif_branch, empty, end, field, further_name, has_body, index, integer, is_module, items, listed, more, multiplies, named_type, names, negation, no_arguments, no_fields, no_formals, none, occurrences, one, parenthesised, product, record_type, relates, repeat_loop, runs, some_arguments, some_fields, some_formals, sum, then_argument, then_fields, then_name, then_section, then_statement, value_section, variable_section, while_loop}
-use Rattle.ob0_language_names.specs.Mapping.{with_names}
+use Rattle.ob0_language_names.specs.Mapping.{map_names}
 
 -- holds if two equal lists that begin with `a` and with `b` imply `P` and have equal rests
 pub record Peel (K : Type 0) (a b : List K) (P : Type 0) : Type 0 where
@@ -37,17 +37,17 @@ pub to : {K P Q : Type 0} {a b : List K} → Peel K a b P → (P → Q) → Peel
 to p f = record { peeled = λ r s e. let q = p.peeled r s e in (f q.0, q.1) }
 
 -- Names that aren't looked up are the same after both replacements.
-pub further_kept : {N M K : Type 0} (f f' : N → M) (g g' : M → K) (h h' : N → K) → ((x : N) → g' (f' x) ≡ h' x) → (ns : Tree N (items further_name)) → with_names g g' (with_names f f' ns) ≡ with_names h h' ns
+pub further_kept : {N M K : Type 0} (f f' : N → M) (g g' : M → K) (h h' : N → K) → ((x : N) → g' (f' x) ≡ h' x) → (ns : Tree N (items further_name)) → map_names g g' (map_names f f' ns) ≡ map_names h h' ns
 further_kept f f' g g' h h' keeps end = refl
 further_kept f f' g g' h h' keeps (more (then_name x) rest) = λ i. more (then_name (keeps x i)) (further_kept f f' g g' h h' keeps rest i)
 
-pub names_kept : {N M K : Type 0} (f f' : N → M) (g g' : M → K) (h h' : N → K) → ((x : N) → g' (f' x) ≡ h' x) → (ns : Tree N names) → with_names g g' (with_names f f' ns) ≡ with_names h h' ns
+pub names_kept : {N M K : Type 0} (f f' : N → M) (g g' : M → K) (h h' : N → K) → ((x : N) → g' (f' x) ≡ h' x) → (ns : Tree N names) → map_names g g' (map_names f f' ns) ≡ map_names h h' ns
 names_kept f f' g g' h h' keeps (listed x rest) = λ i. listed (keeps x i) (further_kept f f' g g' h h' keeps rest i)
 
 -- Both trees are equal if their occurrences are equal. `f` renames the looked-up names, `g` labels the renamed tree and
 -- `h` the original tree. `f'`, `g'` and `h'` do the same for all other names.
 pub peel : {N M K : Type 0} {s : Sort} (f f' : N → M) (g g' : M → K) (h h' : N → K) → ((x : N) → g' (f' x) ≡ h' x) → (t : Tree N s)
-    → Peel K (occurrences (with_names g g' (with_names f f' t))) (occurrences (with_names h h' t)) (with_names g g' (with_names f f' t) ≡ with_names h h' t)
+    → Peel K (occurrences (map_names g g' (map_names f f' t))) (occurrences (map_names h h' t)) (map_names g g' (map_names f f' t) ≡ map_names h h' t)
 peel f f' g g' h h' keeps none = nothing refl
 peel f f' g g' h h' keeps (one a) = to (peel f f' g g' h h' keeps a) (λ p i. one (p i))
 peel f f' g g' h h' keeps end = nothing refl

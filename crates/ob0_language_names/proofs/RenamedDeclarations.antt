@@ -1,16 +1,16 @@
 -- If a new name is free, the renamed module declares names once.
 use Rattle.std.proofs.Common.{Bool, List, Some, [], ap, append-nil, falls, false, if◌then◌else◌, le_refl, refl, suc, sym, true, ℕ, ◌&&◌, ◌++◌, ◌==◌, ◌∙◌, ◌∷◌, ◌≡◌}
 use Rattle.ob0_tree.specs.Tree.{Tree, array_type, block, constant, declares, declares_constant, declares_procedure, declares_type, declares_variable, end, fields, further_fields, further_name, further_section, has_body, is_module, item, items, listed, more, named_type, names, no_fields, procedure, record_type, some_fields, then_fields, then_name, then_section, type_name, variable, written_type}
-use Rattle.ob0_language_names.specs.DeclaredOnce.{are_distinct, block_names, block_once, fields_once, formals_once, group_fields, group_once, groups_fields, groups_once, procedure_names, procedure_once, procedures_once, types_once, variables_once}
-use Rattle.ob0_language_names.specs.Mapping.{with_names}
-use Rattle.ob0_language_names.specs.Names.{Name, Naming, as_names, same_name}
-use Rattle.ob0_language_names.specs.Occurrences.{blocks_in, blocks_in_procedure, blocks_in_procedures, declares_ordinal, names_another}
-use Rattle.ob0_language_names.specs.Parts.{constant_names, formal_names, formal_sections, further_names, named_types, names_listed, procedure_name, section_constants, section_names, section_type, section_types, section_variables, variable_names}
-use Rattle.ob0_language_names.specs.RenamingLaws.{FreeKeepsDeclarations}
+use Rattle.ob0_language_names.specs.DeclaredOnce.{are_distinct, block_names, block_once, has_distinct_fields, formals_have_distinct_fields, group_fields, group_has_distinct_fields, further_group_fields, groups_have_distinct_fields, procedure_names, procedure_once, procedures_once, types_have_distinct_fields, variables_have_distinct_fields}
+use Rattle.ob0_language_names.specs.Mapping.{map_names}
+use Rattle.ob0_language_names.specs.Names.{Name, Naming, naming_by_spelling, same_name}
+use Rattle.ob0_language_names.specs.Occurrences.{blocks_in, blocks_in_procedure, blocks_in_procedures, declares_ordinal, another_has_name}
+use Rattle.ob0_language_names.specs.Parts.{constant_names, formal_names, formal_sections, further_names, declared_type_names, names_in_list, procedure_name, section_constants, section_names, section_type, section_types, section_variables, variable_names}
+use Rattle.ob0_language_names.specs.RenamingLaws.{FreeRenamingKeepsDeclaredOnce}
 use Rattle.ob0_language_names.proofs.DistinctNames.{Falls, distinct-onto, distinct-renamed, labels_in, new_name, onto, onto-append, own_name}
-use Rattle.ob0_language_names.proofs.Ordinals.{le-after_procedure}
+use Rattle.ob0_language_names.proofs.Ordinals.{le-ordinal_after_procedure}
 use Rattle.ob0_language_names.proofs.Relabelled.{constants-section, formals-section, names-relabel, section_names-relabel, section_type-relabel, types-section, variables-section}
-use Rattle.ob0_language_names.specs.Scopes.{Labels, Scope, after_block, after_names, after_procedure, after_procedures, body_scope, declare_names, declare_procedure_names, first_procedure, first_type, first_variable, label_names, label_of, predeclared_scope, procedures_scope, relabel_block, relabel_constant_section, relabel_constants, relabel_procedure, relabel_procedures, relabel_sections, relabel_type_section, relabel_types, relabel_variable_section, relabel_variables, types_scope, variables_scope}
+use Rattle.ob0_language_names.specs.Scopes.{Labelling, Scope, ordinal_after_block, ordinal_after_names, ordinal_after_procedure, ordinal_after_procedures, body_scope, declare_names, declare_procedure_names, first_procedure_ordinal, first_type_ordinal, first_variable_ordinal, label_names, label_of, predeclared_scope, procedures_scope, relabel_block, relabel_constant_section, relabel_constants, relabel_procedure, relabel_procedures, relabel_sections, relabel_type_section, relabel_types, relabel_variable_section, relabel_variables, types_scope, variables_scope}
 use Rattle.std.proofs.lemmas.Cmp.{nat_list_eq_equiv}
 use Rattle.std.proofs.lemmas.Bool.{and_from, and_parts, or_parts}
 use Rattle.std.proofs.lemmas.List.Folds.{list_any-append}
@@ -18,7 +18,7 @@ use Rattle.std.specs.List.{list_any}
 
 -- The names of a relabelled tree's declarations are the labels of the original names.
 
-pub label_names-append : {N M : Type 0} (label : Labels N M) (k : ℕ) (xs ys : List N) → label_names label k (xs ++ ys) ≡ label_names label k xs ++ label_names label (after_names k xs) ys
+pub label_names-append : {N M : Type 0} (label : Labelling N M) (k : ℕ) (xs ys : List N) → label_names label k (xs ++ ys) ≡ label_names label k xs ++ label_names label (ordinal_after_names k xs) ys
 label_names-append label k [] ys = refl
 label_names-append label k (x ∷ xs) ys = λ i. label (Some k) x ∷ label_names-append label (suc k) xs ys i
 
@@ -26,146 +26,146 @@ pub label_names-own : (k : ℕ) (xs : List Name) → label_names own_name k xs �
 label_names-own k [] = refl
 label_names-own k (x ∷ xs) = λ i. x ∷ label_names-own (suc k) xs i
 
-pub constants-labels : {N M : Type 0} (naming : Naming N) (label : Labels N M) (scope : Scope N) (k : ℕ) (cs : Tree N (items constant)) → constant_names (relabel_constants naming label scope k cs) ≡ label_names label k (constant_names cs)
+pub constants-labels : {N M : Type 0} (naming : Naming N) (label : Labelling N M) (scope : Scope N) (k : ℕ) (cs : Tree N (items constant)) → constant_names (relabel_constants naming label scope k cs) ≡ label_names label k (constant_names cs)
 constants-labels naming label scope k end = refl
 constants-labels naming label scope k (more (declares_constant x e) cs) = λ i. label (Some k) x ∷ constants-labels naming label ((x, k) ∷ scope) (suc k) cs i
 
-pub types-labels : {N M : Type 0} (naming : Naming N) (label : Labels N M) (scope : Scope N) (k : ℕ) (ds : Tree N (items type_name)) → named_types (relabel_types naming label scope k ds) ≡ label_names label k (named_types ds)
+pub types-labels : {N M : Type 0} (naming : Naming N) (label : Labelling N M) (scope : Scope N) (k : ℕ) (ds : Tree N (items type_name)) → declared_type_names (relabel_types naming label scope k ds) ≡ label_names label k (declared_type_names ds)
 types-labels naming label scope k end = refl
 types-labels naming label scope k (more (declares_type x t) ds) = λ i. label (Some k) x ∷ types-labels naming label ((x, k) ∷ scope) (suc k) ds i
 
-pub variables-labels : {N M : Type 0} (naming : Naming N) (label : Labels N M) (scope : Scope N) (k : ℕ) (gs : Tree N (items variable)) → variable_names (relabel_variables naming label scope k gs) ≡ label_names label k (variable_names gs)
+pub variables-labels : {N M : Type 0} (naming : Naming N) (label : Labelling N M) (scope : Scope N) (k : ℕ) (gs : Tree N (items variable)) → variable_names (relabel_variables naming label scope k gs) ≡ label_names label k (variable_names gs)
 variables-labels naming label scope k end = refl
 variables-labels naming label scope k (more (declares_variable ns t) gs) =
-    (λ i. names-relabel label k ns i ++ variables-labels naming label (declare_names k (names_listed ns) scope) (after_names k (names_listed ns)) gs i)
-    ∙ sym (label_names-append label k (names_listed ns) (variable_names gs))
+    (λ i. names-relabel label k ns i ++ variables-labels naming label (declare_names k (names_in_list ns) scope) (ordinal_after_names k (names_in_list ns)) gs i)
+    ∙ sym (label_names-append label k (names_in_list ns) (variable_names gs))
 
-pub sections-labels : {N M : Type 0} (naming : Naming N) (label : Labels N M) (scope : Scope N) (k : ℕ) (fs : Tree N (items further_section)) → formal_names (relabel_sections naming label scope k fs) ≡ label_names label k (formal_names fs)
+pub sections-labels : {N M : Type 0} (naming : Naming N) (label : Labelling N M) (scope : Scope N) (k : ℕ) (fs : Tree N (items further_section)) → formal_names (relabel_sections naming label scope k fs) ≡ label_names label k (formal_names fs)
 sections-labels naming label scope k end = refl
 sections-labels naming label scope k (more (then_section s) fs) =
-    (λ i. section_names-relabel naming label scope k s i ++ sections-labels naming label (declare_names k (section_names s) scope) (after_names k (section_names s)) fs i)
+    (λ i. section_names-relabel naming label scope k s i ++ sections-labels naming label (declare_names k (section_names s) scope) (ordinal_after_names k (section_names s)) fs i)
     ∙ sym (label_names-append label k (section_names s) (formal_names fs))
 
 -- The labels in the scope after declarations are the declared names' labels in reverse, then the earlier labels.
 
-pub labels_in-names : {N M : Type 0} (label : Labels N M) (k : ℕ) (xs : List N) (scope : Scope N) → labels_in label (declare_names k xs scope) ≡ onto (label_names label k xs) (labels_in label scope)
+pub labels_in-names : {N M : Type 0} (label : Labelling N M) (k : ℕ) (xs : List N) (scope : Scope N) → labels_in label (declare_names k xs scope) ≡ onto (label_names label k xs) (labels_in label scope)
 labels_in-names label k [] scope = refl
 labels_in-names label k (x ∷ xs) scope = labels_in-names label (suc k) xs ((x, k) ∷ scope)
 
-pub labels_in-procedures : {N M : Type 0} (naming : Naming N) (label : Labels N M) (visible : Scope N) (k : ℕ) (ps : Tree N (items procedure)) (scope : Scope N)
+pub labels_in-procedures : {N M : Type 0} (naming : Naming N) (label : Labelling N M) (visible : Scope N) (k : ℕ) (ps : Tree N (items procedure)) (scope : Scope N)
     → labels_in label (declare_procedure_names k ps scope) ≡ onto (procedure_names (relabel_procedures naming label visible k ps)) (labels_in label scope)
 labels_in-procedures naming label visible k end scope = refl
 labels_in-procedures naming label visible k (more (declares_procedure x fs b closing) rest) scope =
-    labels_in-procedures naming label ((x, k) ∷ visible) (after_procedure (suc k) (declares_procedure x fs b closing)) rest ((x, k) ∷ scope)
+    labels_in-procedures naming label ((x, k) ∷ visible) (ordinal_after_procedure (suc k) (declares_procedure x fs b closing)) rest ((x, k) ∷ scope)
 
 pub own_names-procedures : (k : ℕ) (ps : Tree Name (items procedure)) (scope : Scope Name) → labels_in own_name (declare_procedure_names k ps scope) ≡ onto (procedure_names ps) (labels_in own_name scope)
 own_names-procedures k end scope = refl
-own_names-procedures k (more p rest) scope = own_names-procedures (after_procedure (suc k) p) rest ((procedure_name p, k) ∷ scope)
+own_names-procedures k (more p rest) scope = own_names-procedures (ordinal_after_procedure (suc k) p) rest ((procedure_name p, k) ∷ scope)
 
 pub onto-parts : {A : Type 0} (cs ts vs ps own : List A) → onto ps (onto vs (onto ts (onto cs own))) ≡ onto (cs ++ (ts ++ (vs ++ ps))) own
 onto-parts cs ts vs ps own =
     sym (onto-append cs (ts ++ (vs ++ ps)) own ∙ (onto-append ts (vs ++ ps) (onto cs own) ∙ onto-append vs ps (onto ts (onto cs own))))
 
 -- The labels of a block's scope are the names of the relabelled block, in reverse.
-pub labels_in-block : {N M : Type 0} (naming : Naming N) (label : Labels N M) (visible : Scope N) (k : ℕ) (b : Tree N block) (own : Scope N)
+pub labels_in-block : {N M : Type 0} (naming : Naming N) (label : Labelling N M) (visible : Scope N) (k : ℕ) (b : Tree N block) (own : Scope N)
     → labels_in label (body_scope k b own) ≡ onto (block_names (relabel_block naming label visible k b)) (labels_in label own)
 labels_in-block {N} naming label visible k (has_body (declares cs ts vs ps) statements) own =
     let b : Tree N block = has_body (declares cs ts vs ps) statements in
-    labels_in-procedures naming label (procedures_scope k b visible) (first_procedure k b) ps (procedures_scope k b own)
-    ∙ (ap (onto (procedure_names (relabel_procedures naming label (procedures_scope k b visible) (first_procedure k b) ps)))
-    (labels_in-names label (first_variable k b) (variable_names (section_variables vs)) (variables_scope k b own)
-    ∙ (λ i. onto (sym (ap variable_names (variables-section naming label (variables_scope k b visible) (first_variable k b) vs) ∙ variables-labels naming label (variables_scope k b visible) (first_variable k b) (section_variables vs)) i)
-    ((labels_in-names label (first_type k b) (named_types (section_types ts)) (types_scope k b own)
-    ∙ (λ j. onto (sym (ap named_types (types-section naming label (types_scope k b visible) (first_type k b) ts) ∙ types-labels naming label (types_scope k b visible) (first_type k b) (section_types ts)) j)
+    labels_in-procedures naming label (procedures_scope k b visible) (first_procedure_ordinal k b) ps (procedures_scope k b own)
+    ∙ (ap (onto (procedure_names (relabel_procedures naming label (procedures_scope k b visible) (first_procedure_ordinal k b) ps)))
+    (labels_in-names label (first_variable_ordinal k b) (variable_names (section_variables vs)) (variables_scope k b own)
+    ∙ (λ i. onto (sym (ap variable_names (variables-section naming label (variables_scope k b visible) (first_variable_ordinal k b) vs) ∙ variables-labels naming label (variables_scope k b visible) (first_variable_ordinal k b) (section_variables vs)) i)
+    ((labels_in-names label (first_type_ordinal k b) (declared_type_names (section_types ts)) (types_scope k b own)
+    ∙ (λ j. onto (sym (ap declared_type_names (types-section naming label (types_scope k b visible) (first_type_ordinal k b) ts) ∙ types-labels naming label (types_scope k b visible) (first_type_ordinal k b) (section_types ts)) j)
     ((labels_in-names label k (constant_names (section_constants cs)) own
     ∙ ap (λ xs. onto xs (labels_in label own)) (sym (ap constant_names (constants-section naming label visible k cs) ∙ constants-labels naming label visible k (section_constants cs)))) j))) i)))
     ∙ onto-parts (constant_names (section_constants (relabel_constant_section naming label visible k cs)))
-    (named_types (section_types (relabel_type_section naming label (types_scope k b visible) (first_type k b) ts)))
-    (variable_names (section_variables (relabel_variable_section naming label (variables_scope k b visible) (first_variable k b) vs)))
-    (procedure_names (relabel_procedures naming label (procedures_scope k b visible) (first_procedure k b) ps)) (labels_in label own))
+    (declared_type_names (section_types (relabel_type_section naming label (types_scope k b visible) (first_type_ordinal k b) ts)))
+    (variable_names (section_variables (relabel_variable_section naming label (variables_scope k b visible) (first_variable_ordinal k b) vs)))
+    (procedure_names (relabel_procedures naming label (procedures_scope k b visible) (first_procedure_ordinal k b) ps)) (labels_in label own))
 
 pub own_names-block : (k : ℕ) (b : Tree Name block) (own : Scope Name) → labels_in own_name (body_scope k b own) ≡ onto (block_names b) (labels_in own_name own)
 own_names-block k (has_body (declares cs ts vs ps) statements) own =
     let b : Tree Name block = has_body (declares cs ts vs ps) statements in
-    own_names-procedures (first_procedure k b) ps (procedures_scope k b own)
-    ∙ (ap (onto (procedure_names ps)) (named (first_variable k b) (variable_names (section_variables vs)) (variables_scope k b own)
-    ∙ ap (onto (variable_names (section_variables vs))) (named (first_type k b) (named_types (section_types ts)) (types_scope k b own)
-    ∙ ap (onto (named_types (section_types ts))) (named k (constant_names (section_constants cs)) own)))
-    ∙ onto-parts (constant_names (section_constants cs)) (named_types (section_types ts)) (variable_names (section_variables vs)) (procedure_names ps) (labels_in own_name own))
+    own_names-procedures (first_procedure_ordinal k b) ps (procedures_scope k b own)
+    ∙ (ap (onto (procedure_names ps)) (named (first_variable_ordinal k b) (variable_names (section_variables vs)) (variables_scope k b own)
+    ∙ ap (onto (variable_names (section_variables vs))) (named (first_type_ordinal k b) (declared_type_names (section_types ts)) (types_scope k b own)
+    ∙ ap (onto (declared_type_names (section_types ts))) (named k (constant_names (section_constants cs)) own)))
+    ∙ onto-parts (constant_names (section_constants cs)) (declared_type_names (section_types ts)) (variable_names (section_variables vs)) (procedure_names ps) (labels_in own_name own))
   where
     named : (k : ℕ) (xs : List Name) (scope : Scope Name) → labels_in own_name (declare_names k xs scope) ≡ onto xs (labels_in own_name scope)
     named k xs scope = labels_in-names own_name k xs scope ∙ ap (λ ys. onto ys (labels_in own_name scope)) (label_names-own k xs)
 
 -- Ordinals decrease from newer to older bindings.
 
-pub falls-names : {N : Type 0} (k : ℕ) (xs : List N) (scope : Scope N) → Falls k scope → Falls (after_names k xs) (declare_names k xs scope)
+pub falls-names : {N : Type 0} (k : ℕ) (xs : List N) (scope : Scope N) → Falls k scope → Falls (ordinal_after_names k xs) (declare_names k xs scope)
 falls-names k [] scope falls = falls
 falls-names k (x ∷ xs) scope falls = falls-names (suc k) xs ((x, k) ∷ scope) (le_refl (suc k), falls)
 
-pub falls-procedures : {N : Type 0} (k : ℕ) (ps : Tree N (items procedure)) (scope : Scope N) → Falls k scope → Falls (after_procedures k ps) (declare_procedure_names k ps scope)
+pub falls-procedures : {N : Type 0} (k : ℕ) (ps : Tree N (items procedure)) (scope : Scope N) → Falls k scope → Falls (ordinal_after_procedures k ps) (declare_procedure_names k ps scope)
 falls-procedures k end scope falls = falls
-falls-procedures k (more p rest) scope falls = falls-procedures (after_procedure (suc k) p) rest ((procedure_name p, k) ∷ scope) (le-after_procedure (suc k) p, falls)
+falls-procedures k (more p rest) scope falls = falls-procedures (ordinal_after_procedure (suc k) p) rest ((procedure_name p, k) ∷ scope) (le-ordinal_after_procedure (suc k) p, falls)
 
-pub falls-block : {N : Type 0} (k : ℕ) (b : Tree N block) (own : Scope N) → Falls k own → Falls (after_block k b) (body_scope k b own)
+pub falls-block : {N : Type 0} (k : ℕ) (b : Tree N block) (own : Scope N) → Falls k own → Falls (ordinal_after_block k b) (body_scope k b own)
 falls-block {N} k (has_body (declares cs ts vs ps) statements) own falls =
     let b : Tree N block = has_body (declares cs ts vs ps) statements in
-    falls-procedures (first_procedure k b) ps (procedures_scope k b own)
-    (falls-names (first_variable k b) (variable_names (section_variables vs)) (variables_scope k b own)
-    (falls-names (first_type k b) (named_types (section_types ts)) (types_scope k b own)
+    falls-procedures (first_procedure_ordinal k b) ps (procedures_scope k b own)
+    (falls-names (first_variable_ordinal k b) (variable_names (section_variables vs)) (variables_scope k b own)
+    (falls-names (first_type_ordinal k b) (declared_type_names (section_types ts)) (types_scope k b own)
     (falls-names k (constant_names (section_constants cs)) own falls)))
 
 -- A renaming leaves the names of fields unchanged.
 
-pub further-kept : (f : Name → Name) (xs : Tree Name (items further_name)) → further_names (with_names f (λ x. x) xs) ≡ further_names xs
+pub further-kept : (f : Name → Name) (xs : Tree Name (items further_name)) → further_names (map_names f (λ x. x) xs) ≡ further_names xs
 further-kept f end = refl
 further-kept f (more (then_name x) xs) = λ i. x ∷ further-kept f xs i
 
-pub listed-kept : (f : Name → Name) (ns : Tree Name names) → names_listed (with_names f (λ x. x) ns) ≡ names_listed ns
+pub listed-kept : (f : Name → Name) (ns : Tree Name names) → names_in_list (map_names f (λ x. x) ns) ≡ names_in_list ns
 listed-kept f (listed x xs) = λ i. x ∷ further-kept f xs i
 
-pub group_fields-kept : (f : Name → Name) (g : Tree Name fields) → group_fields (with_names f (λ x. x) g) ≡ group_fields g
+pub group_fields-kept : (f : Name → Name) (g : Tree Name fields) → group_fields (map_names f (λ x. x) g) ≡ group_fields g
 group_fields-kept f no_fields = refl
 group_fields-kept f (some_fields ns t) = listed-kept f ns
 
-pub groups_fields-kept : (f : Name → Name) (gs : Tree Name (items further_fields)) → groups_fields (with_names f (λ x. x) gs) ≡ groups_fields gs
-groups_fields-kept f end = refl
-groups_fields-kept f (more (then_fields g) rest) = λ i. group_fields-kept f g i ++ groups_fields-kept f rest i
+pub further_group_fields-kept : (f : Name → Name) (gs : Tree Name (items further_fields)) → further_group_fields (map_names f (λ x. x) gs) ≡ further_group_fields gs
+further_group_fields-kept f end = refl
+further_group_fields-kept f (more (then_fields g) rest) = λ i. group_fields-kept f g i ++ further_group_fields-kept f rest i
 
 mutual
-  pub fields_once-kept : (f : Name → Name) (t : Tree Name written_type) → fields_once (with_names f (λ x. x) t) ≡ fields_once t
-  fields_once-kept f (named_type x) = refl
-  fields_once-kept f (array_type e t) = fields_once-kept f t
-  fields_once-kept f (record_type g rest) = λ i.
-      are_distinct (group_fields-kept f g i ++ groups_fields-kept f rest i) && (group_once-kept f g i && groups_once-kept f rest i)
+  pub has_distinct_fields-kept : (f : Name → Name) (t : Tree Name written_type) → has_distinct_fields (map_names f (λ x. x) t) ≡ has_distinct_fields t
+  has_distinct_fields-kept f (named_type x) = refl
+  has_distinct_fields-kept f (array_type e t) = has_distinct_fields-kept f t
+  has_distinct_fields-kept f (record_type g rest) = λ i.
+      are_distinct (group_fields-kept f g i ++ further_group_fields-kept f rest i) && (group_has_distinct_fields-kept f g i && groups_have_distinct_fields-kept f rest i)
 
-  pub group_once-kept : (f : Name → Name) (g : Tree Name fields) → group_once (with_names f (λ x. x) g) ≡ group_once g
-  group_once-kept f no_fields = refl
-  group_once-kept f (some_fields ns t) = fields_once-kept f t
+  pub group_has_distinct_fields-kept : (f : Name → Name) (g : Tree Name fields) → group_has_distinct_fields (map_names f (λ x. x) g) ≡ group_has_distinct_fields g
+  group_has_distinct_fields-kept f no_fields = refl
+  group_has_distinct_fields-kept f (some_fields ns t) = has_distinct_fields-kept f t
 
-  pub groups_once-kept : (f : Name → Name) (gs : Tree Name (items further_fields)) → groups_once (with_names f (λ x. x) gs) ≡ groups_once gs
-  groups_once-kept f end = refl
-  groups_once-kept f (more (then_fields g) rest) = λ i. group_once-kept f g i && groups_once-kept f rest i
+  pub groups_have_distinct_fields-kept : (f : Name → Name) (gs : Tree Name (items further_fields)) → groups_have_distinct_fields (map_names f (λ x. x) gs) ≡ groups_have_distinct_fields gs
+  groups_have_distinct_fields-kept f end = refl
+  groups_have_distinct_fields-kept f (more (then_fields g) rest) = λ i. group_has_distinct_fields-kept f g i && groups_have_distinct_fields-kept f rest i
 
-pub types_once-renamed : (d : ℕ) (new : Name) (scope : Scope Name) (k : ℕ) (ds : Tree Name (items type_name)) → types_once (relabel_types as_names (new_name d new) scope k ds) ≡ types_once ds
-types_once-renamed d new scope k end = refl
-types_once-renamed d new scope k (more (declares_type x t) ds) = λ i.
-    fields_once-kept (label_of as_names (new_name d new) scope) t i && types_once-renamed d new ((x, k) ∷ scope) (suc k) ds i
+pub types_have_distinct_fields-renamed : (d : ℕ) (new : Name) (scope : Scope Name) (k : ℕ) (ds : Tree Name (items type_name)) → types_have_distinct_fields (relabel_types naming_by_spelling (new_name d new) scope k ds) ≡ types_have_distinct_fields ds
+types_have_distinct_fields-renamed d new scope k end = refl
+types_have_distinct_fields-renamed d new scope k (more (declares_type x t) ds) = λ i.
+    has_distinct_fields-kept (label_of naming_by_spelling (new_name d new) scope) t i && types_have_distinct_fields-renamed d new ((x, k) ∷ scope) (suc k) ds i
 
-pub variables_once-renamed : (d : ℕ) (new : Name) (scope : Scope Name) (k : ℕ) (gs : Tree Name (items variable)) → variables_once (relabel_variables as_names (new_name d new) scope k gs) ≡ variables_once gs
-variables_once-renamed d new scope k end = refl
-variables_once-renamed d new scope k (more (declares_variable ns t) gs) = λ i.
-    fields_once-kept (label_of as_names (new_name d new) scope) t i && variables_once-renamed d new (declare_names k (names_listed ns) scope) (after_names k (names_listed ns)) gs i
+pub variables_have_distinct_fields-renamed : (d : ℕ) (new : Name) (scope : Scope Name) (k : ℕ) (gs : Tree Name (items variable)) → variables_have_distinct_fields (relabel_variables naming_by_spelling (new_name d new) scope k gs) ≡ variables_have_distinct_fields gs
+variables_have_distinct_fields-renamed d new scope k end = refl
+variables_have_distinct_fields-renamed d new scope k (more (declares_variable ns t) gs) = λ i.
+    has_distinct_fields-kept (label_of naming_by_spelling (new_name d new) scope) t i && variables_have_distinct_fields-renamed d new (declare_names k (names_in_list ns) scope) (ordinal_after_names k (names_in_list ns)) gs i
 
-pub formals_once-renamed : (d : ℕ) (new : Name) (scope : Scope Name) (k : ℕ) (fs : Tree Name (items further_section)) → formals_once (relabel_sections as_names (new_name d new) scope k fs) ≡ formals_once fs
-formals_once-renamed d new scope k end = refl
-formals_once-renamed d new scope k (more (then_section s) fs) = λ i.
-    (ap fields_once (section_type-relabel as_names (new_name d new) scope k s) ∙ fields_once-kept (label_of as_names (new_name d new) scope) (section_type s)) i
-    && formals_once-renamed d new (declare_names k (section_names s) scope) (after_names k (section_names s)) fs i
+pub formals_have_distinct_fields-renamed : (d : ℕ) (new : Name) (scope : Scope Name) (k : ℕ) (fs : Tree Name (items further_section)) → formals_have_distinct_fields (relabel_sections naming_by_spelling (new_name d new) scope k fs) ≡ formals_have_distinct_fields fs
+formals_have_distinct_fields-renamed d new scope k end = refl
+formals_have_distinct_fields-renamed d new scope k (more (then_section s) fs) = λ i.
+    (ap has_distinct_fields (section_type-relabel naming_by_spelling (new_name d new) scope k s) ∙ has_distinct_fields-kept (label_of naming_by_spelling (new_name d new) scope) (section_type s)) i
+    && formals_have_distinct_fields-renamed d new (declare_names k (section_names s) scope) (ordinal_after_names k (section_names s)) fs i
 
 -- returns true if a block declares `d` and another declaration of the block has the new name
 
 abbrev pub Clashes : ℕ → Name → Scope Name → Bool
-Clashes d new own = declares_ordinal own d && names_another own d new
+Clashes d new own = declares_ordinal own d && another_has_name own d new
 
 pub same-renamed : (d : ℕ) (new : Name) (k : ℕ) (x y : Name) → same_name x y ≡ true → same_name (new_name d new (Some k) x) (new_name d new (Some k) y) ≡ true
 same-renamed d new k x y h =
@@ -173,57 +173,57 @@ same-renamed d new k x y h =
 
 mutual
   pub block_once-renamed : (d : ℕ) (new : Name) (j : ℕ) (own : List Name) (scope : Scope Name) (b : Tree Name block)
-      → list_any (Clashes d new) (blocks_in (after_names j own) (declare_names j own []) b) ≡ false → block_once own b ≡ true
-      → block_once (label_names (new_name d new) j own) (relabel_block as_names (new_name d new) scope (after_names j own) b) ≡ true
+      → list_any (Clashes d new) (blocks_in (ordinal_after_names j own) (declare_names j own []) b) ≡ false → block_once own b ≡ true
+      → block_once (label_names (new_name d new) j own) (relabel_block naming_by_spelling (new_name d new) scope (ordinal_after_names j own) b) ≡ true
   block_once-renamed d new j own scope (has_body (declares cs ts vs ps) statements) free once =
       let b : Tree Name block = has_body (declares cs ts vs ps) statements in
-      let k : ℕ = after_names j own in
-      let ren : Labels Name Name = new_name d new in
+      let k : ℕ = ordinal_after_names j own in
+      let ren : Labelling Name Name = new_name d new in
       let mine : Scope Name = body_scope k b (declare_names j own []) in
-      let frees = or_parts (Clashes d new mine) (list_any (Clashes d new) (blocks_in_procedures (first_procedure k b) ps)) free in
-      let onces = and_parts (are_distinct (own ++ block_names b)) (types_once (section_types ts) && (variables_once (section_variables vs) && procedures_once ps)) once in
-      let onces₁ = and_parts (types_once (section_types ts)) (variables_once (section_variables vs) && procedures_once ps) onces.1 in
-      let onces₂ = and_parts (variables_once (section_variables vs)) (procedures_once ps) onces₁.1 in
+      let frees = or_parts (Clashes d new mine) (list_any (Clashes d new) (blocks_in_procedures (first_procedure_ordinal k b) ps)) free in
+      let onces = and_parts (are_distinct (own ++ block_names b)) (types_have_distinct_fields (section_types ts) && (variables_have_distinct_fields (section_variables vs) && procedures_once ps)) once in
+      let onces₁ = and_parts (types_have_distinct_fields (section_types ts)) (variables_have_distinct_fields (section_variables vs) && procedures_once ps) onces.1 in
+      let onces₂ = and_parts (variables_have_distinct_fields (section_variables vs)) (procedures_once ps) onces₁.1 in
       let in_scope : are_distinct (labels_in own_name mine) ≡ true =
       ap are_distinct (own_names-block k b (declare_names j own [])
       ∙ ap (onto (block_names b)) (labels_in-names own_name j own [] ∙ ap (λ xs. onto xs []) (label_names-own j own)))
       ∙ (ap are_distinct (sym (onto-append own (block_names b) [])) ∙ (distinct-onto (own ++ block_names b) [] ∙ (ap are_distinct (append-nil (own ++ block_names b)) ∙ onces.0))) in
-      let b' : Tree Name block = relabel_block as_names ren scope k b in
+      let b' : Tree Name block = relabel_block naming_by_spelling ren scope k b in
       let own' : List Name = label_names ren j own in
       let listed_once : are_distinct (own' ++ block_names b') ≡ true =
-      sym (ap are_distinct (labels_in-block as_names ren scope k b (declare_names j own []) ∙ ap (onto (block_names b')) (labels_in-names ren j own []))
+      sym (ap are_distinct (labels_in-block naming_by_spelling ren scope k b (declare_names j own []) ∙ ap (onto (block_names b')) (labels_in-names ren j own []))
       ∙ (ap are_distinct (sym (onto-append own' (block_names b') [])) ∙ (distinct-onto (own' ++ block_names b') [] ∙ ap are_distinct (append-nil (own' ++ block_names b')))))
-      ∙ distinct-renamed d (after_block k b) new mine (falls-block k b (declare_names j own []) (falls-names j own [] tt)) frees.0 in_scope in
+      ∙ distinct-renamed d (ordinal_after_block k b) new mine (falls-block k b (declare_names j own []) (falls-names j own [] tt)) frees.0 in_scope in
       and_from (are_distinct (own' ++ block_names b')) _ listed_once
-      (and_from _ _ (ap types_once (types-section as_names ren (types_scope k b scope) (first_type k b) ts) ∙ (types_once-renamed d new (types_scope k b scope) (first_type k b) (section_types ts) ∙ onces₁.0))
-      (and_from _ _ (ap variables_once (variables-section as_names ren (variables_scope k b scope) (first_variable k b) vs) ∙ (variables_once-renamed d new (variables_scope k b scope) (first_variable k b) (section_variables vs) ∙ onces₂.0))
-      (procedures_once-renamed d new (first_procedure k b) (procedures_scope k b scope) ps frees.1 onces₂.1)))
+      (and_from _ _ (ap types_have_distinct_fields (types-section naming_by_spelling ren (types_scope k b scope) (first_type_ordinal k b) ts) ∙ (types_have_distinct_fields-renamed d new (types_scope k b scope) (first_type_ordinal k b) (section_types ts) ∙ onces₁.0))
+      (and_from _ _ (ap variables_have_distinct_fields (variables-section naming_by_spelling ren (variables_scope k b scope) (first_variable_ordinal k b) vs) ∙ (variables_have_distinct_fields-renamed d new (variables_scope k b scope) (first_variable_ordinal k b) (section_variables vs) ∙ onces₂.0))
+      (procedures_once-renamed d new (first_procedure_ordinal k b) (procedures_scope k b scope) ps frees.1 onces₂.1)))
 
   pub procedures_once-renamed : (d : ℕ) (new : Name) (k : ℕ) (scope : Scope Name) (ps : Tree Name (items procedure))
-      → list_any (Clashes d new) (blocks_in_procedures k ps) ≡ false → procedures_once ps ≡ true → procedures_once (relabel_procedures as_names (new_name d new) scope k ps) ≡ true
+      → list_any (Clashes d new) (blocks_in_procedures k ps) ≡ false → procedures_once ps ≡ true → procedures_once (relabel_procedures naming_by_spelling (new_name d new) scope k ps) ≡ true
   procedures_once-renamed d new k scope end free once = refl
   procedures_once-renamed d new k scope (more p rest) free once =
-      let frees = or_parts (list_any (Clashes d new) (blocks_in_procedure (suc k) p)) (list_any (Clashes d new) (blocks_in_procedures (after_procedure (suc k) p) rest))
-      (sym (list_any-append (Clashes d new) (blocks_in_procedure (suc k) p) (blocks_in_procedures (after_procedure (suc k) p) rest)) ∙ free) in
+      let frees = or_parts (list_any (Clashes d new) (blocks_in_procedure (suc k) p)) (list_any (Clashes d new) (blocks_in_procedures (ordinal_after_procedure (suc k) p) rest))
+      (sym (list_any-append (Clashes d new) (blocks_in_procedure (suc k) p) (blocks_in_procedures (ordinal_after_procedure (suc k) p) rest)) ∙ free) in
       let onces = and_parts (procedure_once p) (procedures_once rest) once in
       and_from _ _ (procedure_once-renamed d new k scope p frees.0 onces.0)
-      (procedures_once-renamed d new (after_procedure (suc k) p) ((procedure_name p, k) ∷ scope) rest frees.1 onces.1)
+      (procedures_once-renamed d new (ordinal_after_procedure (suc k) p) ((procedure_name p, k) ∷ scope) rest frees.1 onces.1)
 
   pub procedure_once-renamed : (d : ℕ) (new : Name) (k : ℕ) (scope : Scope Name) (p : Tree Name (item procedure))
-      → list_any (Clashes d new) (blocks_in_procedure (suc k) p) ≡ false → procedure_once p ≡ true → procedure_once (relabel_procedure as_names (new_name d new) scope k p) ≡ true
+      → list_any (Clashes d new) (blocks_in_procedure (suc k) p) ≡ false → procedure_once p ≡ true → procedure_once (relabel_procedure naming_by_spelling (new_name d new) scope k p) ≡ true
   procedure_once-renamed d new k scope (declares_procedure x fs b closing) free once =
-      let ren : Labels Name Name = new_name d new in
+      let ren : Labelling Name Name = new_name d new in
       let own : List Name = formal_names (formal_sections fs) in
       let inner : Scope Name = declare_names (suc k) own ((x, k) ∷ scope) in
-      let onces = and_parts (same_name x closing) (formals_once (formal_sections fs) && block_once own b) once in
-      let onces₁ = and_parts (formals_once (formal_sections fs)) (block_once own b) onces.1 in
-      let labelled = formals-section as_names ren scope (suc k) fs in
+      let onces = and_parts (same_name x closing) (formals_have_distinct_fields (formal_sections fs) && block_once own b) once in
+      let onces₁ = and_parts (formals_have_distinct_fields (formal_sections fs)) (block_once own b) onces.1 in
+      let labelled = formals-section naming_by_spelling ren scope (suc k) fs in
       and_from _ _ (same-renamed d new k x closing onces.0)
-      (and_from _ _ (ap formals_once labelled ∙ (formals_once-renamed d new scope (suc k) (formal_sections fs) ∙ onces₁.0))
-      (ap (λ xs. block_once xs (relabel_block as_names ren inner (after_names (suc k) own) b)) (ap formal_names labelled ∙ sections-labels as_names ren scope (suc k) (formal_sections fs))
+      (and_from _ _ (ap formals_have_distinct_fields labelled ∙ (formals_have_distinct_fields-renamed d new scope (suc k) (formal_sections fs) ∙ onces₁.0))
+      (ap (λ xs. block_once xs (relabel_block naming_by_spelling ren inner (ordinal_after_names (suc k) own) b)) (ap formal_names labelled ∙ sections-labels naming_by_spelling ren scope (suc k) (formal_sections fs))
       ∙ block_once-renamed d new (suc k) own inner b free onces₁.1))
 
-pub free_keeps_declarations-holds : FreeKeepsDeclarations
-free_keeps_declarations-holds (is_module x b closing) d new free once =
+pub free_renaming_keeps_declared_once-holds : FreeRenamingKeepsDeclaredOnce
+free_renaming_keeps_declared_once-holds (is_module x b closing) d new free once =
     let onces = and_parts (same_name x closing) (block_once [] b) once in
-    and_from _ _ onces.0 (block_once-renamed d new 7 [] (predeclared_scope as_names) b free.0 onces.1)
+    and_from _ _ onces.0 (block_once-renamed d new 7 [] (predeclared_scope naming_by_spelling) b free.0 onces.1)

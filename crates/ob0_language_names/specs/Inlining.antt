@@ -5,16 +5,16 @@ use Rattle.ob0_tree.specs.Tree.{Sort, Tree, adds, array_type, assigns, begins, b
 use Rattle.ob0_language_names.specs.Names.{Name}
 use Rattle.ob0_language_names.specs.Occurrences.{binds}
 use Rattle.ob0_language_names.specs.Parts.{formal_names, formal_sections}
-use Rattle.ob0_language_names.specs.Scopes.{after_names, after_procedure, first_procedure, predeclared_count, same_ordinal}
+use Rattle.ob0_language_names.specs.Scopes.{ordinal_after_names, ordinal_after_procedure, first_procedure_ordinal, predeclared_count, same_ordinal}
 
 -- a set of occurrences, which a factor replaces: a test on the number of an occurrence, counted
 -- from 0 in text order
-abbrev pub Uses : Type 0
-Uses = ℕ → Bool
+abbrev pub OccurrenceSet : Type 0
+OccurrenceSet = ℕ → Bool
 
 -- Returns the tree in which the factor `v` replaces each occurrence in the set `uses` that is a
 -- whole factor. `k` is the number of the tree's first occurrence.
-abbrev pub inline_in : {s : Sort} → Uses → Tree Name factor → ℕ → Tree Name s → Tree Name s
+abbrev pub inline_in : {s : Sort} → OccurrenceSet → Tree Name factor → ℕ → Tree Name s → Tree Name s
 inline_in uses v k none = none
 inline_in uses v k (one t) = one (inline_in uses v k t)
 inline_in uses v k end = end
@@ -104,18 +104,18 @@ inline_in uses v k (is_module name b closing) = is_module name (inline_in uses v
 
 -- returns the module in which the factor `v` replaces each occurrence in the set `uses` that is a
 -- whole factor
-abbrev pub inlined : Tree Name module_text → Uses → Tree Name factor → Tree Name module_text
+abbrev pub inlined : Tree Name module_text → OccurrenceSet → Tree Name factor → Tree Name module_text
 inlined m uses v = inline_in uses v 0 m
 
 -- returns a list of constants without the constant with ordinal `d`; `k` is the ordinal of the first one
-abbrev pub without : ℕ → ℕ → Tree Name (items constant) → Tree Name (items constant)
-without d k end = end
-without d k (more c cs) = if k == d then cs else more c (without d (suc k) cs)
+abbrev pub constants_without : ℕ → ℕ → Tree Name (items constant) → Tree Name (items constant)
+constants_without d k end = end
+constants_without d k (more c cs) = if k == d then cs else more c (constants_without d (suc k) cs)
 
 -- returns a CONST section without the constant with ordinal `d`; `k` is the ordinal of its first constant
 abbrev pub section_without : ℕ → ℕ → Tree Name (maybe constants) → Tree Name (maybe constants)
 section_without d k none = none
-section_without d k (one (declares_constants cs)) = one (declares_constants (without d k cs))
+section_without d k (one (declares_constants cs)) = one (declares_constants (constants_without d k cs))
 
 -- Returns a block without the constant with ordinal `d`. The word CONST remains even if no constant is left.
 abbrev mutual
@@ -123,33 +123,33 @@ abbrev mutual
   pub block_without : ℕ → ℕ → Tree Name block → Tree Name block
   block_without d k (has_body (declares cs ts vs ps) statements) =
       has_body (declares (section_without d k cs) ts vs (procedures_without d
-      (first_procedure k (has_body (declares cs ts vs ps) statements)) ps)) statements
+      (first_procedure_ordinal k (has_body (declares cs ts vs ps) statements)) ps)) statements
 
   -- returns procedures without the constant with ordinal `d`; the first procedure has ordinal `k`
   pub procedures_without : ℕ → ℕ → Tree Name (items procedure) → Tree Name (items procedure)
   procedures_without d k end = end
   procedures_without d k (more p rest) =
-      more (procedure_without d (suc k) p) (procedures_without d (after_procedure (suc k) p) rest)
+      more (procedure_without d (suc k) p) (procedures_without d (ordinal_after_procedure (suc k) p) rest)
 
   -- returns a procedure without the constant with ordinal `d`; the procedure itself has ordinal
   -- `k - 1`, and its first parameter `k`
   pub procedure_without : ℕ → ℕ → Tree Name (item procedure) → Tree Name (item procedure)
   procedure_without d k (declares_procedure x fs b closing) =
       declares_procedure x fs
-      (block_without d (after_names k (formal_names (formal_sections fs))) b) closing
+      (block_without d (ordinal_after_names k (formal_names (formal_sections fs))) b) closing
 
 -- returns a module without the constant with ordinal `d`
 abbrev pub module_without : ℕ → Tree Name module_text → Tree Name module_text
 module_without d (is_module x b closing) = is_module x (block_without d predeclared_count b) closing
 
 -- returns the set that contains only the occurrence with this number
-abbrev pub only : ℕ → Uses
-only occurrence k = k == occurrence
+abbrev pub single_occurrence : ℕ → OccurrenceSet
+single_occurrence occurrence k = k == occurrence
 
 -- returns the set of the occurrences that are bound to the declaration `d`
-abbrev pub all_bound_to : Tree Name module_text → ℕ → Uses
-all_bound_to m d k = same_ordinal (binds m k) d
+abbrev pub occurrences_bound_to : Tree Name module_text → ℕ → OccurrenceSet
+occurrences_bound_to m d k = same_ordinal (binds m k) d
 
 -- returns the module in which the factor `v` replaces all uses of the constant `d`, and which doesn't declare `d`
 abbrev pub inlined_everywhere : Tree Name module_text → ℕ → Tree Name factor → Tree Name module_text
-inlined_everywhere m d v = module_without d (inlined m (all_bound_to m d) v)
+inlined_everywhere m d v = module_without d (inlined m (occurrences_bound_to m d) v)

@@ -7,5 +7,5 @@ pub mod DeclaredOnce
 pub mod Inlining
 pub mod Laws
 pub mod RenamingLaws
-pub mod SeenNames
-pub mod Elsewhere
+pub mod OccurrenceLookup
+pub mod NonFactorNames

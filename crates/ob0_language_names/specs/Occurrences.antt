@@ -4,7 +4,7 @@ use Rattle.std.specs.Prelude.{◌≡◌, ℕ, suc, Bool, false, not, ◌&&◌, L
 use Rattle.ob0_tree.specs.Tree.{Tree, block, declares, declares_procedure, end, has_body, item, items, module_text, more, occurrences, procedure}
 use Rattle.ob0_language_names.specs.Names.{Label, Name, as_written, declared, same_label, same_name}
 use Rattle.ob0_language_names.specs.Parts.{formal_names, formal_sections, module_block}
-use Rattle.ob0_language_names.specs.Scopes.{Scope, after_names, after_procedure, body_scope, declare_names, first_procedure, numbered, predeclared_count, renamed}
+use Rattle.ob0_language_names.specs.Scopes.{Scope, ordinal_after_names, ordinal_after_procedure, body_scope, declare_names, first_procedure_ordinal, numbered, predeclared_count, renamed}
 use Rattle.std.specs.List.{list_any}
 
 -- returns the label of each occurrence of a name, in text order
@@ -28,18 +28,18 @@ abbrev mutual
   pub blocks_in : {N : Type 0} → ℕ → Scope N → Tree N block → List (Scope N)
   blocks_in k own (has_body (declares cs ts vs ps) statements) =
       body_scope k (has_body (declares cs ts vs ps) statements) own
-      ∷ blocks_in_procedures (first_procedure k (has_body (declares cs ts vs ps) statements)) ps
+      ∷ blocks_in_procedures (first_procedure_ordinal k (has_body (declares cs ts vs ps) statements)) ps
 
   -- returns the declarations of each block in these procedures, the first of which has ordinal `k`
   pub blocks_in_procedures : {N : Type 0} → ℕ → Tree N (items procedure) → List (Scope N)
   blocks_in_procedures k end = []
   blocks_in_procedures k (more p rest) =
-      blocks_in_procedure (suc k) p ++ blocks_in_procedures (after_procedure (suc k) p) rest
+      blocks_in_procedure (suc k) p ++ blocks_in_procedures (ordinal_after_procedure (suc k) p) rest
 
   -- returns the declarations of each block in a procedure with ordinal `k - 1`
   pub blocks_in_procedure : {N : Type 0} → ℕ → Tree N (item procedure) → List (Scope N)
   blocks_in_procedure k (declares_procedure x fs b closing) =
-      blocks_in (after_names k (formal_names (formal_sections fs)))
+      blocks_in (ordinal_after_names k (formal_names (formal_sections fs)))
       (declare_names k (formal_names (formal_sections fs)) []) b
 
 -- returns true if a block declares this ordinal
@@ -47,13 +47,13 @@ abbrev pub declares_ordinal : Scope Name → ℕ → Bool
 declares_ordinal own d = list_any (λ b. b.1 == d) own
 
 -- returns true if a declaration of the block other than `d` has the name `new`
-abbrev pub names_another : Scope Name → ℕ → Name → Bool
-names_another own d new = list_any (λ b. same_name b.0 new && not (b.1 == d)) own
+abbrev pub another_has_name : Scope Name → ℕ → Name → Bool
+another_has_name own d new = list_any (λ b. same_name b.0 new && not (b.1 == d)) own
 
 -- returns true if a declaration other than `d`, in the block that declares `d`, has the name `new`
 abbrev pub is_duplicate : Tree Name module_text → ℕ → Name → Bool
 is_duplicate m d new =
-    list_any (λ own. declares_ordinal own d && names_another own d new)
+    list_any (λ own. declares_ordinal own d && another_has_name own d new)
     (blocks_in predeclared_count [] (module_block m))
 
 -- Holds if the name `new` is free for the declaration `d`. No other declaration of its block has
@@ -75,15 +75,15 @@ first_difference _ _ = None
 
 -- a conflict of a new name: with another declaration of the block, or at the occurrence with this
 -- number, whose binding would change
-pub data Capture : Type 0 where
-  at_declaration : Capture
-  at_occurrence : ℕ → Capture
+pub data NameConflict : Type 0 where
+  at_declaration : NameConflict
+  at_occurrence : ℕ → NameConflict
 
 -- Returns the first conflict of a new name. It is at the declaring identifier if the block already has the name.
 -- Otherwise it is at the first occurrence, in text order, whose binding would change. Returns None if there is no
 -- conflict.
-abbrev pub first_captured : Tree Name module_text → ℕ → Name → Option Capture
-first_captured m d new =
+abbrev pub first_name_conflict : Tree Name module_text → ℕ → Name → Option NameConflict
+first_name_conflict m d new =
     if is_duplicate m d new
     then Some at_declaration
     else option_map at_occurrence (first_difference (bindings (renamed m d new)) (bindings m))

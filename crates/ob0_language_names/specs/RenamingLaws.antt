@@ -4,20 +4,20 @@
 use Rattle.std.specs.Prelude.{IsTrue, None, ℕ, ◌↔◌, ◌≡◌}
 use Rattle.ob0_tree.specs.Tree.{Tree, module_text}
 use Rattle.ob0_language_names.specs.Names.{Name}
-use Rattle.ob0_language_names.specs.Occurrences.{Free, first_captured}
+use Rattle.ob0_language_names.specs.Occurrences.{Free, first_name_conflict}
 use Rattle.ob0_language_names.specs.Scopes.{renamed}
 use Rattle.ob0_language_names.specs.DeclaredOnce.{declared_once}
 
 -- A module without duplicate declarations or wrong closing names still has none of them after a
 -- declaration is renamed to a free name.
-abbrev pub FreeKeepsDeclarations : Type 0
-FreeKeepsDeclarations =
+abbrev pub FreeRenamingKeepsDeclaredOnce : Type 0
+FreeRenamingKeepsDeclaredOnce =
     (m : Tree Name module_text) (d : ℕ) (new : Name)
     → Free m d new
     → IsTrue (declared_once m)
     → IsTrue (declared_once (renamed m d new))
 
 -- A new name has no conflict exactly if it is free.
-abbrev pub CapturedWhereNotFree : Type 0
-CapturedWhereNotFree =
-    (m : Tree Name module_text) (d : ℕ) (new : Name) → first_captured m d new ≡ None ↔ Free m d new
+abbrev pub FreeMeansNoConflict : Type 0
+FreeMeansNoConflict =
+    (m : Tree Name module_text) (d : ℕ) (new : Name) → first_name_conflict m d new ≡ None ↔ Free m d new

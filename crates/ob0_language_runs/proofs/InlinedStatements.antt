@@ -1,31 +1,31 @@
 -- Replacing uses of a constant by its value leaves the execution of a statement unchanged.
 use Rattle.std.proofs.Common.{List, None, Option, Some, [], ap, false, if◌then◌else◌, length, refl, suc, sym, true, ℕ, ◌++◌, ◌+◌, ◌-◌, ◌∙◌, ◌∷◌, ◌≡◌}
 use Rattle.ob0_tree.specs.Tree.{Tree, arguments, assigns, branches, calls, compares, designator, else_branch, else_part, elsif_branch, elsif_part, empty, end, expression, factor, further_argument, further_statement, items, maybe, more, no_arguments, none, occurrences, one, product, repeat_loop, runs, selector, sequence, some_arguments, statement, sum, then_argument, then_statement, while_loop}
-use Rattle.ob0_language_names.specs.Inlining.{Uses, inline_in}
+use Rattle.ob0_language_names.specs.Inlining.{OccurrenceSet, inline_in}
 use Rattle.ob0_language_names.specs.Names.{Name}
-use Rattle.ob0_language_values.specs.Values.{Outcome, Place, Store, Stuck, Value, at_path, ends, gives, or_stuck, read_place, ◌>>=◌}
+use Rattle.ob0_language_values.specs.Values.{Outcome, Place, Store, Stuck, Value, value_at_path, ends, gives, or_stuck, read_place, ◌>>=◌}
 use Rattle.ob0_language_types.specs.Arguments.{arguments_listed, further_arguments}
 use Rattle.ob0_language_types.specs.Expressions.{Meanings, Object, a_constant, a_variable, designate, evaluate, evaluate_factor, follow, object_place, object_value}
-use Rattle.ob0_language_types.specs.Laws.{UsesAre}
+use Rattle.ob0_language_types.specs.Laws.{EachUseHas}
 use Rattle.ob0_language_types.specs.Typing.{lone_designator}
 use Rattle.ob0_language_types.specs.WellTyped.{Mode, by_place, by_value}
 use Rattle.ob0_language_types.proofs.FitInlined.{alone, compared-no_designator, product-no_designator, sum-no_designator}
 use Rattle.ob0_language_types.proofs.Inlined.{IsConstantOf, evaluate-inlined, follow-inlined, uses-split}
 use Rattle.ob0_language_runs.specs.Laws.{InliningKeepsExecution}
-use Rattle.ob0_language_runs.specs.Runs.{Calls, Progress, State, choose, evaluate_argument, evaluate_arguments, execute, execute_all, execute_else, execute_elsifs, execute_further, continue_with, modes_of, perform, place_argument, store_at, turns, turns_until, use_in, value_argument}
+use Rattle.ob0_language_runs.specs.Runs.{CallFunction, Progress, State, choose, evaluate_argument, evaluate_arguments, execute, execute_all, execute_else, execute_elsifs, execute_further, continue_with, modes_of, perform_call, place_argument, store_at, execute_while, execute_repeat, use_result, value_argument}
 
 -- holds if the factor evaluates to the value in every store
 pub record EvaluatesTo (meaning : Meanings Name Place (List Mode)) (v : Tree Name factor) (w : Value) : Type 0 where
   pub in_store : (store : Store) → evaluate_factor meaning store v ≡ gives w
 
-abbrev pub IsUse : Meanings Name Place (List Mode) → Value → Uses → ℕ → List Name → Type 0
-IsUse meaning w uses k xs = UsesAre uses (IsConstantOf meaning w) k xs
+abbrev pub IsUse : Meanings Name Place (List Mode) → Value → OccurrenceSet → ℕ → List Name → Type 0
+IsUse meaning w uses k xs = EachUseHas uses (IsConstantOf meaning w) k xs
 
-pub evaluate-written : (meaning : Meanings Name Place (List Mode)) (uses : Uses) (v : Tree Name factor) (w : Value) → EvaluatesTo meaning v w → (store : Store) (k : ℕ) (e : Tree Name expression)
+pub evaluate-written : (meaning : Meanings Name Place (List Mode)) (uses : OccurrenceSet) (v : Tree Name factor) (w : Value) → EvaluatesTo meaning v w → (store : Store) (k : ℕ) (e : Tree Name expression)
     → IsUse meaning w uses k (occurrences e) → evaluate meaning store (inline_in uses v k e) ≡ evaluate meaning store e
 evaluate-written meaning uses v w h store k e u = evaluate-inlined meaning store uses v w record { has_value = h.in_store store } k e u
 
-pub designate-written : (meaning : Meanings Name Place (List Mode)) (uses : Uses) (v : Tree Name factor) (w : Value) → EvaluatesTo meaning v w → (store : Store) (k : ℕ) (x : Name) (path : Tree Name (items selector))
+pub designate-written : (meaning : Meanings Name Place (List Mode)) (uses : OccurrenceSet) (v : Tree Name factor) (w : Value) → EvaluatesTo meaning v w → (store : Store) (k : ℕ) (x : Name) (path : Tree Name (items selector))
     → IsUse meaning w uses k (occurrences path) → designate meaning store x (inline_in uses v k path) ≡ designate meaning store x path
 unfolding designate
 designate-written meaning uses v w h store k x path u = λ i.
@@ -48,7 +48,7 @@ pub written-no_place : (meaning : Meanings Name Place (List Mode)) (v : Tree Nam
 unfolding designate evaluate
 written-no_place meaning (designator x path) w h store =
     ap (λ o. o >>= (λ p. or_stuck (read_place store p) >>= (λ z. follow meaning store z path >>= (λ steps. gives record { variable = p.variable; path = p.path ++ steps }))))
-    (has_value-no_place (meaning.object_for x) (λ z. follow meaning [] z path >>= (λ steps. or_stuck (at_path steps z))) w (h.in_store []))
+    (has_value-no_place (meaning.object_for x) (λ z. follow meaning [] z path >>= (λ steps. or_stuck (value_at_path steps z))) w (h.in_store []))
 written-no_place meaning _ w h store = refl
 
 pub use-no_place : (meaning : Meanings Name Place (List Mode)) (x : Name) (w : Value) (store : Store) → meaning.object_for x ≡ Some (a_constant w) → place_at meaning store (Some (x, end)) ≡ ends Stuck
@@ -56,7 +56,7 @@ unfolding designate
 use-no_place meaning x w store e =
     ap (λ o. o >>= (λ p. or_stuck (read_place store p) >>= (λ z. follow meaning store z end >>= (λ steps. gives record { variable = p.variable; path = p.path ++ steps })))) (constant-no_place (meaning.object_for x) w e)
 
-pub place-written : (meaning : Meanings Name Place (List Mode)) (uses : Uses) (v : Tree Name factor) (w : Value) → EvaluatesTo meaning v w → (store : Store) (k : ℕ) (e : Tree Name expression)
+pub place-written : (meaning : Meanings Name Place (List Mode)) (uses : OccurrenceSet) (v : Tree Name factor) (w : Value) → EvaluatesTo meaning v w → (store : Store) (k : ℕ) (e : Tree Name expression)
     → IsUse meaning w uses k (occurrences e) → place_at meaning store (lone_designator (inline_in uses v k e)) ≡ place_at meaning store (lone_designator e)
 place-written meaning uses v w h store k (compares (sum None (product (designator x end) end) end) none) u =
     (elim (uses k) as (λ b. uses k ≡ b → place_at meaning store (lone_designator (alone (if b then v else designator x end))) ≡ place_at meaning store (Some (x, end)))
@@ -71,7 +71,7 @@ place-written meaning uses v w h store k (compares (sum None (product (designato
     ap (place_at meaning store) (product-no_designator (if uses k then v else designator x end) _ _ _ _)
 place-written meaning uses v w h store k _ u = refl
 
-pub argument-written : (meaning : Meanings Name Place (List Mode)) (uses : Uses) (v : Tree Name factor) (w : Value) → EvaluatesTo meaning v w → (store : Store) (m : Mode) (k : ℕ) (e : Tree Name expression)
+pub argument-written : (meaning : Meanings Name Place (List Mode)) (uses : OccurrenceSet) (v : Tree Name factor) (w : Value) → EvaluatesTo meaning v w → (store : Store) (m : Mode) (k : ℕ) (e : Tree Name expression)
     → IsUse meaning w uses k (occurrences e) → evaluate_argument meaning store m (inline_in uses v k e) ≡ evaluate_argument meaning store m e
 unfolding evaluate_argument
 argument-written meaning uses v w h store by_value k e u = λ i. evaluate-written meaning uses v w h store k e u i >>= (λ z. gives (value_argument z))
@@ -82,7 +82,7 @@ argument-written meaning uses v w h store by_place k e u =
     by_steps None = refl
     by_steps (Some d) = refl
 
-pub further-written : (meaning : Meanings Name Place (List Mode)) (uses : Uses) (v : Tree Name factor) (w : Value) → EvaluatesTo meaning v w → (store : Store) (ms : List Mode) (k : ℕ) (es : Tree Name (items further_argument))
+pub further-written : (meaning : Meanings Name Place (List Mode)) (uses : OccurrenceSet) (v : Tree Name factor) (w : Value) → EvaluatesTo meaning v w → (store : Store) (ms : List Mode) (k : ℕ) (es : Tree Name (items further_argument))
     → IsUse meaning w uses k (occurrences es) → evaluate_arguments meaning store ms (further_arguments (inline_in uses v k es)) ≡ evaluate_arguments meaning store ms (further_arguments es)
 unfolding evaluate_arguments
 further-written meaning uses v w h store [] k (more (then_argument e) es) u = refl
@@ -91,7 +91,7 @@ further-written meaning uses v w h store (m ∷ ms) k (more (then_argument e) es
     λ i. argument-written meaning uses v w h store m k e s.0 i >>= (λ a. further-written meaning uses v w h store ms (k + length (occurrences e)) es s.1 i >>= (λ rest. gives (a ∷ rest)))
 further-written meaning uses v w h store _ k _ u = refl
 
-pub arguments-written : (meaning : Meanings Name Place (List Mode)) (uses : Uses) (v : Tree Name factor) (w : Value) → EvaluatesTo meaning v w → (store : Store) (ms : List Mode) (k : ℕ) (es : Tree Name (maybe arguments))
+pub arguments-written : (meaning : Meanings Name Place (List Mode)) (uses : OccurrenceSet) (v : Tree Name factor) (w : Value) → EvaluatesTo meaning v w → (store : Store) (ms : List Mode) (k : ℕ) (es : Tree Name (maybe arguments))
     → IsUse meaning w uses k (occurrences es) → evaluate_arguments meaning store ms (arguments_listed (inline_in uses v k es)) ≡ evaluate_arguments meaning store ms (arguments_listed es)
 unfolding evaluate_arguments
 arguments-written meaning uses v w h store ms k (one no_arguments) u = refl
@@ -103,55 +103,55 @@ arguments-written meaning uses v w h store _ k _ u = refl
 mutual
   unfolding execute
 
-  pub execute-written : (meaning : Meanings Name Place (List Mode)) (enter : Calls Name) (t : ℕ) (uses : Uses) (v : Tree Name factor) (w : Value) → EvaluatesTo meaning v w → (k : ℕ) (a : Tree Name statement)
+  pub execute-written : (meaning : Meanings Name Place (List Mode)) (enter : CallFunction Name) (t : ℕ) (uses : OccurrenceSet) (v : Tree Name factor) (w : Value) → EvaluatesTo meaning v w → (k : ℕ) (a : Tree Name statement)
       → IsUse meaning w uses k (occurrences a) → execute meaning enter t (inline_in uses v k a) ≡ execute meaning enter t a
   execute-written meaning enter t uses v w h k empty u = refl
   execute-written meaning enter t uses v w h k (assigns x path e) u =
       let s = uses-split uses (IsConstantOf meaning w) (suc k) (occurrences path) (occurrences e) u.1 in
-      λ i state. use_in state (designate-written meaning uses v w h state.store (suc k) x path s.0 i)
-      (λ p. use_in state (evaluate-written meaning uses v w h state.store (suc k + length (occurrences path)) e s.1 i) (store_at state p))
+      λ i state. use_result state (designate-written meaning uses v w h state.store (suc k) x path s.0 i)
+      (λ p. use_result state (evaluate-written meaning uses v w h state.store (suc k + length (occurrences path)) e s.1 i) (store_at state p))
   execute-written meaning enter t uses v w h k (calls x es) u = λ i state.
-      use_in state (modes_of (meaning.object_for x) >>= (λ modes. arguments-written meaning uses v w h state.store modes (suc k) es u.1 i)) (λ args. perform (meaning.object_for x) (enter x) args state)
+      use_result state (modes_of (meaning.object_for x) >>= (λ modes. arguments-written meaning uses v w h state.store modes (suc k) es u.1 i)) (λ args. perform_call (meaning.object_for x) (enter x) args state)
   execute-written meaning enter t uses v w h k (branches e statements rest last) u =
       let s = uses-split uses (IsConstantOf meaning w) k (occurrences e) (occurrences statements ++ (occurrences rest ++ occurrences last)) u in
       let s₁ = uses-split uses (IsConstantOf meaning w) (k + length (occurrences e)) (occurrences statements) (occurrences rest ++ occurrences last) s.1 in
       let s₂ = uses-split uses (IsConstantOf meaning w) (k + length (occurrences e) + length (occurrences statements)) (occurrences rest) (occurrences last) s₁.1 in
-      λ i state. use_in state (evaluate-written meaning uses v w h state.store k e s.0 i)
+      λ i state. use_result state (evaluate-written meaning uses v w h state.store k e s.0 i)
       (λ z. choose state z (execute_all-written meaning enter t uses v w h (k + length (occurrences e)) statements s₁.0 i)
       (execute_elsifs-written meaning enter t uses v w h (k + length (occurrences e) + length (occurrences statements)) rest s₂.0
       (execute_else meaning enter t (inline_in uses v (k + length (occurrences e) + length (occurrences statements) + length (occurrences rest)) last)) (execute_else meaning enter t last)
       (execute_else-written meaning enter t uses v w h (k + length (occurrences e) + length (occurrences statements) + length (occurrences rest)) last s₂.1) i))
   execute-written meaning enter t uses v w h k (while_loop e statements) u =
       let s = uses-split uses (IsConstantOf meaning w) k (occurrences e) (occurrences statements) u in
-      λ i state. turns t (λ state'. evaluate-written meaning uses v w h state'.store k e s.0 i) (execute_all-written meaning enter t uses v w h (k + length (occurrences e)) statements s.1 i) state
+      λ i state. execute_while t (λ state'. evaluate-written meaning uses v w h state'.store k e s.0 i) (execute_all-written meaning enter t uses v w h (k + length (occurrences e)) statements s.1 i) state
   execute-written meaning enter t uses v w h k (repeat_loop statements e) u =
       let s = uses-split uses (IsConstantOf meaning w) k (occurrences statements) (occurrences e) u in
-      λ i state. turns_until (t - 1) (λ state'. evaluate-written meaning uses v w h state'.store (k + length (occurrences statements)) e s.1 i) (execute_all-written meaning enter t uses v w h k statements s.0 i) state
+      λ i state. execute_repeat (t - 1) (λ state'. evaluate-written meaning uses v w h state'.store (k + length (occurrences statements)) e s.1 i) (execute_all-written meaning enter t uses v w h k statements s.0 i) state
 
-  pub execute_all-written : (meaning : Meanings Name Place (List Mode)) (enter : Calls Name) (t : ℕ) (uses : Uses) (v : Tree Name factor) (w : Value) → EvaluatesTo meaning v w → (k : ℕ) (a : Tree Name sequence)
+  pub execute_all-written : (meaning : Meanings Name Place (List Mode)) (enter : CallFunction Name) (t : ℕ) (uses : OccurrenceSet) (v : Tree Name factor) (w : Value) → EvaluatesTo meaning v w → (k : ℕ) (a : Tree Name sequence)
       → IsUse meaning w uses k (occurrences a) → execute_all meaning enter t (inline_in uses v k a) ≡ execute_all meaning enter t a
   execute_all-written meaning enter t uses v w h k (runs a rest) u =
       let s = uses-split uses (IsConstantOf meaning w) k (occurrences a) (occurrences rest) u in
       λ i state. continue_with (execute-written meaning enter t uses v w h k a s.0 i state) (execute_further-written meaning enter t uses v w h (k + length (occurrences a)) rest s.1 i)
 
-  pub execute_further-written : (meaning : Meanings Name Place (List Mode)) (enter : Calls Name) (t : ℕ) (uses : Uses) (v : Tree Name factor) (w : Value) → EvaluatesTo meaning v w → (k : ℕ) (a : Tree Name (items further_statement))
+  pub execute_further-written : (meaning : Meanings Name Place (List Mode)) (enter : CallFunction Name) (t : ℕ) (uses : OccurrenceSet) (v : Tree Name factor) (w : Value) → EvaluatesTo meaning v w → (k : ℕ) (a : Tree Name (items further_statement))
       → IsUse meaning w uses k (occurrences a) → execute_further meaning enter t (inline_in uses v k a) ≡ execute_further meaning enter t a
   execute_further-written meaning enter t uses v w h k end u = refl
   execute_further-written meaning enter t uses v w h k (more (then_statement a) rest) u =
       let s = uses-split uses (IsConstantOf meaning w) k (occurrences a) (occurrences rest) u in
       λ i state. continue_with (execute-written meaning enter t uses v w h k a s.0 i state) (execute_further-written meaning enter t uses v w h (k + length (occurrences a)) rest s.1 i)
 
-  pub execute_elsifs-written : (meaning : Meanings Name Place (List Mode)) (enter : Calls Name) (t : ℕ) (uses : Uses) (v : Tree Name factor) (w : Value) → EvaluatesTo meaning v w → (k : ℕ) (a : Tree Name (items elsif_part))
+  pub execute_elsifs-written : (meaning : Meanings Name Place (List Mode)) (enter : CallFunction Name) (t : ℕ) (uses : OccurrenceSet) (v : Tree Name factor) (w : Value) → EvaluatesTo meaning v w → (k : ℕ) (a : Tree Name (items elsif_part))
       → IsUse meaning w uses k (occurrences a) → (there here : State → Progress) → there ≡ here → execute_elsifs meaning enter t (inline_in uses v k a) there ≡ execute_elsifs meaning enter t a here
   execute_elsifs-written meaning enter t uses v w h k end u there here e = λ i state. e i state
   execute_elsifs-written meaning enter t uses v w h k (more (elsif_branch c statements) rest) u there here e =
       let s = uses-split uses (IsConstantOf meaning w) k (occurrences c ++ occurrences statements) (occurrences rest) u in
       let s₁ = uses-split uses (IsConstantOf meaning w) k (occurrences c) (occurrences statements) s.0 in
-      λ i state. use_in state (evaluate-written meaning uses v w h state.store k c s₁.0 i)
+      λ i state. use_result state (evaluate-written meaning uses v w h state.store k c s₁.0 i)
       (λ z. choose state z (execute_all-written meaning enter t uses v w h (k + length (occurrences c)) statements s₁.1 i)
       (execute_elsifs-written meaning enter t uses v w h (k + length (occurrences c ++ occurrences statements)) rest s.1 there here e i))
 
-  pub execute_else-written : (meaning : Meanings Name Place (List Mode)) (enter : Calls Name) (t : ℕ) (uses : Uses) (v : Tree Name factor) (w : Value) → EvaluatesTo meaning v w → (k : ℕ) (a : Tree Name (maybe else_part))
+  pub execute_else-written : (meaning : Meanings Name Place (List Mode)) (enter : CallFunction Name) (t : ℕ) (uses : OccurrenceSet) (v : Tree Name factor) (w : Value) → EvaluatesTo meaning v w → (k : ℕ) (a : Tree Name (maybe else_part))
       → IsUse meaning w uses k (occurrences a) → execute_else meaning enter t (inline_in uses v k a) ≡ execute_else meaning enter t a
   execute_else-written meaning enter t uses v w h k none u = refl
   execute_else-written meaning enter t uses v w h k (one (else_branch statements)) u = λ i state. execute_all-written meaning enter t uses v w h k statements u i state

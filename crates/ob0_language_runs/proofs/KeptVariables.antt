@@ -5,18 +5,18 @@
 use Rattle.std.proofs.Common.{◌≡◌, ℕ, zero, suc, ◌+◌, true, false, List, [], ◌∷◌, ◌++◌, length, ℤ, Some, None, Option, option_map, option_and_then, sym, refl, ap, ◌∙◌, subst, append_assoc, append-nil}
 use Rattle.ob0_tree.specs.Tree.{Tree, begins, block, body, constant, declares_constant, declares_type, declares_variable, end, expression, items, maybe, module_text, more, none, one, procedure, type_name, variable, written_type}
 use Rattle.ob0_language_names.specs.Names.{Naming}
-use Rattle.ob0_language_names.specs.Parts.{block_constants, block_procedures, block_statements, block_types, block_variables, module_block, names_listed, procedure_block, procedure_formals, procedure_name}
-use Rattle.ob0_language_names.proofs.SameNames.{with_names-id}
-use Rattle.ob0_language_types.specs.Declarations.{after_formals, after_types, after_variables, declare_constants, declare_first, declare_types, procedure_constructors}
-use Rattle.ob0_language_types.specs.Environments.{from_binding, meanings, newest, outermost}
+use Rattle.ob0_language_names.specs.Parts.{block_constants, block_procedures, block_statements, block_types, block_variables, module_block, names_in_list, procedure_block, procedure_formals, procedure_name}
+use Rattle.ob0_language_names.proofs.SameNames.{map_names-id}
+use Rattle.ob0_language_types.specs.Declarations.{constructor_after_formals, constructor_after_types, constructor_after_variables, declare_constants, declare_first, declare_types, procedure_constructor_count}
+use Rattle.ob0_language_types.specs.Environments.{environment_from_binding, meanings, newest_object, outermost}
 use Rattle.ob0_language_types.specs.Expressions.{Object, a_constant, a_procedure, a_standard, a_type, a_variable}
-use Rattle.ob0_language_types.specs.Typing.{constant_of, constant_value, constructors, denoted, type_of_name}
+use Rattle.ob0_language_types.specs.Typing.{constant_of, constant_value, constructor_count, denoted, type_of_name}
 use Rattle.ob0_language_types.specs.WellTyped.{by_place, by_value}
 use Rattle.ob0_language_types.proofs.TypeNaturality.{constant_value-map, denoted-map}
 use Rattle.ob0_language_values.specs.Values.{Place, Value, initial}
 use Rattle.ob0_language_runs.specs.Freed.{call_freeing, drop_variables, run_freeing}
 use Rattle.ob0_language_runs.specs.Laws.{FreeingKeepsRuns}
-use Rattle.ob0_language_runs.specs.Runs.{Activation, Argument, Calls, ProcedureText, Frame, Parameter, Progress, State, activate, allocate, bind_parameter, bind_parameters, call, declare_block, declare_procedures, declare_variables, execute_body, finished, formal_modes, in_frame, parameters, passing, place_argument, run_over, running, statement_meanings, stopped, value_argument, with_procedures}
+use Rattle.ob0_language_runs.specs.Runs.{Activation, Argument, CallFunction, ProcedureText, Frame, Parameter, Progress, State, activate, allocate, bind_parameter, bind_parameters, call, declare_block, declare_procedures, declare_variables, execute_body, run_result, formal_modes, continue_in_frame, parameters, statement_object, place_argument, run_over, running, statement_meanings, stopped, value_argument, declare_procedures_in_frame}
 use Rattle.ob0_language_runs.proofs.OtherPlaces.{Alike, ArgumentIs, ArgumentsAre, EntersAlike, MeaningIs, ObjectIs, PlaceIs, ProgressIs, StateIs, StoreIs, execute_all-alike, variable-added, variable-last, variables-cut}
 use Rattle.ob0_language_runs.proofs.SoundStatements.{slice_get-grows}
 
@@ -70,27 +70,27 @@ arguments-grow at others (place_argument p ∷ args) (value_argument w ∷ bs) h
 arguments-grow at others (value_argument v ∷ args) (place_argument q ∷ bs) h = absurd (h.0)
 arguments-grow at others _ _ h = absurd h
 
-from_binding-is : {N : Type 0} (naming : Naming N) (at : List ℕ) (env other : Activation N) (x : N) → EnvironmentIs at env other → EnvironmentIs at (from_binding naming env x) (from_binding naming other x)
-from_binding-is naming at [] [] x h = tt
-from_binding-is {N} naming at (b ∷ env) (d ∷ other) x h =
-    subst (λ y. EnvironmentIs {N = N} at (elim (naming.same x b.0) [ true ↦ b ∷ env | false ↦ from_binding naming env x ]) (elim (naming.same x y) [ true ↦ d ∷ other | false ↦ from_binding naming other x ])) h.0
-    (elim (naming.same x b.0) as (λ v. EnvironmentIs {N = N} at (elim v [ true ↦ b ∷ env | false ↦ from_binding naming env x ]) (elim v [ true ↦ d ∷ other | false ↦ from_binding naming other x ]))
-    [ true ↦ h | false ↦ from_binding-is naming at env other x h.2 ])
-from_binding-is naming at _ _ x h = absurd h
+environment_from_binding-is : {N : Type 0} (naming : Naming N) (at : List ℕ) (env other : Activation N) (x : N) → EnvironmentIs at env other → EnvironmentIs at (environment_from_binding naming env x) (environment_from_binding naming other x)
+environment_from_binding-is naming at [] [] x h = tt
+environment_from_binding-is {N} naming at (b ∷ env) (d ∷ other) x h =
+    subst (λ y. EnvironmentIs {N = N} at (elim (naming.same x b.0) [ true ↦ b ∷ env | false ↦ environment_from_binding naming env x ]) (elim (naming.same x y) [ true ↦ d ∷ other | false ↦ environment_from_binding naming other x ])) h.0
+    (elim (naming.same x b.0) as (λ v. EnvironmentIs {N = N} at (elim v [ true ↦ b ∷ env | false ↦ environment_from_binding naming env x ]) (elim v [ true ↦ d ∷ other | false ↦ environment_from_binding naming other x ]))
+    [ true ↦ h | false ↦ environment_from_binding-is naming at env other x h.2 ])
+environment_from_binding-is naming at _ _ x h = absurd h
 
-newest-is : {N : Type 0} (at : List ℕ) (env other : Activation N) → EnvironmentIs at env other → MeaningIs at (newest env) (newest other)
-newest-is at [] [] h = tt
-newest-is at (b ∷ env) (d ∷ other) h = h.1
-newest-is at _ _ h = absurd h
+newest_object-is : {N : Type 0} (at : List ℕ) (env other : Activation N) → EnvironmentIs at env other → MeaningIs at (newest_object env) (newest_object other)
+newest_object-is at [] [] h = tt
+newest_object-is at (b ∷ env) (d ∷ other) h = h.1
+newest_object-is at _ _ h = absurd h
 
-passing-is : {N : Type 0} (at : List ℕ) (o q : Option (Object Place (ProcedureText N))) → MeaningIs at o q → MeaningIs at (passing o) (passing q)
-passing-is at None None h = tt
-passing-is at (Some (a_type s)) (Some (a_type t)) h = h
-passing-is at (Some (a_constant s)) (Some (a_constant t)) h = h
-passing-is at (Some (a_variable s)) (Some (a_variable t)) h = h
-passing-is at (Some (a_procedure s)) (Some (a_procedure t)) h = ap (λ code. formal_modes (procedure_formals code.text)) h
-passing-is at (Some (a_standard s)) (Some (a_standard t)) h = h
-passing-is at _ _ h = absurd h
+statement_object-is : {N : Type 0} (at : List ℕ) (o q : Option (Object Place (ProcedureText N))) → MeaningIs at o q → MeaningIs at (statement_object o) (statement_object q)
+statement_object-is at None None h = tt
+statement_object-is at (Some (a_type s)) (Some (a_type t)) h = h
+statement_object-is at (Some (a_constant s)) (Some (a_constant t)) h = h
+statement_object-is at (Some (a_variable s)) (Some (a_variable t)) h = h
+statement_object-is at (Some (a_procedure s)) (Some (a_procedure t)) h = ap (λ code. formal_modes (procedure_formals code.text)) h
+statement_object-is at (Some (a_standard s)) (Some (a_standard t)) h = h
+statement_object-is at _ _ h = absurd h
 
 constant-same : {P : Type 0} (at : List ℕ) (o q : Option (Object Place P)) → MeaningIs at o q → constant_of o ≡ constant_of q
 constant-same at None None h = refl
@@ -134,16 +134,16 @@ frames-on at others _ _ h = absurd h
 module _ {N : Type 0} (naming : Naming N) where
   value-same : (at : List ℕ) (env other : Activation N) → EnvironmentIs at env other → (e : Tree N expression) → constant_value (meanings naming env) e ≡ constant_value (meanings naming other) e
   value-same at env other h e =
-      ap (constant_value (meanings naming env)) (sym (with_names-id e))
+      ap (constant_value (meanings naming env)) (sym (map_names-id e))
       ∙ constant_value-map (λ x. x) (λ x. x) (meanings naming env) (meanings naming other) e
-      (λ x. constant-same at (newest (from_binding naming env x)) (newest (from_binding naming other x)) (newest-is at (from_binding naming env x) (from_binding naming other x) (from_binding-is naming at env other x h))) (λ x. refl)
+      (λ x. constant-same at (newest_object (environment_from_binding naming env x)) (newest_object (environment_from_binding naming other x)) (newest_object-is at (environment_from_binding naming env x) (environment_from_binding naming other x) (environment_from_binding-is naming at env other x h))) (λ x. refl)
 
   denoted-same : (at : List ℕ) (env other : Activation N) → EnvironmentIs at env other → (k : ℕ) (t : Tree N written_type) → denoted (meanings naming env) k t ≡ denoted (meanings naming other) k t
   denoted-same at env other h k t =
-      ap (denoted (meanings naming env) k) (sym (with_names-id t))
+      ap (denoted (meanings naming env) k) (sym (map_names-id t))
       ∙ denoted-map (λ x. x) (λ x. x) (meanings naming env) (meanings naming other)
-      (λ x. constant-same at (newest (from_binding naming env x)) (newest (from_binding naming other x)) (newest-is at (from_binding naming env x) (from_binding naming other x) (from_binding-is naming at env other x h)))
-      (λ x. type-same at (newest (from_binding naming env x)) (newest (from_binding naming other x)) (newest-is at (from_binding naming env x) (from_binding naming other x) (from_binding-is naming at env other x h))) (λ x. refl) k t
+      (λ x. constant-same at (newest_object (environment_from_binding naming env x)) (newest_object (environment_from_binding naming other x)) (newest_object-is at (environment_from_binding naming env x) (environment_from_binding naming other x) (environment_from_binding-is naming at env other x h)))
+      (λ x. type-same at (newest_object (environment_from_binding naming env x)) (newest_object (environment_from_binding naming other x)) (newest_object-is at (environment_from_binding naming env x) (environment_from_binding naming other x) (environment_from_binding-is naming at env other x h))) (λ x. refl) k t
 
   constants-are : (at : List ℕ) (env other : Activation N) (cs : Tree N (items constant)) → EnvironmentIs at env other → OptionIs (EnvironmentIs at) (declare_constants naming env cs) (declare_constants naming other cs)
   unfolding declare_constants
@@ -156,8 +156,8 @@ module _ {N : Type 0} (naming : Naming N) where
   unfolding declare_types
   types-are at env other k end h = h
   types-are at env other k (more (declares_type x u) ds) h =
-      same_option-then (EnvironmentIs at) (denoted (meanings naming env) k u) (denoted (meanings naming other) k u) (λ s. declare_types naming ((x, a_type s) ∷ env) (k + constructors u) ds) (λ s. declare_types naming ((x, a_type s) ∷ other) (k + constructors u) ds) (denoted-same at env other h k u)
-      (λ s. types-are at ((x, a_type s) ∷ env) ((x, a_type s) ∷ other) (k + constructors u) ds (refl, refl, h))
+      same_option-then (EnvironmentIs at) (denoted (meanings naming env) k u) (denoted (meanings naming other) k u) (λ s. declare_types naming ((x, a_type s) ∷ env) (k + constructor_count u) ds) (λ s. declare_types naming ((x, a_type s) ∷ other) (k + constructor_count u) ds) (denoted-same at env other h k u)
+      (λ s. types-are at ((x, a_type s) ∷ env) ((x, a_type s) ∷ other) (k + constructor_count u) ds (refl, refl, h))
 
   first-are : (at : List ℕ) (env other : Activation N) (k : ℕ) (b : Tree N block) → EnvironmentIs at env other → OptionIs (EnvironmentIs at) (declare_first naming env k b) (declare_first naming other k b)
   unfolding declare_first
@@ -180,29 +180,29 @@ module _ {N : Type 0} (naming : Naming N) where
   unfolding declare_variables
   variables-are at k end f g h = frame-here at f g h
   variables-are at k (more (declares_variable ns u) gs) f g h =
-      same_option-then (FrameGrown at) (denoted (meanings naming f.env) k u) (denoted (meanings naming g.env) k u) (λ s. declare_variables naming (k + constructors u) gs (allocate (names_listed ns) (initial s) f)) (λ s. declare_variables naming (k + constructors u) gs (allocate (names_listed ns) (initial s) g)) (denoted-same at f.env g.env h.same_bindings k u)
-      (λ s. let inner = allocate-is at (names_listed ns) (initial s) f g h in
-      frames-on at inner.0 (declare_variables naming (k + constructors u) gs (allocate (names_listed ns) (initial s) f)) (declare_variables naming (k + constructors u) gs (allocate (names_listed ns) (initial s) g))
-      (variables-are (at ++ inner.0) (k + constructors u) gs (allocate (names_listed ns) (initial s) f) (allocate (names_listed ns) (initial s) g) inner.1))
+      same_option-then (FrameGrown at) (denoted (meanings naming f.env) k u) (denoted (meanings naming g.env) k u) (λ s. declare_variables naming (k + constructor_count u) gs (allocate (names_in_list ns) (initial s) f)) (λ s. declare_variables naming (k + constructor_count u) gs (allocate (names_in_list ns) (initial s) g)) (denoted-same at f.env g.env h.same_bindings k u)
+      (λ s. let inner = allocate-is at (names_in_list ns) (initial s) f g h in
+      frames-on at inner.0 (declare_variables naming (k + constructor_count u) gs (allocate (names_in_list ns) (initial s) f)) (declare_variables naming (k + constructor_count u) gs (allocate (names_in_list ns) (initial s) g))
+      (variables-are (at ++ inner.0) (k + constructor_count u) gs (allocate (names_in_list ns) (initial s) f) (allocate (names_in_list ns) (initial s) g) inner.1))
 
   procedures-are : (at : List ℕ) (k : ℕ) (ps : Tree N (items procedure)) (env other : Activation N) → EnvironmentIs at env other → EnvironmentIs at (declare_procedures k ps env) (declare_procedures k ps other)
   procedures-are at k end env other h = h
   procedures-are at k (more p rest) env other h =
-      procedures-are at (k + procedure_constructors p) rest ((procedure_name p, a_procedure record { first_constructor = k; text = p }) ∷ env) ((procedure_name p, a_procedure record { first_constructor = k; text = p }) ∷ other) (refl, refl, h)
+      procedures-are at (k + procedure_constructor_count p) rest ((procedure_name p, a_procedure record { first_constructor = k; text = p }) ∷ env) ((procedure_name p, a_procedure record { first_constructor = k; text = p }) ∷ other) (refl, refl, h)
 
-  with_procedures-are : (at : List ℕ) (k : ℕ) (ps : Tree N (items procedure)) (o q : Option (Frame N)) → OptionIs (FrameGrown at) o q → OptionIs (FrameGrown at) (option_map (with_procedures k ps) o) (option_map (with_procedures k ps) q)
-  with_procedures-are at k ps None None h = tt
-  with_procedures-are at k ps (Some f) (Some g) h = (h.0, record { same_variables = h.1.same_variables; same_bindings = procedures-are (at ++ h.0) k ps f.env g.env h.1.same_bindings })
-  with_procedures-are at k ps _ _ h = absurd h
+  declare_procedures_in_frame-are : (at : List ℕ) (k : ℕ) (ps : Tree N (items procedure)) (o q : Option (Frame N)) → OptionIs (FrameGrown at) o q → OptionIs (FrameGrown at) (option_map (declare_procedures_in_frame k ps) o) (option_map (declare_procedures_in_frame k ps) q)
+  declare_procedures_in_frame-are at k ps None None h = tt
+  declare_procedures_in_frame-are at k ps (Some f) (Some g) h = (h.0, record { same_variables = h.1.same_variables; same_bindings = procedures-are (at ++ h.0) k ps f.env g.env h.1.same_bindings })
+  declare_procedures_in_frame-are at k ps _ _ h = absurd h
 
   block-is : (at : List ℕ) (k : ℕ) (b : Tree N block) (f g : Frame N) → FrameIs at f g → OptionIs (FrameGrown at) (declare_block naming k b f) (declare_block naming k b g)
   unfolding declare_block
   block-is at k b f g h =
       option-then (EnvironmentIs at) (FrameGrown at) (declare_first naming f.env k b) (declare_first naming g.env k b)
-      (λ env. option_map (with_procedures (after_variables k b) (block_procedures b)) (declare_variables naming (after_types k b) (block_variables b) record { env = env; store = f.store }))
-      (λ env. option_map (with_procedures (after_variables k b) (block_procedures b)) (declare_variables naming (after_types k b) (block_variables b) record { env = env; store = g.store })) (first-are at f.env g.env k b h.same_bindings)
-      (λ env other same. with_procedures-are at (after_variables k b) (block_procedures b) (declare_variables naming (after_types k b) (block_variables b) record { env = env; store = f.store }) (declare_variables naming (after_types k b) (block_variables b) record { env = other; store = g.store })
-      (variables-are at (after_types k b) (block_variables b) record { env = env; store = f.store } record { env = other; store = g.store } record { same_variables = h.same_variables; same_bindings = same }))
+      (λ env. option_map (declare_procedures_in_frame (constructor_after_variables k b) (block_procedures b)) (declare_variables naming (constructor_after_types k b) (block_variables b) record { env = env; store = f.store }))
+      (λ env. option_map (declare_procedures_in_frame (constructor_after_variables k b) (block_procedures b)) (declare_variables naming (constructor_after_types k b) (block_variables b) record { env = env; store = g.store })) (first-are at f.env g.env k b h.same_bindings)
+      (λ env other same. declare_procedures_in_frame-are at (constructor_after_variables k b) (block_procedures b) (declare_variables naming (constructor_after_types k b) (block_variables b) record { env = env; store = f.store }) (declare_variables naming (constructor_after_types k b) (block_variables b) record { env = other; store = g.store })
+      (variables-are at (constructor_after_types k b) (block_variables b) record { env = env; store = f.store } record { env = other; store = g.store } record { same_variables = h.same_variables; same_bindings = same }))
 
   parameter-is : (at : List ℕ) (p : Parameter N) (a b : Argument) (f g : Frame N) → ArgumentIs at a b → FrameIs at f g → OptionIs (FrameGrown at) (bind_parameter p.mode p.name a f) (bind_parameter p.mode p.name b g)
   parameter-is at p a b f g is h = go p.mode a b is
@@ -226,32 +226,32 @@ module _ {N : Type 0} (naming : Naming N) where
   -- ---- calls
 
   -- holds if calls do the same in related environments
-  abbrev pub CallsAlike : (Activation N → Calls N) → (Activation N → Calls N) → Type 0
+  abbrev pub CallsAlike : (Activation N → CallFunction N) → (Activation N → CallFunction N) → Type 0
   CallsAlike enter enter' = (at : List ℕ) (env other : Activation N) → EnvironmentIs at env other → (x : N) → EntersAlike at (enter env x) (enter' other x)
 
-  body-alike : (enter enter' : Activation N → Calls N) → CallsAlike enter enter' → (t : ℕ) (at : List ℕ) (env other : Activation N) (statements : Tree N (maybe body)) → EnvironmentIs at env other
+  body-alike : (enter enter' : Activation N → CallFunction N) → CallsAlike enter enter' → (t : ℕ) (at : List ℕ) (env other : Activation N) (statements : Tree N (maybe body)) → EnvironmentIs at env other
       → Alike at (execute_body naming env (enter env) t statements) (execute_body naming other (enter' other) t statements)
   unfolding execute_body
   body-alike enter enter' known t at env other none h s u is = is
   body-alike enter enter' known t at env other (one (begins statements)) h s u is =
       execute_all-alike at (statement_meanings naming env) (statement_meanings naming other) (enter env) (enter' other)
-      record { mean_same = λ x. passing-is at (newest (from_binding naming env x)) (newest (from_binding naming other x)) (newest-is at (from_binding naming env x) (from_binding naming other x) (from_binding-is naming at env other x h)); are_written = λ x. refl }
+      record { mean_same = λ x. statement_object-is at (newest_object (environment_from_binding naming env x)) (newest_object (environment_from_binding naming other x)) (newest_object-is at (environment_from_binding naming env x) (environment_from_binding naming other x) (environment_from_binding-is naming at env other x h)); are_written = λ x. refl }
       (known at env other h) t statements s u is
 
   -- holds if two runs are related after new variables were added to the list
   abbrev ProgressGrown : List ℕ → Progress → Progress → Type 0
   ProgressGrown at p q = (others : List ℕ) × ProgressIs (at ++ others) p q
 
-  in_frame-alike : (enter enter' : Activation N → Calls N) → CallsAlike enter enter' → (t : ℕ) (at : List ℕ) (s u : State) (o q : Option (Frame N)) (statements : Tree N (maybe body)) → StateIs at s u → OptionIs (FrameGrown at) o q
-      → ProgressGrown at (in_frame s o (λ f. execute_body naming f.env (enter f.env) t statements)) (in_frame u q (λ f. execute_body naming f.env (enter' f.env) t statements))
-  in_frame-alike enter enter' known t at s u None None statements h is = ([], (refl, h.same_output))
-  in_frame-alike enter enter' known t at s u (Some f) (Some g) statements h is = (
+  continue_in_frame-alike : (enter enter' : Activation N → CallFunction N) → CallsAlike enter enter' → (t : ℕ) (at : List ℕ) (s u : State) (o q : Option (Frame N)) (statements : Tree N (maybe body)) → StateIs at s u → OptionIs (FrameGrown at) o q
+      → ProgressGrown at (continue_in_frame s o (λ f. execute_body naming f.env (enter f.env) t statements)) (continue_in_frame u q (λ f. execute_body naming f.env (enter' f.env) t statements))
+  continue_in_frame-alike enter enter' known t at s u None None statements h is = ([], (refl, h.same_output))
+  continue_in_frame-alike enter enter' known t at s u (Some f) (Some g) statements h is = (
     is.0,
     body-alike enter enter' known t (at ++ is.0) f.env g.env statements is.1.same_bindings record s { store = f.store } record u { store = g.store } record { same_variables = is.1.same_variables; same_input = h.same_input; same_output = h.same_output },
   )
-  in_frame-alike enter enter' known t at s u _ _ statements h is = absurd is
+  continue_in_frame-alike enter enter' known t at s u _ _ statements h is = absurd is
 
-  activate-alike : (enter enter' : Activation N → Calls N) → CallsAlike enter enter' → (t : ℕ) (at : List ℕ) (env other : Activation N) (args others : List Argument) (s u : State) → EnvironmentIs at env other → ArgumentsAre at args others → StateIs at s u
+  activate-alike : (enter enter' : Activation N → CallFunction N) → CallsAlike enter enter' → (t : ℕ) (at : List ℕ) (env other : Activation N) (args others : List Argument) (s u : State) → EnvironmentIs at env other → ArgumentsAre at args others → StateIs at s u
       → ProgressGrown at (activate naming enter t env args s) (activate naming enter' t other others u)
   unfolding activate
   activate-alike enter enter' known t at [] [] args others s u env are h = ([], (refl, h.same_output))
@@ -262,8 +262,8 @@ module _ {N : Type 0} (naming : Naming N) where
           let f : Frame N = record { env = (x, a_procedure code) ∷ rest; store = s.store } in
           let g : Frame N = record { env = (y, a_procedure code) ∷ other; store = u.store } in
           let ps = parameters (procedure_formals code.text) in
-          let k = after_formals code.first_constructor code.text in
-          in_frame-alike enter enter' known t at s u (option_and_then (declare_block naming k (procedure_block code.text)) (bind_parameters ps args f)) (option_and_then (declare_block naming k (procedure_block code.text)) (bind_parameters ps others g)) (block_statements (procedure_block code.text)) h
+          let k = constructor_after_formals code.first_constructor code.text in
+          continue_in_frame-alike enter enter' known t at s u (option_and_then (declare_block naming k (procedure_block code.text)) (bind_parameters ps args f)) (option_and_then (declare_block naming k (procedure_block code.text)) (bind_parameters ps others g)) (block_statements (procedure_block code.text)) h
           (option-then (FrameGrown at) (FrameGrown at) (bind_parameters ps args f) (bind_parameters ps others g) (declare_block naming k (procedure_block code.text)) (declare_block naming k (procedure_block code.text))
           (parameters-are at ps args others f g are record { same_variables = h.same_variables; same_bindings = (env.0, refl, env.2) })
           (λ f₁ g₁ grown. frames-on at grown.0 (declare_block naming k (procedure_block code.text) f₁) (declare_block naming k (procedure_block code.text) g₁) (block-is (at ++ grown.0) k (procedure_block code.text) f₁ g₁ grown.1)))
@@ -288,13 +288,13 @@ module _ {N : Type 0} (naming : Naming N) where
   unfolding call call_freeing
   calls-alike zero t at env other h x args others s u are is = (refl, is.same_output)
   calls-alike (suc c) t at env other h x args others s u are is =
-      let (new, same) = activate-alike (call_freeing naming c t) (call naming c t) (calls-alike c t) t at (from_binding naming env x) (from_binding naming other x) args others s u (from_binding-is naming at env other x h) are is in
-      drop_variables-is at new s u (activate naming (call_freeing naming c t) t (from_binding naming env x) args s) (activate naming (call naming c t) t (from_binding naming other x) others u) is same
+      let (new, same) = activate-alike (call_freeing naming c t) (call naming c t) (calls-alike c t) t at (environment_from_binding naming env x) (environment_from_binding naming other x) args others s u (environment_from_binding-is naming at env other x h) are is in
+      drop_variables-is at new s u (activate naming (call_freeing naming c t) t (environment_from_binding naming env x) args s) (activate naming (call naming c t) t (environment_from_binding naming other x) others u) is same
 
-  finished-same : (at : List ℕ) (p q : Progress) → ProgressIs at p q → finished p ≡ finished q
-  finished-same at (running s) (running u) h = ap (λ out. record { output = out; ending = (finished (running s)).ending }) h.same_output
-  finished-same at (stopped e out) (stopped x written) h = λ i. record { output = h.1 i; ending = h.0 i }
-  finished-same at _ _ h = absurd h
+  run_result-same : (at : List ℕ) (p q : Progress) → ProgressIs at p q → run_result p ≡ run_result q
+  run_result-same at (running s) (running u) h = ap (λ out. record { output = out; ending = (run_result (running s)).ending }) h.same_output
+  run_result-same at (stopped e out) (stopped x written) h = λ i. record { output = h.1 i; ending = h.0 i }
+  run_result-same at _ _ h = absurd h
 
   pub freeing-keeps : (m : Tree N module_text) (input : List ℤ) (c t : ℕ) → run_freeing naming m input c t ≡ run_over naming m input c t
   unfolding run_over run_freeing
@@ -302,9 +302,9 @@ module _ {N : Type 0} (naming : Naming N) where
       let start : State = record { store = []; input = input; output = [] } in
       let f : Frame N = record { env = outermost naming; store = [] } in
       let o = declare_block naming 0 (module_block m) f in
-      let (new, same) = in_frame-alike (call_freeing naming c t) (call naming c t) (calls-alike c t) t [] start start o o (block_statements (module_block m)) record { same_variables = tt; same_input = refl; same_output = refl }
+      let (new, same) = continue_in_frame-alike (call_freeing naming c t) (call naming c t) (calls-alike c t) t [] start start o o (block_statements (module_block m)) record { same_variables = tt; same_input = refl; same_output = refl }
       (block-is [] 0 (module_block m) f f record { same_variables = tt; same_bindings = (refl, refl, (refl, refl, (refl, refl, (refl, refl, (refl, refl, (refl, refl, (refl, refl, tt))))))) }) in
-      finished-same new (in_frame start o (λ f. execute_body naming f.env (call_freeing naming c t f.env) t (block_statements (module_block m)))) (in_frame start o (λ f. execute_body naming f.env (call naming c t f.env) t (block_statements (module_block m)))) same
+      run_result-same new (continue_in_frame start o (λ f. execute_body naming f.env (call_freeing naming c t f.env) t (block_statements (module_block m)))) (continue_in_frame start o (λ f. execute_body naming f.env (call naming c t f.env) t (block_statements (module_block m)))) same
 
 pub freeing_keeps_runs-holds : FreeingKeepsRuns
 freeing_keeps_runs-holds = (λ naming. freeing-keeps naming, λ naming. freeing-keeps naming)

@@ -1,10 +1,10 @@
 -- Environments whose bindings also have the ordinals of their declarations. Names can be looked up by name and by
 -- ordinal, and a name and its ordinal find the same binding.
 use Rattle.std.proofs.Common.{◌≡◌, ℕ, ◌<◌, ◌≤◌, true, false, List, [], ◌∷◌, Some, refl, le_of_lt, arith}
-use Rattle.ob0_language_names.specs.Names.{Label, Naming, as_labels, declared, same_label}
+use Rattle.ob0_language_names.specs.Names.{Label, Naming, naming_by_label, declared, same_label}
 use Rattle.ob0_language_names.specs.Parts.{procedure_name}
-use Rattle.ob0_language_names.specs.Scopes.{Scope, as_label, ordinal_of, relabel_procedure}
-use Rattle.ob0_language_types.specs.Environments.{from_binding}
+use Rattle.ob0_language_names.specs.Scopes.{Scope, label_from_ordinal, ordinal_of, relabel_procedure}
+use Rattle.ob0_language_types.specs.Environments.{environment_from_binding}
 use Rattle.ob0_language_types.specs.Expressions.{Object, a_constant, a_procedure, a_standard, a_type, a_variable}
 use Rattle.ob0_language_values.specs.Values.{Place}
 use Rattle.ob0_language_runs.specs.Runs.{Activation, ProcedureText}
@@ -28,7 +28,7 @@ scope_of (b ∷ noted) = (b.name, b.ordinal) ∷ scope_of noted
 
 abbrev pub numbered_code : {N : Type 0} → Naming N → Scope N → ℕ → ProcedureText N → ProcedureText Label
 numbered_code naming scope k code =
-    record { first_constructor = code.first_constructor; text = relabel_procedure naming (as_label naming) scope k code.text }
+    record { first_constructor = code.first_constructor; text = relabel_procedure naming (label_from_ordinal naming) scope k code.text }
 
 abbrev pub numbered_object : {N : Type 0} → Naming N → Scope N → ℕ → Object Place (ProcedureText N) → Object Place (ProcedureText Label)
 numbered_object naming scope k (a_type s) = a_type s
@@ -61,24 +61,24 @@ abbrev pub noted_from : {N : Type 0} → Naming N → Noted N → N → Noted N
 noted_from naming [] x = []
 noted_from naming (b ∷ noted) x = elim (naming.same x b.name) [ true ↦ b ∷ noted | false ↦ noted_from naming noted x ]
 
-pub by_name-from : {N : Type 0} (naming : Naming N) (noted : Noted N) (x : N) → from_binding naming (by_name noted) x ≡ by_name (noted_from naming noted x)
+pub by_name-from : {N : Type 0} (naming : Naming N) (noted : Noted N) (x : N) → environment_from_binding naming (by_name noted) x ≡ by_name (noted_from naming noted x)
 by_name-from naming [] x = refl
 by_name-from naming (b ∷ noted) x =
-    elim (naming.same x b.name) as (λ v. (elim v [ true ↦ by_name (b ∷ noted) | false ↦ from_binding naming (by_name noted) x ]) ≡ by_name (elim v [ true ↦ b ∷ noted | false ↦ noted_from naming noted x ]))
+    elim (naming.same x b.name) as (λ v. (elim v [ true ↦ by_name (b ∷ noted) | false ↦ environment_from_binding naming (by_name noted) x ]) ≡ by_name (elim v [ true ↦ b ∷ noted | false ↦ noted_from naming noted x ]))
     [ true ↦ refl | false ↦ by_name-from naming noted x ]
 
 -- The ordinal of a name is below the ordinals of all bindings newer than its own.
-pub older_ordinal : {N : Type 0} (naming : Naming N) (n : ℕ) (noted : Noted N) (x : N) → Below n noted → same_label (as_label naming (ordinal_of naming (scope_of noted) x) x) (declared n) ≡ false
+pub older_ordinal : {N : Type 0} (naming : Naming N) (n : ℕ) (noted : Noted N) (x : N) → Below n noted → same_label (label_from_ordinal naming (ordinal_of naming (scope_of noted) x) x) (declared n) ≡ false
 older_ordinal naming n [] x below = refl
 older_ordinal naming n (b ∷ noted) x below =
-    elim (naming.same x b.name) as (λ v. same_label (as_label naming (elim v [ true ↦ Some b.ordinal | false ↦ ordinal_of naming (scope_of noted) x ]) x) (declared n) ≡ false)
+    elim (naming.same x b.name) as (λ v. same_label (label_from_ordinal naming (elim v [ true ↦ Some b.ordinal | false ↦ ordinal_of naming (scope_of noted) x ]) x) (declared n) ≡ false)
     [ true ↦ ne_eqb b.ordinal n (λ e. omega (arith, e, below.0)) | false ↦ older_ordinal naming n noted x (Below-weaken b.ordinal n noted (le_of_lt below.0) below.2) ]
 
-pub by_ordinal-from : {N : Type 0} (naming : Naming N) (n : ℕ) (noted : Noted N) (x : N) → Below n noted → from_binding as_labels (by_ordinal naming noted) (as_label naming (ordinal_of naming (scope_of noted) x) x) ≡ by_ordinal naming (noted_from naming noted x)
+pub by_ordinal-from : {N : Type 0} (naming : Naming N) (n : ℕ) (noted : Noted N) (x : N) → Below n noted → environment_from_binding naming_by_label (by_ordinal naming noted) (label_from_ordinal naming (ordinal_of naming (scope_of noted) x) x) ≡ by_ordinal naming (noted_from naming noted x)
 by_ordinal-from naming n [] x below = refl
 by_ordinal-from naming n (b ∷ noted) x below =
-    elim (naming.same x b.name) as (λ v. from_binding as_labels (by_ordinal naming (b ∷ noted)) (as_label naming (elim v [ true ↦ Some b.ordinal | false ↦ ordinal_of naming (scope_of noted) x ]) x) ≡ by_ordinal naming (elim v [ true ↦ b ∷ noted | false ↦ noted_from naming noted x ]))
-    [ true ↦ rw (eq-eqb b.ordinal b.ordinal refl, from_binding) refl | false ↦ rw (older_ordinal naming b.ordinal noted x below.2, from_binding) (by_ordinal-from naming b.ordinal noted x below.2) ]
+    elim (naming.same x b.name) as (λ v. environment_from_binding naming_by_label (by_ordinal naming (b ∷ noted)) (label_from_ordinal naming (elim v [ true ↦ Some b.ordinal | false ↦ ordinal_of naming (scope_of noted) x ]) x) ≡ by_ordinal naming (elim v [ true ↦ b ∷ noted | false ↦ noted_from naming noted x ]))
+    [ true ↦ rw (eq-eqb b.ordinal b.ordinal refl, environment_from_binding) refl | false ↦ rw (older_ordinal naming b.ordinal noted x below.2, environment_from_binding) (by_ordinal-from naming b.ordinal noted x below.2) ]
 
 pub Below-from : {N : Type 0} (naming : Naming N) (n : ℕ) (noted : Noted N) (x : N) → Below n noted → Below n (noted_from naming noted x)
 Below-from naming n [] x below = tt

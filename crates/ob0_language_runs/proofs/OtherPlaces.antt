@@ -2,12 +2,12 @@
 use Rattle.std.proofs.Common.{◌≡◌, ℕ, zero, suc, ◌-◌, true, false, ◌≢◌, List, [], ◌∷◌, ◌++◌, length, take, ℤ, slice_get, slice_set, Some, None, Option, option_map, option_and_then, sym, refl, ap, ◌∙◌, subst}
 use Rattle.ob0_tree.specs.Tree.{Tree, addend, adds, assigns, branches, calls, compares, designator, else_branch, else_part, elsif_branch, elsif_part, empty, end, expression, factor, field, further_statement, index, integer, items, maybe, more, multiplier, multiplies, negation, none, one, parenthesised, product, relates, repeat_loop, runs, selector, sequence, simple, statement, sum, term, then_statement, while_loop}
 use Rattle.ob0_language_types.specs.Arguments.{arguments_listed}
-use Rattle.ob0_language_types.specs.Expressions.{Meanings, Object, Standard, a_constant, a_procedure, a_standard, a_type, a_variable, designate, element_step, evaluate, evaluate_addends, evaluate_factor, evaluate_multipliers, evaluate_simple, evaluate_term, follow, object_place, reads, object_value, writes, writes_line}
+use Rattle.ob0_language_types.specs.Expressions.{Meanings, Object, StandardProcedure, a_constant, a_procedure, a_standard, a_type, a_variable, designate, element_step, evaluate, evaluate_addends, evaluate_factor, evaluate_multipliers, evaluate_simple, evaluate_term, follow, object_place, reads, object_value, writes, writes_line}
 use Rattle.ob0_language_types.specs.Typing.{lone_designator}
 use Rattle.ob0_language_types.specs.WellTyped.{Mode, by_place, by_value}
 use Rattle.ob0_language_types.proofs.Literals.{some_inverse}
-use Rattle.ob0_language_values.specs.Values.{Outcome, Place, Store, TurnBound, Value, add, add_is_settled, at_field, at_path, elements, ends, gives, members, multiply, multiply_is_settled, negate, number, or_stuck, part, read_place, relate, apply_sign, truth, with_at_path, ◌>>=◌}
-use Rattle.ob0_language_runs.specs.Runs.{Argument, Calls, Progress, State, Written, choose, evaluate_argument, evaluate_arguments, execute, execute_all, execute_else, execute_elsifs, execute_further, continue_with, line_out, modes_of, number_out, perform, place_argument, append_output, read_number, running, stopped, store_at, turns, turns_until, use_in, value_argument}
+use Rattle.ob0_language_values.specs.Values.{Outcome, Place, Store, TurnBound, Value, add, add_short_circuits, at_field, value_at_path, elements, ends, gives, members, multiply, multiply_short_circuits, negate, number, or_stuck, part, read_place, relate, apply_sign, truth, with_value_at_path, ◌>>=◌}
+use Rattle.ob0_language_runs.specs.Runs.{Argument, CallFunction, Progress, State, PrintedItem, choose, evaluate_argument, evaluate_arguments, execute, execute_all, execute_else, execute_elsifs, execute_further, continue_with, line_out, modes_of, number_out, perform_call, place_argument, append_output, read_number, running, stopped, store_at, execute_while, execute_repeat, use_result, value_argument}
 use Rattle.ob0_language_runs.proofs.SoundStatements.{slice_get-grows}
 
 -- The last item of a list is at the index of its length before the item was appended.
@@ -136,7 +136,7 @@ same-then {A} Then o q f g e each = subst (λ q. OutcomeIs Then (o >>= f) (q >>=
     go (ends x) = refl
 
 read-same : (at : List ℕ) (small large : Store) (p q : Place) → StoreIs at small large → PlaceIs at p q → read_place small p ≡ read_place large q
-read-same at small large p q h is = λ i. option_and_then (at_path (is.same_path i)) (variable-found at small large p.variable q.variable h is.variable_is i)
+read-same at small large p q h is = λ i. option_and_then (value_at_path (is.same_path i)) (variable-found at small large p.variable q.variable h is.variable_is i)
 
 value-same : {P : Type 0} (at : List ℕ) (small large : Store) (o q : Option (Object Place P)) → StoreIs at small large → MeaningIs at o q → object_value small o ≡ object_value large q
 value-same at small large None None h is = refl
@@ -174,7 +174,7 @@ module _ {N P : Type 0} (here there : Meanings N Place P) (small large : Store) 
     pub evaluate_addends-same : (x : Value) (rest : Tree N (items addend)) → evaluate_addends here small x rest ≡ evaluate_addends there large x rest
     evaluate_addends-same x end = refl
     evaluate_addends-same x (more (adds o t) rest) = λ i.
-        (elim (add_is_settled o x) [ true ↦ gives x | false ↦ evaluate_term-same t i >>= add o x ])
+        (elim (add_short_circuits o x) [ true ↦ gives x | false ↦ evaluate_term-same t i >>= add o x ])
         >>= (λ y. evaluate_addends-same y rest i)
 
     pub evaluate_term-same : (t : Tree N term) → evaluate_term here small t ≡ evaluate_term there large t
@@ -184,12 +184,12 @@ module _ {N P : Type 0} (here there : Meanings N Place P) (small large : Store) 
     pub evaluate_multipliers-same : (x : Value) (rest : Tree N (items multiplier)) → evaluate_multipliers here small x rest ≡ evaluate_multipliers there large x rest
     evaluate_multipliers-same x end = refl
     evaluate_multipliers-same x (more (multiplies o a) rest) = λ i.
-        (elim (multiply_is_settled o x) [ true ↦ gives x | false ↦ evaluate_factor-same a i >>= multiply o x ])
+        (elim (multiply_short_circuits o x) [ true ↦ gives x | false ↦ evaluate_factor-same a i >>= multiply o x ])
         >>= (λ y. evaluate_multipliers-same y rest i)
 
     pub evaluate_factor-same : (a : Tree N factor) → evaluate_factor here small a ≡ evaluate_factor there large a
     evaluate_factor-same (designator x path) = λ i.
-        values x i >>= (λ v. follow-same v path i >>= (λ steps. or_stuck (at_path steps v)))
+        values x i >>= (λ v. follow-same v path i >>= (λ steps. or_stuck (value_at_path steps v)))
     evaluate_factor-same (integer n) = refl
     evaluate_factor-same (parenthesised e) = evaluate-same e
     evaluate_factor-same (negation a) = λ i. evaluate_factor-same a i >>= negate
@@ -270,15 +270,15 @@ ProgressIs at _ _ = ⊥
 abbrev pub Alike : List ℕ → (State → Progress) → (State → Progress) → Type 0
 Alike at f g = (s u : State) → StateIs at s u → ProgressIs at (f s) (g u)
 
-use_in-is : {A B : Type 0} (at : List ℕ) (Is : A → B → Type 0) (s u : State) (o : Outcome A) (q : Outcome B) (f : A → Progress) (g : B → Progress) → s.output ≡ u.output → OutcomeIs Is o q → ((a : A) (b : B) → Is a b → ProgressIs at (f a) (g b)) → ProgressIs at (use_in s o f) (use_in u q g)
-use_in-is at Is s u (gives a) (gives b) f g out h each = each a b h
-use_in-is at Is s u (ends e) (ends x) f g out h each = (h, out)
-use_in-is at Is s u _ _ f g out h each = absurd h
+use_result-is : {A B : Type 0} (at : List ℕ) (Is : A → B → Type 0) (s u : State) (o : Outcome A) (q : Outcome B) (f : A → Progress) (g : B → Progress) → s.output ≡ u.output → OutcomeIs Is o q → ((a : A) (b : B) → Is a b → ProgressIs at (f a) (g b)) → ProgressIs at (use_result s o f) (use_result u q g)
+use_result-is at Is s u (gives a) (gives b) f g out h each = each a b h
+use_result-is at Is s u (ends e) (ends x) f g out h each = (h, out)
+use_result-is at Is s u _ _ f g out h each = absurd h
 
-use_same : {A : Type 0} (at : List ℕ) (s u : State) (o q : Outcome A) (f g : A → Progress) → s.output ≡ u.output → o ≡ q → ((a : A) → ProgressIs at (f a) (g a)) → ProgressIs at (use_in s o f) (use_in u q g)
-use_same {A} at s u o q f g out e each = subst (λ q. ProgressIs at (use_in s o f) (use_in u q g)) e (go o)
+use_same : {A : Type 0} (at : List ℕ) (s u : State) (o q : Outcome A) (f g : A → Progress) → s.output ≡ u.output → o ≡ q → ((a : A) → ProgressIs at (f a) (g a)) → ProgressIs at (use_result s o f) (use_result u q g)
+use_same {A} at s u o q f g out e each = subst (λ q. ProgressIs at (use_result s o f) (use_result u q g)) e (go o)
   where
-    go : (o : Outcome A) → ProgressIs at (use_in s o f) (use_in u o g)
+    go : (o : Outcome A) → ProgressIs at (use_result s o f) (use_result u o g)
     go (gives a) = each a
     go (ends x) = (refl, out)
 
@@ -294,30 +294,30 @@ go_on-is at _ _ f g h alike = absurd h
 
 store_at-is : (at : List ℕ) (s u : State) (p q : Place) (new : Value) → StateIs at s u → PlaceIs at p q → ProgressIs at (store_at s p new) (store_at u q new)
 store_at-is at s u p q new h is =
-    subst (λ path. ProgressIs at (store_at s p new) (use_in u (or_stuck (option_and_then (λ old. option_map (slice_set u.store q.variable) (with_at_path path new old)) (slice_get u.store q.variable))) (λ store. running record u { store = store }))) is.same_path
-    (subst (λ found. ProgressIs at (use_in s (or_stuck (option_and_then (λ old. option_map (slice_set s.store p.variable) (with_at_path p.path new old)) found)) (λ store. running record s { store = store }))
-    (use_in u (or_stuck (option_and_then (λ old. option_map (slice_set u.store q.variable) (with_at_path p.path new old)) (slice_get u.store q.variable))) (λ store. running record u { store = store })))
+    subst (λ path. ProgressIs at (store_at s p new) (use_result u (or_stuck (option_and_then (λ old. option_map (slice_set u.store q.variable) (with_value_at_path path new old)) (slice_get u.store q.variable))) (λ store. running record u { store = store }))) is.same_path
+    (subst (λ found. ProgressIs at (use_result s (or_stuck (option_and_then (λ old. option_map (slice_set s.store p.variable) (with_value_at_path p.path new old)) found)) (λ store. running record s { store = store }))
+    (use_result u (or_stuck (option_and_then (λ old. option_map (slice_set u.store q.variable) (with_value_at_path p.path new old)) (slice_get u.store q.variable))) (λ store. running record u { store = store })))
     (sym (variable-found at s.store u.store p.variable q.variable h.same_variables is.variable_is))
     (go (slice_get u.store q.variable) refl))
   where
     put : (old : Value) → slice_get u.store q.variable ≡ Some old → (w : Option Value)
-        → ProgressIs at (use_in s (or_stuck (option_map (slice_set s.store p.variable) w)) (λ store. running record s { store = store })) (use_in u (or_stuck (option_map (slice_set u.store q.variable) w)) (λ store. running record u { store = store }))
+        → ProgressIs at (use_result s (or_stuck (option_map (slice_set s.store p.variable) w)) (λ store. running record s { store = store })) (use_result u (or_stuck (option_map (slice_set u.store q.variable) w)) (λ store. running record u { store = store }))
     put old e None = (refl, h.same_output)
     put old e (Some w) =
         record { same_variables = variable-written at s.store u.store p.variable q.variable old w h.same_variables is.variable_is e; same_input = h.same_input; same_output = h.same_output }
 
     go : (found : Option Value) → slice_get u.store q.variable ≡ found
-        → ProgressIs at (use_in s (or_stuck (option_and_then (λ old. option_map (slice_set s.store p.variable) (with_at_path p.path new old)) found)) (λ store. running record s { store = store }))
-        (use_in u (or_stuck (option_and_then (λ old. option_map (slice_set u.store q.variable) (with_at_path p.path new old)) found)) (λ store. running record u { store = store }))
+        → ProgressIs at (use_result s (or_stuck (option_and_then (λ old. option_map (slice_set s.store p.variable) (with_value_at_path p.path new old)) found)) (λ store. running record s { store = store }))
+        (use_result u (or_stuck (option_and_then (λ old. option_map (slice_set u.store q.variable) (with_value_at_path p.path new old)) found)) (λ store. running record u { store = store }))
     go None e = (refl, h.same_output)
-    go (Some old) e = put old e (with_at_path p.path new old)
+    go (Some old) e = put old e (with_value_at_path p.path new old)
 
 read-is : (at : List ℕ) (s u : State) (p q : Place) (input : List ℤ) → StateIs at s u → PlaceIs at p q → ProgressIs at (read_number s p input) (read_number u q input)
 read-is at s u p q [] h is = (refl, h.same_output)
 read-is at s u p q (n ∷ rest) h is =
     store_at-is at record s { input = rest } record u { input = rest } p q (number n) record { same_variables = h.same_variables; same_input = refl; same_output = h.same_output } is
 
-put_out-is : (at : List ℕ) (s u : State) (w : Written) → StateIs at s u → StateIs at (append_output s w) (append_output u w)
+put_out-is : (at : List ℕ) (s u : State) (w : PrintedItem) → StateIs at s u → StateIs at (append_output s w) (append_output u w)
 put_out-is at s u w h = record { same_variables = h.same_variables; same_input = h.same_input; same_output = ap (λ out. out ++ w ∷ []) h.same_output }
 
 -- The modes and the arguments of a call are the same in both stores.
@@ -335,7 +335,7 @@ modes-same at _ _ is = absurd is
 abbrev pub EntersAlike : List ℕ → (List Argument → State → Progress) → (List Argument → State → Progress) → Type 0
 EntersAlike at enter enter' = (args others : List Argument) (s u : State) → ArgumentsAre at args others → StateIs at s u → ProgressIs at (enter args s) (enter' others u)
 
-reads-alike : (at : List ℕ) (enter enter' : List Argument → State → Progress) → EntersAlike at (perform (Some (a_standard reads)) enter) (perform (Some (a_standard reads)) enter')
+reads-alike : (at : List ℕ) (enter enter' : List Argument → State → Progress) → EntersAlike at (perform_call (Some (a_standard reads)) enter) (perform_call (Some (a_standard reads)) enter')
 reads-alike at enter enter' (place_argument p ∷ []) (place_argument q ∷ []) s u are h =
     subst (λ input. ProgressIs at (read_number s p s.input) (read_number u q input)) h.same_input (read-is at s u p q s.input h are.0)
 reads-alike at enter enter' [] [] s u are h = (refl, h.same_output)
@@ -347,14 +347,14 @@ reads-alike at enter enter' (place_argument p ∷ args) (value_argument w ∷ ot
 reads-alike at enter enter' (value_argument v ∷ args) (place_argument q ∷ others) s u are h = absurd (are.0)
 reads-alike at enter enter' _ _ s u are h = absurd are
 
-written-alike : (at : List ℕ) (enter enter' : List Argument → State → Progress) (v : Value) (s u : State) → StateIs at s u → ProgressIs at (perform (Some (a_standard writes)) enter (value_argument v ∷ []) s) (perform (Some (a_standard writes)) enter' (value_argument v ∷ []) u)
+written-alike : (at : List ℕ) (enter enter' : List Argument → State → Progress) (v : Value) (s u : State) → StateIs at s u → ProgressIs at (perform_call (Some (a_standard writes)) enter (value_argument v ∷ []) s) (perform_call (Some (a_standard writes)) enter' (value_argument v ∷ []) u)
 written-alike at enter enter' (number n) s u h = put_out-is at s u (number_out n) h
 written-alike at enter enter' _ s u h = (refl, h.same_output)
 
-not-written : (at : List ℕ) (enter enter' : List Argument → State → Progress) (v w : Value) (a b : Argument) (args others : List Argument) (s u : State) → StateIs at s u → ProgressIs at (perform (Some (a_standard writes)) enter (value_argument v ∷ a ∷ args) s) (perform (Some (a_standard writes)) enter' (value_argument w ∷ b ∷ others) u)
+not-written : (at : List ℕ) (enter enter' : List Argument → State → Progress) (v w : Value) (a b : Argument) (args others : List Argument) (s u : State) → StateIs at s u → ProgressIs at (perform_call (Some (a_standard writes)) enter (value_argument v ∷ a ∷ args) s) (perform_call (Some (a_standard writes)) enter' (value_argument w ∷ b ∷ others) u)
 not-written at enter enter' v w a b args others s u h = go v w
   where
-    go : (v w : Value) → ProgressIs at (perform (Some (a_standard writes)) enter (value_argument v ∷ a ∷ args) s) (perform (Some (a_standard writes)) enter' (value_argument w ∷ b ∷ others) u)
+    go : (v w : Value) → ProgressIs at (perform_call (Some (a_standard writes)) enter (value_argument v ∷ a ∷ args) s) (perform_call (Some (a_standard writes)) enter' (value_argument w ∷ b ∷ others) u)
     go (number n) (number k) = (refl, h.same_output)
     go (number n) (truth k) = (refl, h.same_output)
     go (number n) (elements k) = (refl, h.same_output)
@@ -372,9 +372,9 @@ not-written at enter enter' v w a b args others s u h = go v w
     go (members m n) (elements k) = (refl, h.same_output)
     go (members m n) (members j k) = (refl, h.same_output)
 
-writes-alike : (at : List ℕ) (enter enter' : List Argument → State → Progress) → EntersAlike at (perform (Some (a_standard writes)) enter) (perform (Some (a_standard writes)) enter')
+writes-alike : (at : List ℕ) (enter enter' : List Argument → State → Progress) → EntersAlike at (perform_call (Some (a_standard writes)) enter) (perform_call (Some (a_standard writes)) enter')
 writes-alike at enter enter' (value_argument v ∷ []) (value_argument w ∷ []) s u are h =
-    subst (λ w. ProgressIs at (perform (Some (a_standard writes)) enter (value_argument v ∷ []) s) (perform (Some (a_standard writes)) enter' (value_argument w ∷ []) u)) are.0 (written-alike at enter enter' v s u h)
+    subst (λ w. ProgressIs at (perform_call (Some (a_standard writes)) enter (value_argument v ∷ []) s) (perform_call (Some (a_standard writes)) enter' (value_argument w ∷ []) u)) are.0 (written-alike at enter enter' v s u h)
 writes-alike at enter enter' [] [] s u are h = (refl, h.same_output)
 writes-alike at enter enter' (place_argument p ∷ args) (place_argument q ∷ others) s u are h = (refl, h.same_output)
 writes-alike at enter enter' (value_argument v ∷ a ∷ args) (value_argument w ∷ b ∷ others) s u are h = not-written at enter enter' v w a b args others s u h
@@ -384,63 +384,63 @@ writes-alike at enter enter' (place_argument p ∷ args) (value_argument w ∷ o
 writes-alike at enter enter' (value_argument v ∷ args) (place_argument q ∷ others) s u are h = absurd (are.0)
 writes-alike at enter enter' _ _ s u are h = absurd are
 
-standard-alike : (at : List ℕ) (a : Standard) (enter enter' : List Argument → State → Progress) → EntersAlike at (perform (Some (a_standard a)) enter) (perform (Some (a_standard a)) enter')
+standard-alike : (at : List ℕ) (a : StandardProcedure) (enter enter' : List Argument → State → Progress) → EntersAlike at (perform_call (Some (a_standard a)) enter) (perform_call (Some (a_standard a)) enter')
 standard-alike at reads enter enter' args others s u are h = reads-alike at enter enter' args others s u are h
 standard-alike at writes enter enter' args others s u are h = writes-alike at enter enter' args others s u are h
 standard-alike at writes_line enter enter' [] [] s u are h = put_out-is at s u line_out h
 standard-alike at writes_line enter enter' (a ∷ args) (b ∷ others) s u are h = (refl, h.same_output)
 standard-alike at writes_line enter enter' _ _ s u are h = absurd are
 
-perform-alike : (at : List ℕ) (o q : Option (Object Place (List Mode))) (enter enter' : List Argument → State → Progress) → MeaningIs at o q → EntersAlike at enter enter' → EntersAlike at (perform o enter) (perform q enter')
-perform-alike at (Some (a_procedure a)) (Some (a_procedure b)) enter enter' is alike args others s u are h = alike args others s u are h
-perform-alike at (Some (a_standard a)) (Some (a_standard b)) enter enter' is alike args others s u are h =
-    subst (λ b. ProgressIs at (perform (Some (a_standard a)) enter args s) (perform (Some (a_standard b)) enter' others u)) is (standard-alike at a enter enter' args others s u are h)
-perform-alike at None None enter enter' is alike args others s u are h = (refl, h.same_output)
-perform-alike at (Some (a_type a)) (Some (a_type b)) enter enter' is alike args others s u are h = (refl, h.same_output)
-perform-alike at (Some (a_constant a)) (Some (a_constant b)) enter enter' is alike args others s u are h = (refl, h.same_output)
-perform-alike at (Some (a_variable a)) (Some (a_variable b)) enter enter' is alike args others s u are h = (refl, h.same_output)
-perform-alike at _ _ enter enter' is alike args others s u are h = absurd is
+perform_call-alike : (at : List ℕ) (o q : Option (Object Place (List Mode))) (enter enter' : List Argument → State → Progress) → MeaningIs at o q → EntersAlike at enter enter' → EntersAlike at (perform_call o enter) (perform_call q enter')
+perform_call-alike at (Some (a_procedure a)) (Some (a_procedure b)) enter enter' is alike args others s u are h = alike args others s u are h
+perform_call-alike at (Some (a_standard a)) (Some (a_standard b)) enter enter' is alike args others s u are h =
+    subst (λ b. ProgressIs at (perform_call (Some (a_standard a)) enter args s) (perform_call (Some (a_standard b)) enter' others u)) is (standard-alike at a enter enter' args others s u are h)
+perform_call-alike at None None enter enter' is alike args others s u are h = (refl, h.same_output)
+perform_call-alike at (Some (a_type a)) (Some (a_type b)) enter enter' is alike args others s u are h = (refl, h.same_output)
+perform_call-alike at (Some (a_constant a)) (Some (a_constant b)) enter enter' is alike args others s u are h = (refl, h.same_output)
+perform_call-alike at (Some (a_variable a)) (Some (a_variable b)) enter enter' is alike args others s u are h = (refl, h.same_output)
+perform_call-alike at _ _ enter enter' is alike args others s u are h = absurd is
 
 -- Statements do the same in both stores.
 
-turns-alike : (at : List ℕ) (t : ℕ) (test test' : State → Outcome Value) (f g : State → Progress) → ((s u : State) → StateIs at s u → test s ≡ test' u) → Alike at f g → Alike at (turns t test f) (turns t test' g)
-turns-alike at zero test test' f g same alike s u h =
+execute_while-alike : (at : List ℕ) (t : ℕ) (test test' : State → Outcome Value) (f g : State → Progress) → ((s u : State) → StateIs at s u → test s ≡ test' u) → Alike at f g → Alike at (execute_while t test f) (execute_while t test' g)
+execute_while-alike at zero test test' f g same alike s u h =
     use_same at s u (test s) (test' u) (λ v. choose s v (λ s'. stopped TurnBound s'.output) running) (λ v. choose u v (λ s'. stopped TurnBound s'.output) running) h.same_output (same s u h)
     (λ v. choose-is at s u v (λ s'. stopped TurnBound s'.output) running (λ s'. stopped TurnBound s'.output) running h (refl, h.same_output) h)
-turns-alike at (suc t) test test' f g same alike s u h =
-    use_same at s u (test s) (test' u) (λ v. choose s v (λ s'. continue_with (f s') (turns t test f)) running) (λ v. choose u v (λ s'. continue_with (g s') (turns t test' g)) running) h.same_output (same s u h)
-    (λ v. choose-is at s u v (λ s'. continue_with (f s') (turns t test f)) running (λ s'. continue_with (g s') (turns t test' g)) running h
-    (go_on-is at (f s) (g u) (turns t test f) (turns t test' g) (alike s u h) (turns-alike at t test test' f g same alike)) h)
+execute_while-alike at (suc t) test test' f g same alike s u h =
+    use_same at s u (test s) (test' u) (λ v. choose s v (λ s'. continue_with (f s') (execute_while t test f)) running) (λ v. choose u v (λ s'. continue_with (g s') (execute_while t test' g)) running) h.same_output (same s u h)
+    (λ v. choose-is at s u v (λ s'. continue_with (f s') (execute_while t test f)) running (λ s'. continue_with (g s') (execute_while t test' g)) running h
+    (go_on-is at (f s) (g u) (execute_while t test f) (execute_while t test' g) (alike s u h) (execute_while-alike at t test test' f g same alike)) h)
 
-turns_until-alike : (at : List ℕ) (t : ℕ) (test test' : State → Outcome Value) (f g : State → Progress) → ((s u : State) → StateIs at s u → test s ≡ test' u) → Alike at f g → Alike at (turns_until t test f) (turns_until t test' g)
-turns_until-alike at zero test test' f g same alike s u h =
-    go_on-is at (f s) (g u) (λ s'. use_in s' (test s') (λ v. choose s' v running (λ s''. stopped TurnBound s''.output))) (λ s'. use_in s' (test' s') (λ v. choose s' v running (λ s''. stopped TurnBound s''.output))) (alike s u h)
+execute_repeat-alike : (at : List ℕ) (t : ℕ) (test test' : State → Outcome Value) (f g : State → Progress) → ((s u : State) → StateIs at s u → test s ≡ test' u) → Alike at f g → Alike at (execute_repeat t test f) (execute_repeat t test' g)
+execute_repeat-alike at zero test test' f g same alike s u h =
+    go_on-is at (f s) (g u) (λ s'. use_result s' (test s') (λ v. choose s' v running (λ s''. stopped TurnBound s''.output))) (λ s'. use_result s' (test' s') (λ v. choose s' v running (λ s''. stopped TurnBound s''.output))) (alike s u h)
     (λ s u h. use_same at s u (test s) (test' u) (λ v. choose s v running (λ s''. stopped TurnBound s''.output)) (λ v. choose u v running (λ s''. stopped TurnBound s''.output)) h.same_output (same s u h)
     (λ v. choose-is at s u v running (λ s''. stopped TurnBound s''.output) running (λ s''. stopped TurnBound s''.output) h h (refl, h.same_output)))
-turns_until-alike at (suc t) test test' f g same alike s u h =
-    go_on-is at (f s) (g u) (λ s'. use_in s' (test s') (λ v. choose s' v running (turns_until t test f))) (λ s'. use_in s' (test' s') (λ v. choose s' v running (turns_until t test' g))) (alike s u h)
-    (λ s u h. use_same at s u (test s) (test' u) (λ v. choose s v running (turns_until t test f)) (λ v. choose u v running (turns_until t test' g)) h.same_output (same s u h)
-    (λ v. choose-is at s u v running (turns_until t test f) running (turns_until t test' g) h h (turns_until-alike at t test test' f g same alike s u h)))
+execute_repeat-alike at (suc t) test test' f g same alike s u h =
+    go_on-is at (f s) (g u) (λ s'. use_result s' (test s') (λ v. choose s' v running (execute_repeat t test f))) (λ s'. use_result s' (test' s') (λ v. choose s' v running (execute_repeat t test' g))) (alike s u h)
+    (λ s u h. use_same at s u (test s) (test' u) (λ v. choose s v running (execute_repeat t test f)) (λ v. choose u v running (execute_repeat t test' g)) h.same_output (same s u h)
+    (λ v. choose-is at s u v running (execute_repeat t test f) running (execute_repeat t test' g) h h (execute_repeat-alike at t test test' f g same alike s u h)))
 
-module _ {N : Type 0} (at : List ℕ) (here there : Meanings N Place (List Mode)) (enter enter' : Calls N) (names : NamesAre at here there) (alike : (x : N) → EntersAlike at (enter x) (enter' x)) (t : ℕ) where
+module _ {N : Type 0} (at : List ℕ) (here there : Meanings N Place (List Mode)) (enter enter' : CallFunction N) (names : NamesAre at here there) (alike : (x : N) → EntersAlike at (enter x) (enter' x)) (t : ℕ) where
   condition-same : (e : Tree N expression) (s u : State) → StateIs at s u → evaluate here s.store e ≡ evaluate there u.store e
   condition-same e s u h = evaluate-is at here there s.store u.store names h.same_variables e
 
   assigns-alike : (x : N) (path : Tree N (items selector)) (e : Tree N expression) → Alike at (execute here enter t (assigns x path e)) (execute there enter' t (assigns x path e))
   unfolding execute
   assigns-alike x path e s u h =
-      use_in-is at (PlaceIs at) s u (designate here s.store x path) (designate there u.store x path) (λ p. use_in s (evaluate here s.store e) (store_at s p)) (λ p. use_in u (evaluate there u.store e) (store_at u p)) h.same_output
+      use_result-is at (PlaceIs at) s u (designate here s.store x path) (designate there u.store x path) (λ p. use_result s (evaluate here s.store e) (store_at s p)) (λ p. use_result u (evaluate there u.store e) (store_at u p)) h.same_output
       (designate-is at here there s.store u.store names h.same_variables x path)
       (λ p q is. use_same at s u (evaluate here s.store e) (evaluate there u.store e) (store_at s p) (store_at u q) h.same_output (condition-same e s u h) (λ v. store_at-is at s u p q v h is))
 
-  calls-alike : (x : N) (es : List (Tree N expression)) → Alike at (λ s. use_in s (modes_of (here.object_for x) >>= (λ modes. evaluate_arguments here s.store modes es)) (λ args. perform (here.object_for x) (enter x) args s))
-      (λ s. use_in s (modes_of (there.object_for x) >>= (λ modes. evaluate_arguments there s.store modes es)) (λ args. perform (there.object_for x) (enter' x) args s))
+  calls-alike : (x : N) (es : List (Tree N expression)) → Alike at (λ s. use_result s (modes_of (here.object_for x) >>= (λ modes. evaluate_arguments here s.store modes es)) (λ args. perform_call (here.object_for x) (enter x) args s))
+      (λ s. use_result s (modes_of (there.object_for x) >>= (λ modes. evaluate_arguments there s.store modes es)) (λ args. perform_call (there.object_for x) (enter' x) args s))
   calls-alike x es s u h =
-      use_in-is at (ArgumentsAre at) s u (modes_of (here.object_for x) >>= (λ modes. evaluate_arguments here s.store modes es)) (modes_of (there.object_for x) >>= (λ modes. evaluate_arguments there u.store modes es))
-      (λ args. perform (here.object_for x) (enter x) args s) (λ args. perform (there.object_for x) (enter' x) args u) h.same_output
+      use_result-is at (ArgumentsAre at) s u (modes_of (here.object_for x) >>= (λ modes. evaluate_arguments here s.store modes es)) (modes_of (there.object_for x) >>= (λ modes. evaluate_arguments there u.store modes es))
+      (λ args. perform_call (here.object_for x) (enter x) args s) (λ args. perform_call (there.object_for x) (enter' x) args u) h.same_output
       (same-then (ArgumentsAre at) (modes_of (here.object_for x)) (modes_of (there.object_for x)) (λ modes. evaluate_arguments here s.store modes es) (λ modes. evaluate_arguments there u.store modes es) (modes-same at (here.object_for x) (there.object_for x) (names.mean_same x))
       (λ modes. arguments-are at here there s.store u.store names h.same_variables modes es))
-      (λ args others are. perform-alike at (here.object_for x) (there.object_for x) (enter x) (enter' x) (names.mean_same x) (alike x) args others s u are h)
+      (λ args others are. perform_call-alike at (here.object_for x) (there.object_for x) (enter x) (enter' x) (names.mean_same x) (alike x) args others s u are h)
 
   mutual
     unfolding execute
@@ -455,9 +455,9 @@ module _ {N : Type 0} (at : List ℕ) (here there : Meanings N Place (List Mode)
         (λ v. choose-is at s u v (execute_all here enter t statements) (execute_elsifs here enter t rest (execute_else here enter t last)) (execute_all there enter' t statements) (execute_elsifs there enter' t rest (execute_else there enter' t last)) h
         (execute_all-alike statements s u h) (execute_elsifs-alike rest (execute_else here enter t last) (execute_else there enter' t last) (execute_else-alike last) s u h))
     execute-alike (while_loop e statements) s u h =
-        turns-alike at t (λ s'. evaluate here s'.store e) (λ s'. evaluate there s'.store e) (execute_all here enter t statements) (execute_all there enter' t statements) (condition-same e) (execute_all-alike statements) s u h
+        execute_while-alike at t (λ s'. evaluate here s'.store e) (λ s'. evaluate there s'.store e) (execute_all here enter t statements) (execute_all there enter' t statements) (condition-same e) (execute_all-alike statements) s u h
     execute-alike (repeat_loop statements e) s u h =
-        turns_until-alike at (t - 1) (λ s'. evaluate here s'.store e) (λ s'. evaluate there s'.store e) (execute_all here enter t statements) (execute_all there enter' t statements) (condition-same e) (execute_all-alike statements) s u h
+        execute_repeat-alike at (t - 1) (λ s'. evaluate here s'.store e) (λ s'. evaluate there s'.store e) (execute_all here enter t statements) (execute_all there enter' t statements) (condition-same e) (execute_all-alike statements) s u h
 
     pub execute_all-alike : (a : Tree N sequence) → Alike at (execute_all here enter t a) (execute_all there enter' t a)
     execute_all-alike (runs a rest) s u h = go_on-is at (execute here enter t a s) (execute there enter' t a u) (execute_further here enter t rest) (execute_further there enter' t rest) (execute-alike a s u h) (execute_further-alike rest)

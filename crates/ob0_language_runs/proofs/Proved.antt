@@ -1,19 +1,19 @@
 -- The proofs of the laws about runs.
 use Rattle.std.proofs.Common.{sym, ap, ◌∙◌}
-use Rattle.ob0_language_names.specs.Names.{as_names}
+use Rattle.ob0_language_names.specs.Names.{naming_by_spelling}
 use Rattle.ob0_language_names.specs.Scopes.{renamed}
 use Rattle.ob0_language_names.proofs.Renaming.{renamed-numbered}
-use Rattle.ob0_language_runs.specs.Laws.{FreeKeepsRuns, RunsByOrdinal, RunsByShape}
+use Rattle.ob0_language_runs.specs.Laws.{FreeRenamingKeepsRuns, NumberingKeepsRuns, NumberedTreeDecidesRuns}
 use Rattle.ob0_language_runs.specs.Runs.{run, run_numbered}
 use Rattle.ob0_language_runs.proofs.ByOrdinal.{run-relabel}
 
-pub runs_by_ordinal-holds : RunsByOrdinal
+pub numbering_keeps_runs-holds : NumberingKeepsRuns
 unfolding run run_numbered
-runs_by_ordinal-holds m input c t = sym (run-relabel as_names m input c t)
+numbering_keeps_runs-holds m input c t = sym (run-relabel naming_by_spelling m input c t)
 
-pub runs_by_shape-holds : RunsByShape
-runs_by_shape-holds a b e input c t =
-    runs_by_ordinal-holds a input c t ∙ (ap (λ m. run_numbered m input c t) e ∙ sym (runs_by_ordinal-holds b input c t))
+pub numbered_tree_decides_runs-holds : NumberedTreeDecidesRuns
+numbered_tree_decides_runs-holds a b e input c t =
+    numbering_keeps_runs-holds a input c t ∙ (ap (λ m. run_numbered m input c t) e ∙ sym (numbering_keeps_runs-holds b input c t))
 
-pub free_keeps_runs-holds : FreeKeepsRuns
-free_keeps_runs-holds m d new free = runs_by_shape-holds (renamed m d new) m (renamed-numbered m d new free.1)
+pub free_renaming_keeps_runs-holds : FreeRenamingKeepsRuns
+free_renaming_keeps_runs-holds m d new free = numbered_tree_decides_runs-holds (renamed m d new) m (renamed-numbered m d new free.1)

@@ -1,16 +1,16 @@
 -- A statement in which names are mapped does the same as the original statement, with the meanings of the new names.
 use Rattle.std.proofs.Common.{◌≡◌, ℕ, ◌-◌, List, [], ◌∷◌, map, Some, None, Option, option_map, refl, ap, ◌∙◌}
 use Rattle.ob0_tree.specs.Tree.{Tree, assigns, branches, calls, else_branch, else_part, elsif_branch, elsif_part, empty, end, expression, further_statement, items, maybe, more, none, one, repeat_loop, runs, selector, sequence, statement, then_statement, while_loop}
-use Rattle.ob0_language_names.specs.Mapping.{with_names}
+use Rattle.ob0_language_names.specs.Mapping.{map_names}
 use Rattle.ob0_language_types.specs.Arguments.{arguments_listed}
 use Rattle.ob0_language_types.specs.Expressions.{Meanings, designate}
 use Rattle.ob0_language_types.specs.Typing.{lone_designator}
 use Rattle.ob0_language_values.specs.Values.{Place, Store, gives, or_stuck, ◌>>=◌}
 use Rattle.ob0_language_types.specs.WellTyped.{Mode, by_place, by_value}
 use Rattle.ob0_language_types.proofs.Naturality.{arguments-map, designate-map, lone_designator-map, evaluate-map, map_designator, through}
-use Rattle.ob0_language_runs.specs.Runs.{Calls, Progress, State, choose, evaluate_argument, evaluate_arguments, execute, execute_all, execute_else, execute_elsifs, execute_further, continue_with, modes_of, perform, place_argument, store_at, turns, turns_until, use_in, value_argument}
+use Rattle.ob0_language_runs.specs.Runs.{CallFunction, Progress, State, choose, evaluate_argument, evaluate_arguments, execute, execute_all, execute_else, execute_elsifs, execute_further, continue_with, modes_of, perform_call, place_argument, store_at, execute_while, execute_repeat, use_result, value_argument}
 
-pub evaluate_argument-map : {N M P : Type 0} (f h : N → M) (meaning : Meanings M Place P) (store : Store) (m : Mode) (e : Tree N expression) → evaluate_argument meaning store m (with_names f h e) ≡ evaluate_argument (through f h meaning) store m e
+pub evaluate_argument-map : {N M P : Type 0} (f h : N → M) (meaning : Meanings M Place P) (store : Store) (m : Mode) (e : Tree N expression) → evaluate_argument meaning store m (map_names f h e) ≡ evaluate_argument (through f h meaning) store m e
 unfolding evaluate_argument
 evaluate_argument-map {N} f h meaning store by_value e = λ i. evaluate-map f h meaning store e i >>= (λ v. gives (value_argument v))
 evaluate_argument-map {N} f h meaning store by_place e =
@@ -21,7 +21,7 @@ evaluate_argument-map {N} f h meaning store by_place e =
     place None = refl
     place (Some d) = λ i. designate-map f h meaning store d.0 d.1 i >>= (λ p. gives (place_argument p))
 
-pub evaluate_arguments-map : {N M P : Type 0} (f h : N → M) (meaning : Meanings M Place P) (store : Store) (ms : List Mode) (es : List (Tree N expression)) → evaluate_arguments meaning store ms (map (with_names f h) es) ≡ evaluate_arguments (through f h meaning) store ms es
+pub evaluate_arguments-map : {N M P : Type 0} (f h : N → M) (meaning : Meanings M Place P) (store : Store) (ms : List Mode) (es : List (Tree N expression)) → evaluate_arguments meaning store ms (map (map_names f h) es) ≡ evaluate_arguments (through f h meaning) store ms es
 unfolding evaluate_arguments
 evaluate_arguments-map f h meaning store [] [] = refl
 evaluate_arguments-map f h meaning store (m ∷ ms) (e ∷ es) = λ i.
@@ -31,33 +31,33 @@ evaluate_arguments-map f h meaning store _ _ = refl
 mutual
   unfolding execute
 
-  pub execute-map : {N M : Type 0} (f h : N → M) (meaning : Meanings M Place (List Mode)) (enter : Calls M) (t : ℕ) (a : Tree N statement) → execute meaning enter t (with_names f h a) ≡ execute (through f h meaning) (λ x. enter (f x)) t a
+  pub execute-map : {N M : Type 0} (f h : N → M) (meaning : Meanings M Place (List Mode)) (enter : CallFunction M) (t : ℕ) (a : Tree N statement) → execute meaning enter t (map_names f h a) ≡ execute (through f h meaning) (λ x. enter (f x)) t a
   execute-map f h meaning enter t empty = refl
   execute-map f h meaning enter t (assigns x path e) = λ i s.
-      use_in s (designate-map f h meaning s.store x path i) (λ p. use_in s (evaluate-map f h meaning s.store e i) (store_at s p))
+      use_result s (designate-map f h meaning s.store x path i) (λ p. use_result s (evaluate-map f h meaning s.store e i) (store_at s p))
   execute-map f h meaning enter t (calls x es) = λ i s.
-      use_in s (modes_of (meaning.object_for (f x)) >>= (λ modes. (ap (evaluate_arguments meaning s.store modes) (arguments-map f h es) ∙ evaluate_arguments-map f h meaning s.store modes (arguments_listed es)) i))
-      (λ args. perform (meaning.object_for (f x)) (enter (f x)) args s)
+      use_result s (modes_of (meaning.object_for (f x)) >>= (λ modes. (ap (evaluate_arguments meaning s.store modes) (arguments-map f h es) ∙ evaluate_arguments-map f h meaning s.store modes (arguments_listed es)) i))
+      (λ args. perform_call (meaning.object_for (f x)) (enter (f x)) args s)
   execute-map f h meaning enter t (branches e statements rest last) = λ i s.
-      use_in s (evaluate-map f h meaning s.store e i)
-      (λ v. choose s v (execute_all-map f h meaning enter t statements i) (execute_elsifs-map f h meaning enter t rest (execute_else meaning enter t (with_names f h last)) (execute_else (through f h meaning) (λ x. enter (f x)) t last) (execute_else-map f h meaning enter t last) i))
+      use_result s (evaluate-map f h meaning s.store e i)
+      (λ v. choose s v (execute_all-map f h meaning enter t statements i) (execute_elsifs-map f h meaning enter t rest (execute_else meaning enter t (map_names f h last)) (execute_else (through f h meaning) (λ x. enter (f x)) t last) (execute_else-map f h meaning enter t last) i))
   execute-map f h meaning enter t (while_loop e statements) = λ i s.
-      turns t (λ s'. evaluate-map f h meaning s'.store e i) (execute_all-map f h meaning enter t statements i) s
+      execute_while t (λ s'. evaluate-map f h meaning s'.store e i) (execute_all-map f h meaning enter t statements i) s
   execute-map f h meaning enter t (repeat_loop statements e) = λ i s.
-      turns_until (t - 1) (λ s'. evaluate-map f h meaning s'.store e i) (execute_all-map f h meaning enter t statements i) s
+      execute_repeat (t - 1) (λ s'. evaluate-map f h meaning s'.store e i) (execute_all-map f h meaning enter t statements i) s
 
-  pub execute_all-map : {N M : Type 0} (f h : N → M) (meaning : Meanings M Place (List Mode)) (enter : Calls M) (t : ℕ) (a : Tree N sequence) → execute_all meaning enter t (with_names f h a) ≡ execute_all (through f h meaning) (λ x. enter (f x)) t a
+  pub execute_all-map : {N M : Type 0} (f h : N → M) (meaning : Meanings M Place (List Mode)) (enter : CallFunction M) (t : ℕ) (a : Tree N sequence) → execute_all meaning enter t (map_names f h a) ≡ execute_all (through f h meaning) (λ x. enter (f x)) t a
   execute_all-map f h meaning enter t (runs a rest) = λ i s. continue_with (execute-map f h meaning enter t a i s) (execute_further-map f h meaning enter t rest i)
 
-  pub execute_further-map : {N M : Type 0} (f h : N → M) (meaning : Meanings M Place (List Mode)) (enter : Calls M) (t : ℕ) (a : Tree N (items further_statement)) → execute_further meaning enter t (with_names f h a) ≡ execute_further (through f h meaning) (λ x. enter (f x)) t a
+  pub execute_further-map : {N M : Type 0} (f h : N → M) (meaning : Meanings M Place (List Mode)) (enter : CallFunction M) (t : ℕ) (a : Tree N (items further_statement)) → execute_further meaning enter t (map_names f h a) ≡ execute_further (through f h meaning) (λ x. enter (f x)) t a
   execute_further-map f h meaning enter t end = refl
   execute_further-map f h meaning enter t (more (then_statement a) rest) = λ i s. continue_with (execute-map f h meaning enter t a i s) (execute_further-map f h meaning enter t rest i)
 
-  pub execute_elsifs-map : {N M : Type 0} (f h : N → M) (meaning : Meanings M Place (List Mode)) (enter : Calls M) (t : ℕ) (a : Tree N (items elsif_part)) (there here : State → Progress) → there ≡ here → execute_elsifs meaning enter t (with_names f h a) there ≡ execute_elsifs (through f h meaning) (λ x. enter (f x)) t a here
+  pub execute_elsifs-map : {N M : Type 0} (f h : N → M) (meaning : Meanings M Place (List Mode)) (enter : CallFunction M) (t : ℕ) (a : Tree N (items elsif_part)) (there here : State → Progress) → there ≡ here → execute_elsifs meaning enter t (map_names f h a) there ≡ execute_elsifs (through f h meaning) (λ x. enter (f x)) t a here
   execute_elsifs-map f h meaning enter t end there here e = λ i s. e i s
   execute_elsifs-map f h meaning enter t (more (elsif_branch c statements) rest) there here e = λ i s.
-      use_in s (evaluate-map f h meaning s.store c i) (λ v. choose s v (execute_all-map f h meaning enter t statements i) (execute_elsifs-map f h meaning enter t rest there here e i))
+      use_result s (evaluate-map f h meaning s.store c i) (λ v. choose s v (execute_all-map f h meaning enter t statements i) (execute_elsifs-map f h meaning enter t rest there here e i))
 
-  pub execute_else-map : {N M : Type 0} (f h : N → M) (meaning : Meanings M Place (List Mode)) (enter : Calls M) (t : ℕ) (a : Tree N (maybe else_part)) → execute_else meaning enter t (with_names f h a) ≡ execute_else (through f h meaning) (λ x. enter (f x)) t a
+  pub execute_else-map : {N M : Type 0} (f h : N → M) (meaning : Meanings M Place (List Mode)) (enter : CallFunction M) (t : ℕ) (a : Tree N (maybe else_part)) → execute_else meaning enter t (map_names f h a) ≡ execute_else (through f h meaning) (λ x. enter (f x)) t a
   execute_else-map f h meaning enter t none = refl
   execute_else-map f h meaning enter t (one (else_branch statements)) = λ i s. execute_all-map f h meaning enter t statements i s

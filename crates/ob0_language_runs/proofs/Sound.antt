@@ -11,9 +11,9 @@ use Rattle.ob0_tree.specs.declared.tree.MultiplyOperator.TheVariants as multiply
 use Rattle.ob0_tree.specs.Tree.{Tree, addend, adds, compares, designator, end, expression, factor, field, index, integer, items, more, multiplier, multiplies, negation, none, one, parenthesised, product, relates, selector, simple, sum, term}
 use Rattle.ob0_language_names.specs.Names.{Name, same_name}
 use Rattle.ob0_language_types.specs.Expressions.{Meanings, Object, a_constant, a_procedure, a_standard, a_type, a_variable, element_step, evaluate, evaluate_addends, evaluate_factor, evaluate_multipliers, evaluate_simple, evaluate_term, follow, object_value}
-use Rattle.ob0_language_types.specs.Typing.{add_type, complement_type, element_type, field_type, multiply_type, object_type, relation_type, shape_of_field, sign_type, type_at, type_of, type_of_addends, type_of_factor, type_of_multipliers, type_of_simple, type_of_term, value_type}
-use Rattle.ob0_language_values.specs.Values.{FieldShapes, Index, Members, Outcome, Overflow, Place, Shape, Step, Store, Value, Values, add, add_is_settled, array_shape, at_field, at_index, at_path, boolean_shape, count_values, divided, divided_by, elements, ends, fits, gives, in_range, integer_shape, members, multiply, multiply_is_settled, named_member, negate, next_field_shape, next_member, next_value, no_field_shape, no_member, no_value, nth_value, number, or_stuck, part, quotient, read_place, record_shape, relate, remainder, apply_sign, truth, ◌>>=◌}
-use Rattle.ob0_language_types.specs.WellTyped.{Mode, Signature, Typed}
+use Rattle.ob0_language_types.specs.Typing.{addition_type, negation_type, element_type, field_type, multiplication_type, object_type, relation_type, shape_of_field, sign_type, type_at, type_of, type_of_addends, type_of_factor, type_of_multipliers, type_of_simple, type_of_term, value_type}
+use Rattle.ob0_language_values.specs.Values.{FieldShapes, Index, Members, Outcome, Overflow, Place, Shape, Step, Store, Value, Values, add, add_short_circuits, array_shape, at_field, at_index, value_at_path, boolean_shape, count_values, checked_division, division_outcome, elements, ends, fits, gives, checked_number, integer_shape, members, multiply, multiply_short_circuits, named_member, negate, next_field_shape, next_member, next_value, no_field_shape, no_member, no_value, nth_value, number, or_stuck, part, quotient, read_place, record_shape, relate, remainder, apply_sign, truth, ◌>>=◌}
+use Rattle.ob0_language_types.specs.WellTyped.{Mode, Signature, TypeMeanings}
 use Rattle.ob0_language_types.proofs.Conditions.{of_some}
 use Rattle.ob0_language_types.proofs.TypedElsewhere.{then_some}
 use Rattle.ob0_language_runs.specs.Fitting.{EachHasShape, HasShape, HaveShapes, MeaningsFit, ObjectFits, PlaceFits, StoreFits, StoreTyping, part_shape, shape_at_path}
@@ -23,8 +23,8 @@ pub fits-then : {A B : Type 0} (P : A → Type 0) (Q : B → Type 0) (o : Outcom
 fits-then P Q (gives a) next h each = each a h
 fits-then P Q (ends e) next h each = h
 
-pub in_range-fits : (n : ℤ) → OutcomeFits (λ v. HasShape v integer_shape) (in_range n)
-in_range-fits n = elim (fits n) as (λ b. OutcomeFits (λ v. HasShape v integer_shape) (if b then gives (number n) else ends Overflow)) [ true ↦ tt | false ↦ λ e. cc ]
+pub checked_number-fits : (n : ℤ) → OutcomeFits (λ v. HasShape v integer_shape) (checked_number n)
+checked_number-fits n = elim (fits n) as (λ b. OutcomeFits (λ v. HasShape v integer_shape) (if b then gives (number n) else ends Overflow)) [ true ↦ tt | false ↦ λ e. cc ]
 
 pub is_number : (v : Value) → HasShape v integer_shape → (n : ℤ) × (v ≡ number n)
 is_number (number n) h = (n, refl)
@@ -46,20 +46,20 @@ on_truths op s each v w hv hw =
     let (b, ew) = is_truth w hw in
     subst₂ (λ a b. OutcomeFits (λ v. HasShape v s) (op a b)) (sym ev) (sym ew) (each a b)
 
-pub add-fits : (o : AddOperator) (x y z : Shape) (v w : Value) → add_type o x y ≡ Some z → HasShape v x → HasShape w y → OutcomeFits (λ u. HasShape u z) (add o v w)
-add-fits add_operator.Add integer_shape integer_shape z v w e hv hw = of_some (λ z. OutcomeFits (λ u. HasShape u z) (add add_operator.Add v w)) e (on_numbers (add add_operator.Add) integer_shape (λ m n. in_range-fits (m +ℤ n)) v w hv hw)
-add-fits add_operator.Subtract integer_shape integer_shape z v w e hv hw = of_some (λ z. OutcomeFits (λ u. HasShape u z) (add add_operator.Subtract v w)) e (on_numbers (add add_operator.Subtract) integer_shape (λ m n. in_range-fits (m -ℤ n)) v w hv hw)
+pub add-fits : (o : AddOperator) (x y z : Shape) (v w : Value) → addition_type o x y ≡ Some z → HasShape v x → HasShape w y → OutcomeFits (λ u. HasShape u z) (add o v w)
+add-fits add_operator.Add integer_shape integer_shape z v w e hv hw = of_some (λ z. OutcomeFits (λ u. HasShape u z) (add add_operator.Add v w)) e (on_numbers (add add_operator.Add) integer_shape (λ m n. checked_number-fits (m +ℤ n)) v w hv hw)
+add-fits add_operator.Subtract integer_shape integer_shape z v w e hv hw = of_some (λ z. OutcomeFits (λ u. HasShape u z) (add add_operator.Subtract v w)) e (on_numbers (add add_operator.Subtract) integer_shape (λ m n. checked_number-fits (m -ℤ n)) v w hv hw)
 add-fits add_operator.Or boolean_shape boolean_shape z v w e hv hw = of_some (λ z. OutcomeFits (λ u. HasShape u z) (add add_operator.Or v w)) e (on_truths (add add_operator.Or) boolean_shape (λ a b. tt) v w hv hw)
 add-fits _ _ _ z v w e hv hw = absurd (cc)
 
-pub divided_by-fits : (result : Option ℤ) → OutcomeFits (λ v. HasShape v integer_shape) (divided_by result)
-divided_by-fits None = λ e. cc
-divided_by-fits (Some n) = in_range-fits n
+pub division_outcome-fits : (result : Option ℤ) → OutcomeFits (λ v. HasShape v integer_shape) (division_outcome result)
+division_outcome-fits None = λ e. cc
+division_outcome-fits (Some n) = checked_number-fits n
 
-pub multiply-fits : (o : MultiplyOperator) (x y z : Shape) (v w : Value) → multiply_type o x y ≡ Some z → HasShape v x → HasShape w y → OutcomeFits (λ u. HasShape u z) (multiply o v w)
-multiply-fits multiply_operator.Multiply integer_shape integer_shape z v w e hv hw = of_some (λ z. OutcomeFits (λ u. HasShape u z) (multiply multiply_operator.Multiply v w)) e (on_numbers (multiply multiply_operator.Multiply) integer_shape (λ m n. in_range-fits (m *ℤ n)) v w hv hw)
-multiply-fits multiply_operator.Divide integer_shape integer_shape z v w e hv hw = of_some (λ z. OutcomeFits (λ u. HasShape u z) (multiply multiply_operator.Divide v w)) e (on_numbers (multiply multiply_operator.Divide) integer_shape (λ m n. divided_by-fits (divided quotient m n)) v w hv hw)
-multiply-fits multiply_operator.Modulo integer_shape integer_shape z v w e hv hw = of_some (λ z. OutcomeFits (λ u. HasShape u z) (multiply multiply_operator.Modulo v w)) e (on_numbers (multiply multiply_operator.Modulo) integer_shape (λ m n. divided_by-fits (divided remainder m n)) v w hv hw)
+pub multiply-fits : (o : MultiplyOperator) (x y z : Shape) (v w : Value) → multiplication_type o x y ≡ Some z → HasShape v x → HasShape w y → OutcomeFits (λ u. HasShape u z) (multiply o v w)
+multiply-fits multiply_operator.Multiply integer_shape integer_shape z v w e hv hw = of_some (λ z. OutcomeFits (λ u. HasShape u z) (multiply multiply_operator.Multiply v w)) e (on_numbers (multiply multiply_operator.Multiply) integer_shape (λ m n. checked_number-fits (m *ℤ n)) v w hv hw)
+multiply-fits multiply_operator.Divide integer_shape integer_shape z v w e hv hw = of_some (λ z. OutcomeFits (λ u. HasShape u z) (multiply multiply_operator.Divide v w)) e (on_numbers (multiply multiply_operator.Divide) integer_shape (λ m n. division_outcome-fits (checked_division quotient m n)) v w hv hw)
+multiply-fits multiply_operator.Modulo integer_shape integer_shape z v w e hv hw = of_some (λ z. OutcomeFits (λ u. HasShape u z) (multiply multiply_operator.Modulo v w)) e (on_numbers (multiply multiply_operator.Modulo) integer_shape (λ m n. division_outcome-fits (checked_division remainder m n)) v w hv hw)
 multiply-fits multiply_operator.And boolean_shape boolean_shape z v w e hv hw = of_some (λ z. OutcomeFits (λ u. HasShape u z) (multiply multiply_operator.And v w)) e (on_truths (multiply multiply_operator.And) boolean_shape (λ a b. tt) v w hv hw)
 multiply-fits _ _ _ z v w e hv hw = absurd (cc)
 
@@ -71,27 +71,27 @@ relate-fits _ _ _ z v w e hv hw = absurd (cc)
 
 pub apply_sign-fits : (s : Option Sign) (x z : Shape) (v : Value) → sign_type s x ≡ Some z → HasShape v x → OutcomeFits (λ u. HasShape u z) (apply_sign s v)
 apply_sign-fits None x z v e hv = of_some (λ z. HasShape v z) e hv
-apply_sign-fits (Some sign.Plus) integer_shape z v e hv = of_some (λ z. OutcomeFits (λ u. HasShape u z) (apply_sign (Some sign.Plus) v)) e (let (n, ev) = is_number v hv in subst (λ v. OutcomeFits (λ u. HasShape u integer_shape) (apply_sign (Some sign.Plus) v)) (sym ev) (in_range-fits n))
-apply_sign-fits (Some sign.Minus) integer_shape z v e hv = of_some (λ z. OutcomeFits (λ u. HasShape u z) (apply_sign (Some sign.Minus) v)) e (let (n, ev) = is_number v hv in subst (λ v. OutcomeFits (λ u. HasShape u integer_shape) (apply_sign (Some sign.Minus) v)) (sym ev) (in_range-fits (neg_ℤ n)))
+apply_sign-fits (Some sign.Plus) integer_shape z v e hv = of_some (λ z. OutcomeFits (λ u. HasShape u z) (apply_sign (Some sign.Plus) v)) e (let (n, ev) = is_number v hv in subst (λ v. OutcomeFits (λ u. HasShape u integer_shape) (apply_sign (Some sign.Plus) v)) (sym ev) (checked_number-fits n))
+apply_sign-fits (Some sign.Minus) integer_shape z v e hv = of_some (λ z. OutcomeFits (λ u. HasShape u z) (apply_sign (Some sign.Minus) v)) e (let (n, ev) = is_number v hv in subst (λ v. OutcomeFits (λ u. HasShape u integer_shape) (apply_sign (Some sign.Minus) v)) (sym ev) (checked_number-fits (neg_ℤ n)))
 apply_sign-fits _ _ z v e hv = absurd (cc)
 
-pub negate-fits : (x z : Shape) (v : Value) → complement_type x ≡ Some z → HasShape v x → OutcomeFits (λ u. HasShape u z) (negate v)
+pub negate-fits : (x z : Shape) (v : Value) → negation_type x ≡ Some z → HasShape v x → OutcomeFits (λ u. HasShape u z) (negate v)
 negate-fits boolean_shape z v e hv = of_some (λ z. OutcomeFits (λ u. HasShape u z) (negate v)) e (let (b, ev) = is_truth v hv in subst (λ v. OutcomeFits (λ u. HasShape u boolean_shape) (negate v)) (sym ev) tt)
 negate-fits _ z v e hv = absurd (cc)
 
 -- If the left operand settles an operation, the operand has the type of the result.
-pub add_type-first : (o : AddOperator) (x y z : Shape) → add_type o x y ≡ Some z → Some x ≡ Some z
-add_type-first add_operator.Add integer_shape integer_shape z e = e
-add_type-first add_operator.Subtract integer_shape integer_shape z e = e
-add_type-first add_operator.Or boolean_shape boolean_shape z e = e
-add_type-first _ _ _ z e = absurd (cc)
+pub addition_type-first : (o : AddOperator) (x y z : Shape) → addition_type o x y ≡ Some z → Some x ≡ Some z
+addition_type-first add_operator.Add integer_shape integer_shape z e = e
+addition_type-first add_operator.Subtract integer_shape integer_shape z e = e
+addition_type-first add_operator.Or boolean_shape boolean_shape z e = e
+addition_type-first _ _ _ z e = absurd (cc)
 
-pub multiply_type-first : (o : MultiplyOperator) (x y z : Shape) → multiply_type o x y ≡ Some z → Some x ≡ Some z
-multiply_type-first multiply_operator.Multiply integer_shape integer_shape z e = e
-multiply_type-first multiply_operator.Divide integer_shape integer_shape z e = e
-multiply_type-first multiply_operator.Modulo integer_shape integer_shape z e = e
-multiply_type-first multiply_operator.And boolean_shape boolean_shape z e = e
-multiply_type-first _ _ _ z e = absurd (cc)
+pub multiplication_type-first : (o : MultiplyOperator) (x y z : Shape) → multiplication_type o x y ≡ Some z → Some x ≡ Some z
+multiplication_type-first multiply_operator.Multiply integer_shape integer_shape z e = e
+multiplication_type-first multiply_operator.Divide integer_shape integer_shape z e = e
+multiplication_type-first multiply_operator.Modulo integer_shape integer_shape z e = e
+multiplication_type-first multiply_operator.And boolean_shape boolean_shape z e = e
+multiplication_type-first _ _ _ z e = absurd (cc)
 
 pub settled-fits : (P : Value → Type 0) (b : Bool) (x : Value) (o : Outcome Value) → P x → OutcomeFits P o → OutcomeFits P (elim b [ true ↦ gives x | false ↦ o ])
 settled-fits P true x o h k = h
@@ -128,13 +128,13 @@ part-fits (number n) integer_shape step t h e = absurd (cc)
 part-fits (truth b) boolean_shape step t h e = absurd (cc)
 part-fits _ _ step t h e = absurd h
 
-pub path-fits : (path : List Step) (v : Value) (s t : Shape) → HasShape v s → shape_at_path path s ≡ Some t → (w : Value) × (at_path path v ≡ Some w) × HasShape w t
+pub path-fits : (path : List Step) (v : Value) (s t : Shape) → HasShape v s → shape_at_path path s ≡ Some t → (w : Value) × (value_at_path path v ≡ Some w) × HasShape w t
 path-fits [] v s t h e = (v, refl, of_some (λ t. HasShape v t) e h)
 path-fits (step ∷ path) v s t h e =
     let (u, eu, e₁) = then_some (part_shape s step) (shape_at_path path) t e in
     let (w, ew, hw) = part-fits v s step u h eu in
     let (z, ez, hz) = path-fits path w u t hw e₁ in
-    (z, ap (option_and_then (at_path path)) ew ∙ ez, hz)
+    (z, ap (option_and_then (value_at_path path)) ew ∙ ez, hz)
 
 pub variable-fits : (typing : StoreTyping) (store : Store) (n : ℕ) (s : Shape) → StoreFits typing store → slice_get typing n ≡ Some s → (v : Value) × (slice_get store n ≡ Some v) × HasShape v s
 variable-fits [] [] n s h e = absurd (cc)
@@ -147,7 +147,7 @@ place-fits typing store p s h e =
     let (t, et, e₁) = then_some (slice_get typing p.variable) (shape_at_path p.path) s e in
     let (v, ev, hv) = variable-fits typing store p.variable t h et in
     let (w, ew, hw) = path-fits p.path v t s hv e₁ in
-    (w, ap (option_and_then (at_path p.path)) ev ∙ ew, hw)
+    (w, ap (option_and_then (value_at_path p.path)) ev ∙ ew, hw)
 
 -- A constant or a variable evaluates to a value of its type.
 pub object-fits : (typing : StoreTyping) (store : Store) (checked : Option (Object Shape Signature)) (active : Option (Object Place (List Mode))) (s : Shape)
@@ -195,14 +195,14 @@ field_part (record_shape k fs) x u e = e
 field_part _ x u e = absurd (cc)
 
 -- holds if the store fits its typing, and the meanings of names fit the checker's
-pub record Fitting {N : Type 0} (typing : StoreTyping) (checked : Typed N) (active : Meanings N Place (List Mode)) (store : Store) : Type 0 where
+pub record Fitting {N : Type 0} (typing : StoreTyping) (checked : TypeMeanings N) (active : Meanings N Place (List Mode)) (store : Store) : Type 0 where
   pub store_fits : StoreFits typing store
   pub names_fit : MeaningsFit typing checked active
 
 mutual
   unfolding evaluate type_of
 
-  pub evaluate-sound : {N : Type 0} (typing : StoreTyping) (checked : Typed N) (active : Meanings N Place (List Mode)) (store : Store) → Fitting typing checked active store → (e : Tree N expression) (s : Shape)
+  pub evaluate-sound : {N : Type 0} (typing : StoreTyping) (checked : TypeMeanings N) (active : Meanings N Place (List Mode)) (store : Store) → Fitting typing checked active store → (e : Tree N expression) (s : Shape)
       → type_of checked e ≡ Some s → OutcomeFits (λ v. HasShape v s) (evaluate active store e)
   evaluate-sound typing checked active store f (compares a none) s h = evaluate_simple-sound typing checked active store f a s h
   evaluate-sound typing checked active store f (compares a (one (relates r b))) s h =
@@ -211,7 +211,7 @@ mutual
       fits-then (λ v. HasShape v x) (λ v. HasShape v s) (evaluate_simple active store a) (λ v. evaluate_simple active store b >>= relate r v) (evaluate_simple-sound typing checked active store f a x ex)
       (λ v hv. fits-then (λ w. HasShape w y) (λ v. HasShape v s) (evaluate_simple active store b) (relate r v) (evaluate_simple-sound typing checked active store f b y ey) (λ w hw. relate-fits r x y s v w h₂ hv hw))
 
-  pub evaluate_simple-sound : {N : Type 0} (typing : StoreTyping) (checked : Typed N) (active : Meanings N Place (List Mode)) (store : Store) → Fitting typing checked active store → (a : Tree N simple) (s : Shape)
+  pub evaluate_simple-sound : {N : Type 0} (typing : StoreTyping) (checked : TypeMeanings N) (active : Meanings N Place (List Mode)) (store : Store) → Fitting typing checked active store → (a : Tree N simple) (s : Shape)
       → type_of_simple checked a ≡ Some s → OutcomeFits (λ v. HasShape v s) (evaluate_simple active store a)
   evaluate_simple-sound typing checked active store f (sum sign t rest) s h =
       let (x, ex, h₁) = then_some (type_of_term checked t) (λ x. option_and_then (λ y. type_of_addends checked y rest) (sign_type sign x)) s h in
@@ -220,50 +220,50 @@ mutual
       (λ v hv. fits-then (λ w. HasShape w y) (λ v. HasShape v s) (apply_sign sign v) (λ w. evaluate_addends active store w rest) (apply_sign-fits sign x y v ey hv)
       (λ w hw. evaluate_addends-sound typing checked active store f w y rest s hw h₂))
 
-  pub evaluate_addends-sound : {N : Type 0} (typing : StoreTyping) (checked : Typed N) (active : Meanings N Place (List Mode)) (store : Store) → Fitting typing checked active store → (v : Value) (x : Shape) (a : Tree N (items addend)) (s : Shape)
+  pub evaluate_addends-sound : {N : Type 0} (typing : StoreTyping) (checked : TypeMeanings N) (active : Meanings N Place (List Mode)) (store : Store) → Fitting typing checked active store → (v : Value) (x : Shape) (a : Tree N (items addend)) (s : Shape)
       → HasShape v x → type_of_addends checked x a ≡ Some s → OutcomeFits (λ v. HasShape v s) (evaluate_addends active store v a)
   evaluate_addends-sound typing checked active store f v x end s hv h = of_some (λ s. HasShape v s) h hv
   evaluate_addends-sound typing checked active store f v x (more (adds o t) rest) s hv h =
-      let (y, ey, h₁) = then_some (type_of_term checked t) (λ y. option_and_then (λ z. type_of_addends checked z rest) (add_type o x y)) s h in
-      let (z, ez, h₂) = then_some (add_type o x y) (λ z. type_of_addends checked z rest) s h₁ in
-      fits-then (λ w. HasShape w z) (λ v. HasShape v s) (elim (add_is_settled o v) [ true ↦ gives v | false ↦ evaluate_term active store t >>= add o v ]) (λ w. evaluate_addends active store w rest)
-      (settled-fits (λ w. HasShape w z) (add_is_settled o v) v (evaluate_term active store t >>= add o v) (of_some (λ s. HasShape v s) (add_type-first o x y z ez) hv)
+      let (y, ey, h₁) = then_some (type_of_term checked t) (λ y. option_and_then (λ z. type_of_addends checked z rest) (addition_type o x y)) s h in
+      let (z, ez, h₂) = then_some (addition_type o x y) (λ z. type_of_addends checked z rest) s h₁ in
+      fits-then (λ w. HasShape w z) (λ v. HasShape v s) (elim (add_short_circuits o v) [ true ↦ gives v | false ↦ evaluate_term active store t >>= add o v ]) (λ w. evaluate_addends active store w rest)
+      (settled-fits (λ w. HasShape w z) (add_short_circuits o v) v (evaluate_term active store t >>= add o v) (of_some (λ s. HasShape v s) (addition_type-first o x y z ez) hv)
       (fits-then (λ w. HasShape w y) (λ w. HasShape w z) (evaluate_term active store t) (add o v) (evaluate_term-sound typing checked active store f t y ey) (λ w hw. add-fits o x y z v w ez hv hw)))
       (λ w hw. evaluate_addends-sound typing checked active store f w z rest s hw h₂)
 
-  pub evaluate_term-sound : {N : Type 0} (typing : StoreTyping) (checked : Typed N) (active : Meanings N Place (List Mode)) (store : Store) → Fitting typing checked active store → (a : Tree N term) (s : Shape)
+  pub evaluate_term-sound : {N : Type 0} (typing : StoreTyping) (checked : TypeMeanings N) (active : Meanings N Place (List Mode)) (store : Store) → Fitting typing checked active store → (a : Tree N term) (s : Shape)
       → type_of_term checked a ≡ Some s → OutcomeFits (λ v. HasShape v s) (evaluate_term active store a)
   evaluate_term-sound typing checked active store f (product a rest) s h =
       let (x, ex, h₁) = then_some (type_of_factor checked a) (λ x. type_of_multipliers checked x rest) s h in
       fits-then (λ v. HasShape v x) (λ v. HasShape v s) (evaluate_factor active store a) (λ v. evaluate_multipliers active store v rest) (evaluate_factor-sound typing checked active store f a x ex)
       (λ v hv. evaluate_multipliers-sound typing checked active store f v x rest s hv h₁)
 
-  pub evaluate_multipliers-sound : {N : Type 0} (typing : StoreTyping) (checked : Typed N) (active : Meanings N Place (List Mode)) (store : Store) → Fitting typing checked active store → (v : Value) (x : Shape) (a : Tree N (items multiplier)) (s : Shape)
+  pub evaluate_multipliers-sound : {N : Type 0} (typing : StoreTyping) (checked : TypeMeanings N) (active : Meanings N Place (List Mode)) (store : Store) → Fitting typing checked active store → (v : Value) (x : Shape) (a : Tree N (items multiplier)) (s : Shape)
       → HasShape v x → type_of_multipliers checked x a ≡ Some s → OutcomeFits (λ v. HasShape v s) (evaluate_multipliers active store v a)
   evaluate_multipliers-sound typing checked active store f v x end s hv h = of_some (λ s. HasShape v s) h hv
   evaluate_multipliers-sound typing checked active store f v x (more (multiplies o a) rest) s hv h =
-      let (y, ey, h₁) = then_some (type_of_factor checked a) (λ y. option_and_then (λ z. type_of_multipliers checked z rest) (multiply_type o x y)) s h in
-      let (z, ez, h₂) = then_some (multiply_type o x y) (λ z. type_of_multipliers checked z rest) s h₁ in
-      fits-then (λ w. HasShape w z) (λ v. HasShape v s) (elim (multiply_is_settled o v) [ true ↦ gives v | false ↦ evaluate_factor active store a >>= multiply o v ]) (λ w. evaluate_multipliers active store w rest)
-      (settled-fits (λ w. HasShape w z) (multiply_is_settled o v) v (evaluate_factor active store a >>= multiply o v) (of_some (λ s. HasShape v s) (multiply_type-first o x y z ez) hv)
+      let (y, ey, h₁) = then_some (type_of_factor checked a) (λ y. option_and_then (λ z. type_of_multipliers checked z rest) (multiplication_type o x y)) s h in
+      let (z, ez, h₂) = then_some (multiplication_type o x y) (λ z. type_of_multipliers checked z rest) s h₁ in
+      fits-then (λ w. HasShape w z) (λ v. HasShape v s) (elim (multiply_short_circuits o v) [ true ↦ gives v | false ↦ evaluate_factor active store a >>= multiply o v ]) (λ w. evaluate_multipliers active store w rest)
+      (settled-fits (λ w. HasShape w z) (multiply_short_circuits o v) v (evaluate_factor active store a >>= multiply o v) (of_some (λ s. HasShape v s) (multiplication_type-first o x y z ez) hv)
       (fits-then (λ w. HasShape w y) (λ w. HasShape w z) (evaluate_factor active store a) (multiply o v) (evaluate_factor-sound typing checked active store f a y ey) (λ w hw. multiply-fits o x y z v w ez hv hw)))
       (λ w hw. evaluate_multipliers-sound typing checked active store f w z rest s hw h₂)
 
-  pub evaluate_factor-sound : {N : Type 0} (typing : StoreTyping) (checked : Typed N) (active : Meanings N Place (List Mode)) (store : Store) → Fitting typing checked active store → (a : Tree N factor) (s : Shape)
+  pub evaluate_factor-sound : {N : Type 0} (typing : StoreTyping) (checked : TypeMeanings N) (active : Meanings N Place (List Mode)) (store : Store) → Fitting typing checked active store → (a : Tree N factor) (s : Shape)
       → type_of_factor checked a ≡ Some s → OutcomeFits (λ v. HasShape v s) (evaluate_factor active store a)
   evaluate_factor-sound typing checked active store f (designator x path) s h =
       let (t, et, h₁) = then_some (object_type (checked.object_for x)) (λ t. type_at checked t path) s h in
-      fits-then (λ v. HasShape v t) (λ v. HasShape v s) (object_value store (active.object_for x)) (λ v. follow active store v path >>= (λ steps. or_stuck (at_path steps v)))
+      fits-then (λ v. HasShape v t) (λ v. HasShape v s) (object_value store (active.object_for x)) (λ v. follow active store v path >>= (λ steps. or_stuck (value_at_path steps v)))
       (object-fits typing store (checked.object_for x) (active.object_for x) t f.store_fits (f.names_fit.0 x) et)
-      (λ v hv. fits-then (λ steps. shape_at_path steps t ≡ Some s) (λ v. HasShape v s) (follow active store v path) (λ steps. or_stuck (at_path steps v)) (follow-sound typing checked active store f v t path s hv h₁)
-      (λ steps e. let (w, ew, hw) = path-fits steps v t s hv e in or_stuck-fits (λ v. HasShape v s) (at_path steps v) w ew hw))
+      (λ v hv. fits-then (λ steps. shape_at_path steps t ≡ Some s) (λ v. HasShape v s) (follow active store v path) (λ steps. or_stuck (value_at_path steps v)) (follow-sound typing checked active store f v t path s hv h₁)
+      (λ steps e. let (w, ew, hw) = path-fits steps v t s hv e in or_stuck-fits (λ v. HasShape v s) (value_at_path steps v) w ew hw))
   evaluate_factor-sound typing checked active store f (integer n) s h = of_some (λ s. HasShape (number (pos n)) s) h tt
   evaluate_factor-sound typing checked active store f (parenthesised e) s h = evaluate-sound typing checked active store f e s h
   evaluate_factor-sound typing checked active store f (negation a) s h =
-      let (x, ex, h₁) = then_some (type_of_factor checked a) complement_type s h in
+      let (x, ex, h₁) = then_some (type_of_factor checked a) negation_type s h in
       fits-then (λ v. HasShape v x) (λ v. HasShape v s) (evaluate_factor active store a) negate (evaluate_factor-sound typing checked active store f a x ex) (λ v hv. negate-fits x s v h₁ hv)
 
-  pub follow-sound : {N : Type 0} (typing : StoreTyping) (checked : Typed N) (active : Meanings N Place (List Mode)) (store : Store) → Fitting typing checked active store → (v : Value) (t : Shape) (path : Tree N (items selector)) (s : Shape)
+  pub follow-sound : {N : Type 0} (typing : StoreTyping) (checked : TypeMeanings N) (active : Meanings N Place (List Mode)) (store : Store) → Fitting typing checked active store → (v : Value) (t : Shape) (path : Tree N (items selector)) (s : Shape)
       → HasShape v t → type_at checked t path ≡ Some s → OutcomeFits (λ steps. shape_at_path steps t ≡ Some s) (follow active store v path)
   follow-sound typing checked active store f v t end s hv h = h
   follow-sound typing checked active store f v t (more (field x) rest) s hv h =

@@ -5,13 +5,13 @@ use Rattle.ob0_language_names.specs.Names.{Name, same_name}
 use Rattle.ob0_language_types.specs.Arguments.{arguments_listed}
 use Rattle.ob0_language_types.specs.Expressions.{Meanings, Object, a_constant, a_procedure, a_standard, a_type, a_variable, designate, evaluate, follow, object_place, reads, writes, writes_line}
 use Rattle.ob0_language_types.specs.Typing.{lone_designator, shape_of_field, type_of}
-use Rattle.ob0_language_values.specs.Values.{FieldShapes, Members, Outcome, Place, Shape, Step, Store, TurnBound, Value, Values, array_shape, at_field, at_index, boolean_shape, count_values, elements, ends, gives, integer_shape, members, next_field_shape, next_member, next_value, no_field_shape, no_member, no_value, number, or_stuck, read_place, record_shape, truth, with_at_path, with_named_member, with_nth_value, with_part, write_place, ◌>>=◌}
-use Rattle.ob0_language_types.specs.WellTyped.{Formal, Mode, Signature, Typed, agree, argument_fits, arguments_fit, by_place, by_value, condition_fits, else_fits, elsifs_fit, sequence_fits, signature_of, statement_fits, statements_fit, variable_type}
-use Rattle.ob0_language_types.proofs.Conditions.{agree-true, both_true, call-typed, of_some, variable-typed}
+use Rattle.ob0_language_values.specs.Values.{FieldShapes, Members, Outcome, Place, Shape, Step, Store, TurnBound, Value, Values, array_shape, at_field, at_index, boolean_shape, count_values, elements, ends, gives, integer_shape, members, next_field_shape, next_member, next_value, no_field_shape, no_member, no_value, number, or_stuck, read_place, record_shape, truth, with_value_at_path, with_named_member, with_nth_value, with_part, write_place, ◌>>=◌}
+use Rattle.ob0_language_types.specs.WellTyped.{FormalParameter, Mode, Signature, TypeMeanings, same_known_shape, argument_fits, arguments_fit, by_place, by_value, condition_fits, else_fits, elsifs_fit, sequence_fits, signature_of, statement_fits, statements_fit, variable_type}
+use Rattle.ob0_language_types.proofs.Conditions.{same_known_shape-true, both_true, call-typed, of_some, variable-typed}
 use Rattle.ob0_language_types.proofs.TypedElsewhere.{then_some}
-use Rattle.ob0_language_runs.specs.Runs.{Argument, Calls, Progress, State, choose, evaluate_argument, evaluate_arguments, execute, execute_all, execute_else, execute_elsifs, execute_further, continue_with, line_out, modes_of, number_out, perform, place_argument, append_output, read_number, running, stopped, store_at, turns, turns_until, use_in, value_argument}
+use Rattle.ob0_language_runs.specs.Runs.{Argument, CallFunction, Progress, State, choose, evaluate_argument, evaluate_arguments, execute, execute_all, execute_else, execute_elsifs, execute_further, continue_with, line_out, modes_of, number_out, perform_call, place_argument, append_output, read_number, running, stopped, store_at, execute_while, execute_repeat, use_result, value_argument}
 use Rattle.ob0_language_runs.proofs.Sound.{Fitting, evaluate-sound, fits-then, follow-sound, is_number, or_stuck-fits, part-fits, place-fits, variable-fits}
-use Rattle.ob0_language_runs.specs.Fitting.{ArgumentsFit, EachHasShape, HasShape, HaveShapes, MeaningsFit, ObjectFits, PlaceFits, StoreFits, StoreTyping, modes_in, part_shape, shape_at_path}
+use Rattle.ob0_language_runs.specs.Fitting.{ArgumentsFit, EachHasShape, HasShape, HaveShapes, MeaningsFit, ObjectFits, PlaceFits, StoreFits, StoreTyping, signature_modes, part_shape, shape_at_path}
 use Rattle.ob0_language_runs.proofs.Soundness.{CallsFit, OutcomeFits, ProgressFits}
 
 -- Facts about a typing also hold after it has grown.
@@ -35,7 +35,7 @@ ObjectFits-grows typing others (Some (a_standard s)) (Some (a_standard t)) h = h
 ObjectFits-grows typing others None None h = h
 ObjectFits-grows typing others _ _ h = absurd h
 
-pub CallsFit-grows : {N : Type 0} (typing others : StoreTyping) (checked : Typed N) (enter : Calls N) → CallsFit typing checked enter → CallsFit (typing ++ others) checked enter
+pub CallsFit-grows : {N : Type 0} (typing others : StoreTyping) (checked : TypeMeanings N) (enter : CallFunction N) → CallsFit typing checked enter → CallsFit (typing ++ others) checked enter
 CallsFit-grows typing others checked enter h x signature e later args s fit store =
     let assoc : (typing ++ others) ++ later ≡ typing ++ (others ++ later) = append_assoc typing others later in
     subst (λ all. ProgressFits all (enter x args s)) (sym assoc)
@@ -72,14 +72,14 @@ with_part-fits (number n) integer_shape step t new h e hn = h
 with_part-fits (truth b) boolean_shape step t new h e hn = h
 with_part-fits _ _ step t new h e hn = absurd h
 
-pub with_path-fits : (path : List Step) (v : Value) (s t : Shape) (new : Value) → HasShape v s → shape_at_path path s ≡ Some t → HasShape new t → (w : Value) × (with_at_path path new v ≡ Some w) × HasShape w s
+pub with_path-fits : (path : List Step) (v : Value) (s t : Shape) (new : Value) → HasShape v s → shape_at_path path s ≡ Some t → HasShape new t → (w : Value) × (with_value_at_path path new v ≡ Some w) × HasShape w s
 with_path-fits [] v s t new h e hn = (new, refl, of_some (λ s. HasShape new s) (sym e) hn)
 with_path-fits (step ∷ path) v s t new h e hn =
     let (u, eu, e₁) = then_some (part_shape s step) (shape_at_path path) t e in
     let (w, ew, hw) = part-fits v s step u h eu in
     let (z, ez, hz) = with_path-fits path w u t new hw e₁ hn in (
       with_part v step z,
-      ap (option_and_then (λ old. option_map (with_part v step) (with_at_path path new old))) ew ∙ ap (option_map (with_part v step)) ez,
+      ap (option_and_then (λ old. option_map (with_part v step) (with_value_at_path path new old))) ew ∙ ap (option_map (with_part v step)) ez,
       with_part-fits v s step u z h eu hz,
     )
 
@@ -95,8 +95,8 @@ store_at-fits typing s p shape new h place hn =
     let (v, ev, hv) = variable-fits typing s.store p.variable t h et in
     let (w, ew, hw) = with_path-fits p.path v t shape new hv e₁ hn in
     let wrote : write_place s.store p new ≡ Some (slice_set s.store p.variable w) =
-    ap (option_and_then (λ old. option_map (slice_set s.store p.variable) (with_at_path p.path new old))) ev ∙ ap (option_map (slice_set s.store p.variable)) ew in
-    subst (λ o. ProgressFits typing (use_in s (or_stuck o) (λ store. running record s { store = store }))) (sym wrote)
+    ap (option_and_then (λ old. option_map (slice_set s.store p.variable) (with_value_at_path p.path new old))) ev ∙ ap (option_map (slice_set s.store p.variable)) ew in
+    subst (λ o. ProgressFits typing (use_result s (or_stuck o) (λ store. running record s { store = store }))) (sym wrote)
     ([], subst (λ all. StoreFits all (slice_set s.store p.variable w)) (sym (append-nil typing)) (set-fits typing s.store p.variable t w h et hw))
 
 -- A place that is found for a designator has the designator's type.
@@ -117,7 +117,7 @@ object_place-fits typing checked active s h e = go active (subst (λ o. ObjectFi
     go (Some (a_variable p)) h = h
     go _ h = absurd h
 
-pub designate-sound : {N : Type 0} (typing : StoreTyping) (checked : Typed N) (active : Meanings N Place (List Mode)) (store : Store) → Fitting typing checked active store → (x : N) (path : Tree N (items selector)) (s : Shape)
+pub designate-sound : {N : Type 0} (typing : StoreTyping) (checked : TypeMeanings N) (active : Meanings N Place (List Mode)) (store : Store) → Fitting typing checked active store → (x : N) (path : Tree N (items selector)) (s : Shape)
     → variable_type checked (Some (x, path)) ≡ Some s → OutcomeFits (λ p. PlaceFits typing p s) (designate active store x path)
 unfolding designate
 designate-sound typing checked active store f x path s h =
@@ -132,19 +132,19 @@ designate-sound typing checked active store f x path s h =
 
 -- Arguments that fit evaluate to arguments that fit.
 
-pub argument-sound : {N : Type 0} (typing : StoreTyping) (checked : Typed N) (active : Meanings N Place (List Mode)) (store : Store) → Fitting typing checked active store → (f : Formal) (e : Tree N expression)
+pub argument-sound : {N : Type 0} (typing : StoreTyping) (checked : TypeMeanings N) (active : Meanings N Place (List Mode)) (store : Store) → Fitting typing checked active store → (f : FormalParameter) (e : Tree N expression)
     → argument_fits checked f e ≡ true → OutcomeFits (λ a. ArgumentsFit typing (f ∷ []) (a ∷ [])) (evaluate_argument active store f.mode e)
 unfolding evaluate_argument argument_fits
 argument-sound {N} typing checked active store fit f e h = go f.mode f.shape refl h
   where
-    go : (m : Mode) (s : Shape) → f.shape ≡ s → agree (Some s) (elim m [ by_value ↦ type_of checked e | by_place ↦ variable_type checked (lone_designator e) ]) ≡ true
+    go : (m : Mode) (s : Shape) → f.shape ≡ s → same_known_shape (Some s) (elim m [ by_value ↦ type_of checked e | by_place ↦ variable_type checked (lone_designator e) ]) ≡ true
         → OutcomeFits (λ a. ArgumentsFit typing (record { mode = m; shape = s } ∷ []) (a ∷ [])) (evaluate_argument active store m e)
     go by_value s es h =
-        let (t, et, ht) = agree-true (Some s) (type_of checked e) h in
+        let (t, et, ht) = same_known_shape-true (Some s) (type_of checked e) h in
         fits-then (λ v. HasShape v s) (λ a. ArgumentsFit typing (record { mode = by_value; shape = s } ∷ []) (a ∷ [])) (evaluate active store e) (λ v. gives (value_argument v)) (evaluate-sound typing checked active store fit e s (ht ∙ sym et))
         (λ v hv. (refl, hv, tt))
     go by_place s es h =
-        let (t, et, ht) = agree-true (Some s) (variable_type checked (lone_designator e)) h in at_designator (lone_designator e) (ht ∙ sym et)
+        let (t, et, ht) = same_known_shape-true (Some s) (variable_type checked (lone_designator e)) h in at_designator (lone_designator e) (ht ∙ sym et)
       where
         at_designator : (d : Option (N × Tree N (items selector))) → variable_type checked d ≡ Some s
             → OutcomeFits (λ a. ArgumentsFit typing (record { mode = by_place; shape = s } ∷ []) (a ∷ [])) (or_stuck d >>= (λ d. designate active store d.0 d.1 >>= (λ p. gives (place_argument p))))
@@ -153,26 +153,26 @@ argument-sound {N} typing checked active store fit f e h = go f.mode f.shape ref
             fits-then (λ p. PlaceFits typing p s) (λ a. ArgumentsFit typing (record { mode = by_place; shape = s } ∷ []) (a ∷ [])) (designate active store x path) (λ p. gives (place_argument p)) (designate-sound typing checked active store fit x path s e)
             (λ p hp. (refl, hp, tt))
 
-pub first-argument : (typing : StoreTyping) (f : Formal) (fs : Signature) (a : Argument) (args : List Argument) → ArgumentsFit typing (f ∷ []) (a ∷ []) → ArgumentsFit typing fs args → ArgumentsFit typing (f ∷ fs) (a ∷ args)
+pub first-argument : (typing : StoreTyping) (f : FormalParameter) (fs : Signature) (a : Argument) (args : List Argument) → ArgumentsFit typing (f ∷ []) (a ∷ []) → ArgumentsFit typing fs args → ArgumentsFit typing (f ∷ fs) (a ∷ args)
 first-argument typing f fs (place_argument p) args h k = (h.0, h.1, k)
 first-argument typing f fs (value_argument v) args h k = (h.0, h.1, k)
 
-pub arguments-sound : {N : Type 0} (typing : StoreTyping) (checked : Typed N) (active : Meanings N Place (List Mode)) (store : Store) → Fitting typing checked active store → (fs : Signature) (es : List (Tree N expression))
-    → arguments_fit checked fs es ≡ true → OutcomeFits (λ args. ArgumentsFit typing fs args) (evaluate_arguments active store (modes_in fs) es)
+pub arguments-sound : {N : Type 0} (typing : StoreTyping) (checked : TypeMeanings N) (active : Meanings N Place (List Mode)) (store : Store) → Fitting typing checked active store → (fs : Signature) (es : List (Tree N expression))
+    → arguments_fit checked fs es ≡ true → OutcomeFits (λ args. ArgumentsFit typing fs args) (evaluate_arguments active store (signature_modes fs) es)
 unfolding evaluate_arguments arguments_fit
 arguments-sound typing checked active store fit [] [] h = tt
 arguments-sound typing checked active store fit (f ∷ fs) (e ∷ es) h =
     let h' = both_true (argument_fits checked f e) (arguments_fit checked fs es) h in
-    fits-then (λ a. ArgumentsFit typing (f ∷ []) (a ∷ [])) (λ args. ArgumentsFit typing (f ∷ fs) args) (evaluate_argument active store f.mode e) (λ a. evaluate_arguments active store (modes_in fs) es >>= (λ rest. gives (a ∷ rest))) (argument-sound typing checked active store fit f e h'.0)
-    (λ a ha. fits-then (λ args. ArgumentsFit typing fs args) (λ args. ArgumentsFit typing (f ∷ fs) args) (evaluate_arguments active store (modes_in fs) es) (λ rest. gives (a ∷ rest)) (arguments-sound typing checked active store fit fs es h'.1)
+    fits-then (λ a. ArgumentsFit typing (f ∷ []) (a ∷ [])) (λ args. ArgumentsFit typing (f ∷ fs) args) (evaluate_argument active store f.mode e) (λ a. evaluate_arguments active store (signature_modes fs) es >>= (λ rest. gives (a ∷ rest))) (argument-sound typing checked active store fit f e h'.0)
+    (λ a ha. fits-then (λ args. ArgumentsFit typing fs args) (λ args. ArgumentsFit typing (f ∷ fs) args) (evaluate_arguments active store (signature_modes fs) es) (λ rest. gives (a ∷ rest)) (arguments-sound typing checked active store fit fs es h'.1)
     (λ rest hr. first-argument typing f fs a rest ha hr))
 arguments-sound typing checked active store fit _ _ h = absurd (cc)
 
 -- Calls with arguments that fit preserve the typing.
 
-pub use_in-fits : {A : Type 0} (typing : StoreTyping) (P : A → Type 0) (s : State) (o : Outcome A) (next : A → Progress) → OutcomeFits P o → ((a : A) → P a → ProgressFits typing (next a)) → ProgressFits typing (use_in s o next)
-use_in-fits typing P s (gives a) next h each = each a h
-use_in-fits typing P s (ends e) next h each = h
+pub use_result-fits : {A : Type 0} (typing : StoreTyping) (P : A → Type 0) (s : State) (o : Outcome A) (next : A → Progress) → OutcomeFits P o → ((a : A) → P a → ProgressFits typing (next a)) → ProgressFits typing (use_result s o next)
+use_result-fits typing P s (gives a) next h each = each a h
+use_result-fits typing P s (ends e) next h each = h
 
 pub same_store-fits : (typing : StoreTyping) (s : State) → StoreFits typing s.store → ProgressFits typing (running s)
 same_store-fits typing s h = ([], subst (λ all. StoreFits all s.store) (sym (append-nil typing)) h)
@@ -181,62 +181,62 @@ pub read-fits : (typing : StoreTyping) (s : State) (p : Place) (input : List ℤ
 read-fits typing s p [] h hp = λ e. cc
 read-fits typing s p (n ∷ rest) h hp = store_at-fits typing record s { input = rest } p integer_shape (number n) h hp tt
 
-pub modes-agree : (typing : StoreTyping) (checked : Option (Object Shape Signature)) (active : Option (Object Place (List Mode))) (signature : Signature) → ObjectFits typing checked active → signature_of checked ≡ Some signature → modes_of active ≡ gives (modes_in signature)
-modes-agree typing (Some (a_procedure t)) (Some (a_procedure modes)) signature h e = ap gives (h ∙ ap modes_in (search))
-modes-agree typing (Some (a_standard reads)) (Some (a_standard q)) signature h e = subst (λ q. modes_of (Some (a_standard q)) ≡ gives (modes_in signature)) h (ap (λ t. gives (modes_in (unwrap_or t []))) e)
-modes-agree typing (Some (a_standard writes)) (Some (a_standard q)) signature h e = subst (λ q. modes_of (Some (a_standard q)) ≡ gives (modes_in signature)) h (ap (λ t. gives (modes_in (unwrap_or t []))) e)
-modes-agree typing (Some (a_standard writes_line)) (Some (a_standard q)) signature h e = subst (λ q. modes_of (Some (a_standard q)) ≡ gives (modes_in signature)) h (ap (λ t. gives (modes_in (unwrap_or t []))) e)
-modes-agree typing None active signature h e = absurd (cc)
-modes-agree typing (Some (a_type t)) active signature h e = absurd (cc)
-modes-agree typing (Some (a_constant t)) active signature h e = absurd (cc)
-modes-agree typing (Some (a_variable t)) active signature h e = absurd (cc)
-modes-agree typing _ _ signature h e = absurd h
+pub modes-same_known_shape : (typing : StoreTyping) (checked : Option (Object Shape Signature)) (active : Option (Object Place (List Mode))) (signature : Signature) → ObjectFits typing checked active → signature_of checked ≡ Some signature → modes_of active ≡ gives (signature_modes signature)
+modes-same_known_shape typing (Some (a_procedure t)) (Some (a_procedure modes)) signature h e = ap gives (h ∙ ap signature_modes (search))
+modes-same_known_shape typing (Some (a_standard reads)) (Some (a_standard q)) signature h e = subst (λ q. modes_of (Some (a_standard q)) ≡ gives (signature_modes signature)) h (ap (λ t. gives (signature_modes (unwrap_or t []))) e)
+modes-same_known_shape typing (Some (a_standard writes)) (Some (a_standard q)) signature h e = subst (λ q. modes_of (Some (a_standard q)) ≡ gives (signature_modes signature)) h (ap (λ t. gives (signature_modes (unwrap_or t []))) e)
+modes-same_known_shape typing (Some (a_standard writes_line)) (Some (a_standard q)) signature h e = subst (λ q. modes_of (Some (a_standard q)) ≡ gives (signature_modes signature)) h (ap (λ t. gives (signature_modes (unwrap_or t []))) e)
+modes-same_known_shape typing None active signature h e = absurd (cc)
+modes-same_known_shape typing (Some (a_type t)) active signature h e = absurd (cc)
+modes-same_known_shape typing (Some (a_constant t)) active signature h e = absurd (cc)
+modes-same_known_shape typing (Some (a_variable t)) active signature h e = absurd (cc)
+modes-same_known_shape typing _ _ signature h e = absurd h
 
 pub read_arguments : (typing : StoreTyping) (enter : List Argument → State → Progress) (args : List Argument) (s : State) → StoreFits typing s.store → ArgumentsFit typing (record { mode = by_place; shape = integer_shape } ∷ []) args
-    → ProgressFits typing (perform (Some (a_standard reads)) enter args s)
+    → ProgressFits typing (perform_call (Some (a_standard reads)) enter args s)
 read_arguments typing enter (place_argument p ∷ []) s h fit = read-fits typing s p s.input h fit.1
 read_arguments typing enter [] s h fit = absurd fit
 read_arguments typing enter (value_argument v ∷ args) s h fit = let e : by_place ≡ by_value = fit.0 in absurd (cc)
 read_arguments typing enter (place_argument p ∷ a ∷ args) s h fit = absurd (fit.2)
 
 pub write_arguments : (typing : StoreTyping) (enter : List Argument → State → Progress) (args : List Argument) (s : State) → StoreFits typing s.store → ArgumentsFit typing (record { mode = by_value; shape = integer_shape } ∷ []) args
-    → ProgressFits typing (perform (Some (a_standard writes)) enter args s)
+    → ProgressFits typing (perform_call (Some (a_standard writes)) enter args s)
 write_arguments typing enter (value_argument v ∷ []) s h fit =
     let (n, ev) = is_number v fit.1 in
-    subst (λ v. ProgressFits typing (perform (Some (a_standard writes)) enter (value_argument v ∷ []) s)) (sym ev) (same_store-fits typing (append_output s (number_out n)) h)
+    subst (λ v. ProgressFits typing (perform_call (Some (a_standard writes)) enter (value_argument v ∷ []) s)) (sym ev) (same_store-fits typing (append_output s (number_out n)) h)
 write_arguments typing enter [] s h fit = absurd fit
 write_arguments typing enter (place_argument v ∷ args) s h fit = let e : by_value ≡ by_place = fit.0 in absurd (cc)
 write_arguments typing enter (value_argument v ∷ a ∷ args) s h fit = absurd (fit.2)
 
 pub line_arguments : (typing : StoreTyping) (enter : List Argument → State → Progress) (args : List Argument) (s : State) → StoreFits typing s.store → ArgumentsFit typing [] args
-    → ProgressFits typing (perform (Some (a_standard writes_line)) enter args s)
+    → ProgressFits typing (perform_call (Some (a_standard writes_line)) enter args s)
 line_arguments typing enter [] s h fit = same_store-fits typing (append_output s line_out) h
 line_arguments typing enter (a ∷ args) s h fit = absurd fit
 
-pub perform-fits : (typing : StoreTyping) (checked : Option (Object Shape Signature)) (active : Option (Object Place (List Mode))) (signature : Signature) (enter : List Argument → State → Progress) (args : List Argument) (s : State)
+pub perform_call-fits : (typing : StoreTyping) (checked : Option (Object Shape Signature)) (active : Option (Object Place (List Mode))) (signature : Signature) (enter : List Argument → State → Progress) (args : List Argument) (s : State)
     → ObjectFits typing checked active → signature_of checked ≡ Some signature → StoreFits typing s.store → ArgumentsFit typing signature args
-    → (checked ≡ Some (a_procedure signature) → ProgressFits typing (enter args s)) → ProgressFits typing (perform active enter args s)
-perform-fits typing (Some (a_procedure t)) (Some (a_procedure modes)) signature enter args s o e h fit called = called (let e' : t ≡ signature = search in ap (λ t. Some (a_procedure t)) e')
-perform-fits typing (Some (a_standard reads)) (Some (a_standard q)) signature enter args s o e h fit called =
-    subst (λ q. ProgressFits typing (perform (Some (a_standard q)) enter args s)) o (read_arguments typing enter args s h (subst (λ t. ArgumentsFit typing (unwrap_or t []) args) (sym e) fit))
-perform-fits typing (Some (a_standard writes)) (Some (a_standard q)) signature enter args s o e h fit called =
-    subst (λ q. ProgressFits typing (perform (Some (a_standard q)) enter args s)) o (write_arguments typing enter args s h (subst (λ t. ArgumentsFit typing (unwrap_or t []) args) (sym e) fit))
-perform-fits typing (Some (a_standard writes_line)) (Some (a_standard q)) signature enter args s o e h fit called =
-    subst (λ q. ProgressFits typing (perform (Some (a_standard q)) enter args s)) o (line_arguments typing enter args s h (subst (λ t. ArgumentsFit typing (unwrap_or t []) args) (sym e) fit))
-perform-fits typing None active signature enter args s o e h fit called = absurd (cc)
-perform-fits typing (Some (a_type t)) active signature enter args s o e h fit called = absurd (cc)
-perform-fits typing (Some (a_constant t)) active signature enter args s o e h fit called = absurd (cc)
-perform-fits typing (Some (a_variable t)) active signature enter args s o e h fit called = absurd (cc)
-perform-fits typing _ _ signature enter args s o e h fit called = absurd o
+    → (checked ≡ Some (a_procedure signature) → ProgressFits typing (enter args s)) → ProgressFits typing (perform_call active enter args s)
+perform_call-fits typing (Some (a_procedure t)) (Some (a_procedure modes)) signature enter args s o e h fit called = called (let e' : t ≡ signature = search in ap (λ t. Some (a_procedure t)) e')
+perform_call-fits typing (Some (a_standard reads)) (Some (a_standard q)) signature enter args s o e h fit called =
+    subst (λ q. ProgressFits typing (perform_call (Some (a_standard q)) enter args s)) o (read_arguments typing enter args s h (subst (λ t. ArgumentsFit typing (unwrap_or t []) args) (sym e) fit))
+perform_call-fits typing (Some (a_standard writes)) (Some (a_standard q)) signature enter args s o e h fit called =
+    subst (λ q. ProgressFits typing (perform_call (Some (a_standard q)) enter args s)) o (write_arguments typing enter args s h (subst (λ t. ArgumentsFit typing (unwrap_or t []) args) (sym e) fit))
+perform_call-fits typing (Some (a_standard writes_line)) (Some (a_standard q)) signature enter args s o e h fit called =
+    subst (λ q. ProgressFits typing (perform_call (Some (a_standard q)) enter args s)) o (line_arguments typing enter args s h (subst (λ t. ArgumentsFit typing (unwrap_or t []) args) (sym e) fit))
+perform_call-fits typing None active signature enter args s o e h fit called = absurd (cc)
+perform_call-fits typing (Some (a_type t)) active signature enter args s o e h fit called = absurd (cc)
+perform_call-fits typing (Some (a_constant t)) active signature enter args s o e h fit called = absurd (cc)
+perform_call-fits typing (Some (a_variable t)) active signature enter args s o e h fit called = absurd (cc)
+perform_call-fits typing _ _ signature enter args s o e h fit called = absurd o
 
 -- ---- statements
 
 -- the context that a statement needs: meanings of names and calls that fit
-pub record Sound {N : Type 0} (typing : StoreTyping) (checked : Typed N) (active : Meanings N Place (List Mode)) (enter : Calls N) : Type 0 where
+pub record Sound {N : Type 0} (typing : StoreTyping) (checked : TypeMeanings N) (active : Meanings N Place (List Mode)) (enter : CallFunction N) : Type 0 where
   pub names_fit : MeaningsFit typing checked active
   pub calls_fit : CallsFit typing checked enter
 
-pub Sound-grows : {N : Type 0} (typing others : StoreTyping) (checked : Typed N) (active : Meanings N Place (List Mode)) (enter : Calls N) → Sound typing checked active enter → Sound (typing ++ others) checked active enter
+pub Sound-grows : {N : Type 0} (typing others : StoreTyping) (checked : TypeMeanings N) (active : Meanings N Place (List Mode)) (enter : CallFunction N) → Sound typing checked active enter → Sound (typing ++ others) checked active enter
 Sound-grows typing others checked active enter h =
     record { names_fit = (λ x. ObjectFits-grows typing others (checked.object_for x) (active.object_for x) (h.names_fit.0 x), h.names_fit.1); calls_fit = CallsFit-grows typing others checked enter h.calls_fit }
 
@@ -261,16 +261,16 @@ choose-fits typing s _ yes' no' h hy hn = absurd h
 abbrev pub IsCondition : StoreTyping → (State → Outcome Value) → Type 0
 IsCondition typing condition = (others : StoreTyping) (s : State) → StoreFits (typing ++ others) s.store → OutcomeFits (λ v. HasShape v boolean_shape) (condition s)
 
-pub turns-keep : (t : ℕ) (typing : StoreTyping) (condition : State → Outcome Value) (statements : State → Progress) → IsCondition typing condition → Keeps typing statements → Keeps typing (turns t condition statements)
-turns-keep zero typing condition statements is keeps others s h =
-    use_in-fits (typing ++ others) (λ v. HasShape v boolean_shape) s (condition s) (λ v. choose s v (λ s'. stopped TurnBound s'.output) running) (is others s h)
+pub execute_while-keep : (t : ℕ) (typing : StoreTyping) (condition : State → Outcome Value) (statements : State → Progress) → IsCondition typing condition → Keeps typing statements → Keeps typing (execute_while t condition statements)
+execute_while-keep zero typing condition statements is keeps others s h =
+    use_result-fits (typing ++ others) (λ v. HasShape v boolean_shape) s (condition s) (λ v. choose s v (λ s'. stopped TurnBound s'.output) running) (is others s h)
     (λ v hv. choose-fits (typing ++ others) s v (λ s'. stopped TurnBound s'.output) running hv (λ e. cc) (same_store-fits (typing ++ others) s h))
-turns-keep (suc t) typing condition statements is keeps others s h =
-    use_in-fits (typing ++ others) (λ v. HasShape v boolean_shape) s (condition s) (λ v. choose s v (λ s'. continue_with (statements s') (turns t condition statements)) running) (is others s h)
-    (λ v hv. choose-fits (typing ++ others) s v (λ s'. continue_with (statements s') (turns t condition statements)) running hv
-    (go_on-fits (typing ++ others) (statements s) (turns t condition statements) (keeps others s h)
-    (λ later s' h'. subst (λ all. ProgressFits all (turns t condition statements s')) (sym (append_assoc typing others later))
-    (turns-keep t typing condition statements is keeps (others ++ later) s' (subst (λ all. StoreFits all s'.store) (append_assoc typing others later) h'))))
+execute_while-keep (suc t) typing condition statements is keeps others s h =
+    use_result-fits (typing ++ others) (λ v. HasShape v boolean_shape) s (condition s) (λ v. choose s v (λ s'. continue_with (statements s') (execute_while t condition statements)) running) (is others s h)
+    (λ v hv. choose-fits (typing ++ others) s v (λ s'. continue_with (statements s') (execute_while t condition statements)) running hv
+    (go_on-fits (typing ++ others) (statements s) (execute_while t condition statements) (keeps others s h)
+    (λ later s' h'. subst (λ all. ProgressFits all (execute_while t condition statements s')) (sym (append_assoc typing others later))
+    (execute_while-keep t typing condition statements is keeps (others ++ later) s' (subst (λ all. StoreFits all s'.store) (append_assoc typing others later) h'))))
     (same_store-fits (typing ++ others) s h))
 
 pub Keeps-grows : (typing others : StoreTyping) (next : State → Progress) → Keeps typing next → Keeps (typing ++ others) next
@@ -281,24 +281,24 @@ Keeps-grows typing others next keeps later s h =
 pub IsCondition-grows : (typing others : StoreTyping) (condition : State → Outcome Value) → IsCondition typing condition → IsCondition (typing ++ others) condition
 IsCondition-grows typing others condition is later s h = is (others ++ later) s (subst (λ all. StoreFits all s.store) (append_assoc typing others later) h)
 
-pub turns_until-keep : (t : ℕ) (typing : StoreTyping) (condition : State → Outcome Value) (turn : State → Progress) → IsCondition typing condition → Keeps typing turn → Keeps typing (turns_until t condition turn)
-turns_until-keep zero typing condition turn is keeps others s h =
-    go_on-fits (typing ++ others) (turn s) (λ s'. use_in s' (condition s') (λ v. choose s' v running (λ s''. stopped TurnBound s''.output))) (keeps others s h)
-    (λ later s' h'. use_in-fits ((typing ++ others) ++ later) (λ v. HasShape v boolean_shape) s' (condition s') (λ v. choose s' v running (λ s''. stopped TurnBound s''.output)) (IsCondition-grows typing others condition is later s' h')
+pub execute_repeat-keep : (t : ℕ) (typing : StoreTyping) (condition : State → Outcome Value) (turn : State → Progress) → IsCondition typing condition → Keeps typing turn → Keeps typing (execute_repeat t condition turn)
+execute_repeat-keep zero typing condition turn is keeps others s h =
+    go_on-fits (typing ++ others) (turn s) (λ s'. use_result s' (condition s') (λ v. choose s' v running (λ s''. stopped TurnBound s''.output))) (keeps others s h)
+    (λ later s' h'. use_result-fits ((typing ++ others) ++ later) (λ v. HasShape v boolean_shape) s' (condition s') (λ v. choose s' v running (λ s''. stopped TurnBound s''.output)) (IsCondition-grows typing others condition is later s' h')
     (λ v hv. choose-fits ((typing ++ others) ++ later) s' v running (λ s''. stopped TurnBound s''.output) hv (same_store-fits ((typing ++ others) ++ later) s' h') (λ e. cc)))
-turns_until-keep (suc t) typing condition turn is keeps others s h =
-    go_on-fits (typing ++ others) (turn s) (λ s'. use_in s' (condition s') (λ v. choose s' v running (turns_until t condition turn))) (keeps others s h)
-    (λ later s' h'. use_in-fits ((typing ++ others) ++ later) (λ v. HasShape v boolean_shape) s' (condition s') (λ v. choose s' v running (turns_until t condition turn)) (IsCondition-grows typing others condition is later s' h')
-    (λ v hv. choose-fits ((typing ++ others) ++ later) s' v running (turns_until t condition turn) hv (same_store-fits ((typing ++ others) ++ later) s' h')
-    (Keeps-grows typing others (turns_until t condition turn) (turns_until-keep t typing condition turn is keeps) later s' h')))
+execute_repeat-keep (suc t) typing condition turn is keeps others s h =
+    go_on-fits (typing ++ others) (turn s) (λ s'. use_result s' (condition s') (λ v. choose s' v running (execute_repeat t condition turn))) (keeps others s h)
+    (λ later s' h'. use_result-fits ((typing ++ others) ++ later) (λ v. HasShape v boolean_shape) s' (condition s') (λ v. choose s' v running (execute_repeat t condition turn)) (IsCondition-grows typing others condition is later s' h')
+    (λ v hv. choose-fits ((typing ++ others) ++ later) s' v running (execute_repeat t condition turn) hv (same_store-fits ((typing ++ others) ++ later) s' h')
+    (Keeps-grows typing others (execute_repeat t condition turn) (execute_repeat-keep t typing condition turn is keeps) later s' h')))
 
-pub condition-sound : {N : Type 0} (typing : StoreTyping) (checked : Typed N) (active : Meanings N Place (List Mode)) → MeaningsFit typing checked active → (e : Tree N expression) → condition_fits checked e ≡ true → (s : State) → StoreFits typing s.store → OutcomeFits (λ v. HasShape v boolean_shape) (evaluate active s.store e)
+pub condition-sound : {N : Type 0} (typing : StoreTyping) (checked : TypeMeanings N) (active : Meanings N Place (List Mode)) → MeaningsFit typing checked active → (e : Tree N expression) → condition_fits checked e ≡ true → (s : State) → StoreFits typing s.store → OutcomeFits (λ v. HasShape v boolean_shape) (evaluate active s.store e)
 unfolding condition_fits
 condition-sound typing checked active known e h s store_fits =
-    let (t, et, ht) = agree-true (Some boolean_shape) (type_of checked e) h in
+    let (t, et, ht) = same_known_shape-true (Some boolean_shape) (type_of checked e) h in
     evaluate-sound typing checked active s.store record { store_fits = store_fits; names_fit = known } e boolean_shape (ht ∙ sym et)
 
-pub call-here : {N : Type 0} (typing : StoreTyping) (checked : Typed N) (enter : Calls N) → CallsFit typing checked enter → (x : N) (signature : Signature) (args : List Argument) (s : State) → StoreFits typing s.store → ArgumentsFit typing signature args
+pub call-here : {N : Type 0} (typing : StoreTyping) (checked : TypeMeanings N) (enter : CallFunction N) → CallsFit typing checked enter → (x : N) (signature : Signature) (args : List Argument) (s : State) → StoreFits typing s.store → ArgumentsFit typing signature args
     → checked.object_for x ≡ Some (a_procedure signature) → ProgressFits typing (enter x args s)
 call-here typing checked enter h x signature args s store fit e =
     subst (λ all. ProgressFits all (enter x args s)) (append-nil typing)
@@ -307,69 +307,69 @@ call-here typing checked enter h x signature args s store fit e =
 mutual
   unfolding execute statement_fits
 
-  pub execute-keeps : {N : Type 0} (typing : StoreTyping) (checked : Typed N) (active : Meanings N Place (List Mode)) (enter : Calls N) → Sound typing checked active enter → (t : ℕ) (a : Tree N statement) → statement_fits checked a ≡ true → Keeps typing (execute active enter t a)
+  pub execute-keeps : {N : Type 0} (typing : StoreTyping) (checked : TypeMeanings N) (active : Meanings N Place (List Mode)) (enter : CallFunction N) → Sound typing checked active enter → (t : ℕ) (a : Tree N statement) → statement_fits checked a ≡ true → Keeps typing (execute active enter t a)
   execute-keeps typing checked active enter sound t empty h others s store = same_store-fits (typing ++ others) s store
   execute-keeps typing checked active enter sound t (assigns x path e) h others s store =
       let grown = Sound-grows typing others checked active enter sound in
-      let (shape, es, et) = agree-true (variable_type checked (Some (x, path))) (type_of checked e) h in
-      use_in-fits (typing ++ others) (λ p. PlaceFits (typing ++ others) p shape) s (designate active s.store x path) (λ p. use_in s (evaluate active s.store e) (store_at s p))
+      let (shape, es, et) = same_known_shape-true (variable_type checked (Some (x, path))) (type_of checked e) h in
+      use_result-fits (typing ++ others) (λ p. PlaceFits (typing ++ others) p shape) s (designate active s.store x path) (λ p. use_result s (evaluate active s.store e) (store_at s p))
       (designate-sound (typing ++ others) checked active s.store record { store_fits = store; names_fit = grown.names_fit } x path shape es)
-      (λ p hp. use_in-fits (typing ++ others) (λ v. HasShape v shape) s (evaluate active s.store e) (store_at s p)
+      (λ p hp. use_result-fits (typing ++ others) (λ v. HasShape v shape) s (evaluate active s.store e) (store_at s p)
       (evaluate-sound (typing ++ others) checked active s.store record { store_fits = store; names_fit = grown.names_fit } e shape et)
       (λ v hv. store_at-fits (typing ++ others) s p shape v store hp hv))
   execute-keeps typing checked active enter sound t (calls x es) h others s store =
       let grown = Sound-grows typing others checked active enter sound in
       let (signature, sig, fit) = call-typed checked (signature_of (checked.object_for x)) (arguments_listed es) h in
-      use_in-fits (typing ++ others) (λ args. ArgumentsFit (typing ++ others) signature args) s (modes_of (active.object_for x) >>= (λ modes. evaluate_arguments active s.store modes (arguments_listed es))) (λ args. perform (active.object_for x) (enter x) args s)
-      (subst (λ o. OutcomeFits (λ args. ArgumentsFit (typing ++ others) signature args) (o >>= (λ modes. evaluate_arguments active s.store modes (arguments_listed es)))) (sym (modes-agree (typing ++ others) (checked.object_for x) (active.object_for x) signature (grown.names_fit.0 x) sig))
+      use_result-fits (typing ++ others) (λ args. ArgumentsFit (typing ++ others) signature args) s (modes_of (active.object_for x) >>= (λ modes. evaluate_arguments active s.store modes (arguments_listed es))) (λ args. perform_call (active.object_for x) (enter x) args s)
+      (subst (λ o. OutcomeFits (λ args. ArgumentsFit (typing ++ others) signature args) (o >>= (λ modes. evaluate_arguments active s.store modes (arguments_listed es)))) (sym (modes-same_known_shape (typing ++ others) (checked.object_for x) (active.object_for x) signature (grown.names_fit.0 x) sig))
       (arguments-sound (typing ++ others) checked active s.store record { store_fits = store; names_fit = grown.names_fit } signature (arguments_listed es) fit))
-      (λ args hargs. perform-fits (typing ++ others) (checked.object_for x) (active.object_for x) signature (enter x) args s (grown.names_fit.0 x) sig store hargs
+      (λ args hargs. perform_call-fits (typing ++ others) (checked.object_for x) (active.object_for x) signature (enter x) args s (grown.names_fit.0 x) sig store hargs
       (λ e. call-here (typing ++ others) checked enter grown.calls_fit x signature args s store hargs e))
   execute-keeps typing checked active enter sound t (branches e statements rest last) h others s store =
       let h₁ = both_true (condition_fits checked e) (sequence_fits checked statements && (elsifs_fit checked rest && else_fits checked last)) h in
       let h₂ = both_true (sequence_fits checked statements) (elsifs_fit checked rest && else_fits checked last) h₁.1 in
       let h₃ = both_true (elsifs_fit checked rest) (else_fits checked last) h₂.1 in
       let grown = Sound-grows typing others checked active enter sound in
-      use_in-fits (typing ++ others) (λ v. HasShape v boolean_shape) s (evaluate active s.store e) (λ v. choose s v (execute_all active enter t statements) (execute_elsifs active enter t rest (execute_else active enter t last)))
+      use_result-fits (typing ++ others) (λ v. HasShape v boolean_shape) s (evaluate active s.store e) (λ v. choose s v (execute_all active enter t statements) (execute_elsifs active enter t rest (execute_else active enter t last)))
       (condition-sound (typing ++ others) checked active grown.names_fit e h₁.0 s store)
       (λ v hv. choose-fits (typing ++ others) s v (execute_all active enter t statements) (execute_elsifs active enter t rest (execute_else active enter t last)) hv
       (execute_all-keeps typing checked active enter sound t statements h₂.0 others s store)
       (execute_elsifs-keeps typing checked active enter sound t rest (execute_else active enter t last) h₃.0 (execute_else-keeps typing checked active enter sound t last h₃.1) others s store))
   execute-keeps typing checked active enter sound t (while_loop e statements) h others s store =
       let h₁ = both_true (condition_fits checked e) (sequence_fits checked statements) h in
-      turns-keep t typing (λ s'. evaluate active s'.store e) (execute_all active enter t statements)
+      execute_while-keep t typing (λ s'. evaluate active s'.store e) (execute_all active enter t statements)
       (λ others s store. condition-sound (typing ++ others) checked active (Sound-grows typing others checked active enter sound).names_fit e h₁.0 s store)
       (execute_all-keeps typing checked active enter sound t statements h₁.1) others s store
   execute-keeps typing checked active enter sound t (repeat_loop statements e) h others s store =
       let h₁ = both_true (sequence_fits checked statements) (condition_fits checked e) h in
-      turns_until-keep (t - 1) typing (λ s'. evaluate active s'.store e) (execute_all active enter t statements)
+      execute_repeat-keep (t - 1) typing (λ s'. evaluate active s'.store e) (execute_all active enter t statements)
       (λ others s store. condition-sound (typing ++ others) checked active (Sound-grows typing others checked active enter sound).names_fit e h₁.1 s store)
       (execute_all-keeps typing checked active enter sound t statements h₁.0) others s store
 
-  pub execute_all-keeps : {N : Type 0} (typing : StoreTyping) (checked : Typed N) (active : Meanings N Place (List Mode)) (enter : Calls N) → Sound typing checked active enter → (t : ℕ) (a : Tree N sequence) → sequence_fits checked a ≡ true → Keeps typing (execute_all active enter t a)
+  pub execute_all-keeps : {N : Type 0} (typing : StoreTyping) (checked : TypeMeanings N) (active : Meanings N Place (List Mode)) (enter : CallFunction N) → Sound typing checked active enter → (t : ℕ) (a : Tree N sequence) → sequence_fits checked a ≡ true → Keeps typing (execute_all active enter t a)
   execute_all-keeps typing checked active enter sound t (runs a rest) h others s store =
       let h₁ = both_true (statement_fits checked a) (statements_fit checked rest) h in
       go_on-fits (typing ++ others) (execute active enter t a s) (execute_further active enter t rest) (execute-keeps typing checked active enter sound t a h₁.0 others s store)
       (Keeps-grows typing others (execute_further active enter t rest) (execute_further-keeps typing checked active enter sound t rest h₁.1))
 
-  pub execute_further-keeps : {N : Type 0} (typing : StoreTyping) (checked : Typed N) (active : Meanings N Place (List Mode)) (enter : Calls N) → Sound typing checked active enter → (t : ℕ) (a : Tree N (items further_statement)) → statements_fit checked a ≡ true → Keeps typing (execute_further active enter t a)
+  pub execute_further-keeps : {N : Type 0} (typing : StoreTyping) (checked : TypeMeanings N) (active : Meanings N Place (List Mode)) (enter : CallFunction N) → Sound typing checked active enter → (t : ℕ) (a : Tree N (items further_statement)) → statements_fit checked a ≡ true → Keeps typing (execute_further active enter t a)
   execute_further-keeps typing checked active enter sound t end h others s store = same_store-fits (typing ++ others) s store
   execute_further-keeps typing checked active enter sound t (more (then_statement a) rest) h others s store =
       let h₁ = both_true (statement_fits checked a) (statements_fit checked rest) h in
       go_on-fits (typing ++ others) (execute active enter t a s) (execute_further active enter t rest) (execute-keeps typing checked active enter sound t a h₁.0 others s store)
       (Keeps-grows typing others (execute_further active enter t rest) (execute_further-keeps typing checked active enter sound t rest h₁.1))
 
-  pub execute_elsifs-keeps : {N : Type 0} (typing : StoreTyping) (checked : Typed N) (active : Meanings N Place (List Mode)) (enter : Calls N) → Sound typing checked active enter → (t : ℕ) (a : Tree N (items elsif_part)) (otherwise : State → Progress) → elsifs_fit checked a ≡ true → Keeps typing otherwise → Keeps typing (execute_elsifs active enter t a otherwise)
+  pub execute_elsifs-keeps : {N : Type 0} (typing : StoreTyping) (checked : TypeMeanings N) (active : Meanings N Place (List Mode)) (enter : CallFunction N) → Sound typing checked active enter → (t : ℕ) (a : Tree N (items elsif_part)) (otherwise : State → Progress) → elsifs_fit checked a ≡ true → Keeps typing otherwise → Keeps typing (execute_elsifs active enter t a otherwise)
   execute_elsifs-keeps typing checked active enter sound t end otherwise h keeps others s store = keeps others s store
   execute_elsifs-keeps typing checked active enter sound t (more (elsif_branch e statements) rest) otherwise h keeps others s store =
       let h₁ = both_true (condition_fits checked e) (sequence_fits checked statements && elsifs_fit checked rest) h in
       let h₂ = both_true (sequence_fits checked statements) (elsifs_fit checked rest) h₁.1 in
       let grown = Sound-grows typing others checked active enter sound in
-      use_in-fits (typing ++ others) (λ v. HasShape v boolean_shape) s (evaluate active s.store e) (λ v. choose s v (execute_all active enter t statements) (execute_elsifs active enter t rest otherwise))
+      use_result-fits (typing ++ others) (λ v. HasShape v boolean_shape) s (evaluate active s.store e) (λ v. choose s v (execute_all active enter t statements) (execute_elsifs active enter t rest otherwise))
       (condition-sound (typing ++ others) checked active grown.names_fit e h₁.0 s store)
       (λ v hv. choose-fits (typing ++ others) s v (execute_all active enter t statements) (execute_elsifs active enter t rest otherwise) hv
       (execute_all-keeps typing checked active enter sound t statements h₂.0 others s store) (execute_elsifs-keeps typing checked active enter sound t rest otherwise h₂.1 keeps others s store))
 
-  pub execute_else-keeps : {N : Type 0} (typing : StoreTyping) (checked : Typed N) (active : Meanings N Place (List Mode)) (enter : Calls N) → Sound typing checked active enter → (t : ℕ) (a : Tree N (maybe else_part)) → else_fits checked a ≡ true → Keeps typing (execute_else active enter t a)
+  pub execute_else-keeps : {N : Type 0} (typing : StoreTyping) (checked : TypeMeanings N) (active : Meanings N Place (List Mode)) (enter : CallFunction N) → Sound typing checked active enter → (t : ℕ) (a : Tree N (maybe else_part)) → else_fits checked a ≡ true → Keeps typing (execute_else active enter t a)
   execute_else-keeps typing checked active enter sound t none h others s store = same_store-fits (typing ++ others) s store
   execute_else-keeps typing checked active enter sound t (one (else_branch statements)) h others s store = execute_all-keeps typing checked active enter sound t statements h others s store

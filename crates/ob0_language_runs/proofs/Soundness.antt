@@ -2,9 +2,9 @@
 use Rattle.std.proofs.Common.{◌≡◌, ◌≢◌, List, ◌++◌, Some, Fits}
 use Rattle.ob0_language_types.specs.Expressions.{a_procedure}
 use Rattle.ob0_language_values.specs.Values.{Outcome, Stuck, ends, gives}
-use Rattle.ob0_language_types.specs.WellTyped.{Signature, Typed}
+use Rattle.ob0_language_types.specs.WellTyped.{Signature, TypeMeanings}
 use Rattle.ob0_language_runs.specs.Fitting.{ArgumentsFit, StoreFits, StoreTyping}
-use Rattle.ob0_language_runs.specs.Runs.{Argument, Calls, Progress, State, running, stopped}
+use Rattle.ob0_language_runs.specs.Runs.{Argument, CallFunction, Progress, State, running, stopped}
 
 -- holds if an outcome gives a result with the property, or ends the run other than stuck
 abbrev pub OutcomeFits : {A : Type 0} → (A → Type 0) → Outcome A → Type 0
@@ -17,7 +17,7 @@ ProgressFits typing (running s) = (others : StoreTyping) × StoreFits (typing ++
 ProgressFits typing (stopped e out) = e ≢ Stuck
 
 -- holds if calls with arguments of the signature preserve the invariant, in every store that has grown since
-abbrev pub CallsFit : {N : Type 0} → StoreTyping → Typed N → Calls N → Type 0
+abbrev pub CallsFit : {N : Type 0} → StoreTyping → TypeMeanings N → CallFunction N → Type 0
 CallsFit {N} typing checked enter =
     (x : N) (signature : Signature) → checked.object_for x ≡ Some (a_procedure signature) → (others : StoreTyping) (args : List Argument) (s : State)
     → ArgumentsFit (typing ++ others) signature args → StoreFits (typing ++ others) s.store → ProgressFits (typing ++ others) (enter x args s)

@@ -6,9 +6,9 @@ use Rattle.ob0_language_names.specs.Names.{Naming}
 use Rattle.ob0_language_names.specs.Parts.{procedure_formals}
 use Rattle.ob0_language_types.specs.Expressions.{Meanings, Object, a_constant, a_procedure, a_standard, a_type, a_variable}
 use Rattle.ob0_language_types.specs.Typing.{shape_of_field}
-use Rattle.ob0_language_types.specs.WellTyped.{Mode, Signature, TypeEnvironment, Typed, TypedParameter, bind_typed, by_place, by_value, heading, procedure_fits, typed_parameters}
+use Rattle.ob0_language_types.specs.WellTyped.{Mode, Signature, TypeEnvironment, TypeMeanings, TypedParameter, bind_typed_parameters, by_place, by_value, bind_procedure, procedure_fits, typed_parameters}
 use Rattle.ob0_language_values.specs.Values.{FieldShapes, Members, Place, Shape, Step, Store, Value, Values, array_shape, at_field, at_index, boolean_shape, count_values, elements, integer_shape, members, next_field_shape, next_member, next_value, no_field_shape, no_member, no_value, number, record_shape, truth}
-use Rattle.ob0_language_runs.specs.Runs.{Activation, Argument, ProcedureText, passing, place_argument, value_argument}
+use Rattle.ob0_language_runs.specs.Runs.{Activation, Argument, ProcedureText, statement_object, place_argument, value_argument}
 
 -- Holds if a value has a type, including the types of its parts.
 abbrev mutual
@@ -61,8 +61,8 @@ abbrev pub PlaceFits : StoreTyping → Place → Shape → Type 0
 PlaceFits typing p s = option_and_then (shape_at_path p.path) (slice_get typing p.variable) ≡ Some s
 
 -- returns the modes of a procedure's parameters, given its signature
-abbrev pub modes_in : Signature → List Mode
-modes_in = map (λ f. f.mode)
+abbrev pub signature_modes : Signature → List Mode
+signature_modes = map (λ f. f.mode)
 
 -- Holds if a name's object in a run agrees with its object in the checked module, or the name has
 -- neither object. Types, constants and standard procedures must be equal. The place of a variable
@@ -76,7 +76,7 @@ ObjectFits typing (Some (a_type s)) (Some (a_type t)) = s ≡ t
 ObjectFits typing (Some (a_constant v)) (Some (a_constant w)) = v ≡ w
 ObjectFits typing (Some (a_variable s)) (Some (a_variable p)) = PlaceFits typing p s
 ObjectFits typing (Some (a_procedure signature)) (Some (a_procedure modes)) =
-    modes ≡ modes_in signature
+    modes ≡ signature_modes signature
 ObjectFits typing (Some (a_standard p)) (Some (a_standard q)) = p ≡ q
 ObjectFits typing _ _ = ⊥
 
@@ -84,7 +84,7 @@ ObjectFits typing _ _ = ⊥
 -- spelled alike in both
 abbrev pub MeaningsFit : {N : Type 0}
     → StoreTyping
-    → Typed N
+    → TypeMeanings N
     → Meanings N Place (List Mode)
     → Type 0
 MeaningsFit {N} typing checked active =
@@ -117,9 +117,9 @@ BindingFits {N} naming typing checked x (a_procedure signature) (a_procedure cod
     × (typed_parameters naming checked code.first_constructor (procedure_formals code.text)
     ≡ Some ps)
     × (signature ≡ map (λ p. p.formal) ps)
-    × (procedure_fits naming (bind_typed ps (heading x ps checked)) code.first_constructor code.text
+    × (procedure_fits naming (bind_typed_parameters ps (bind_procedure x ps checked)) code.first_constructor code.text
     ≡ true)
-BindingFits naming typing checked x o r = ObjectFits typing (Some o) (passing (Some r))
+BindingFits naming typing checked x o r = ObjectFits typing (Some o) (statement_object (Some r))
 
 -- holds if the environment of a run agrees with the checked environment, binding by binding
 abbrev pub EnvironmentsFit : {N : Type 0}

@@ -4,9 +4,9 @@
 use Rattle.std.specs.Prelude.{ℕ, zero, suc, length, take, List, ℤ}
 use Rattle.ob0_tree.specs.Tree.{Tree, module_text}
 use Rattle.ob0_language_names.specs.Names.{Naming}
-use Rattle.ob0_language_types.specs.Environments.{from_binding}
+use Rattle.ob0_language_types.specs.Environments.{environment_from_binding}
 use Rattle.ob0_language_values.specs.Values.{CallBound}
-use Rattle.ob0_language_runs.specs.Runs.{Activation, Calls, Progress, Run, activate, run_by, running, stopped}
+use Rattle.ob0_language_runs.specs.Runs.{Activation, CallFunction, Progress, Run, activate, run_by, running, stopped}
 
 -- returns a running state with only the first `n` variables of its store; an ended run is unchanged
 abbrev pub drop_variables : ℕ → Progress → Progress
@@ -15,12 +15,12 @@ drop_variables n (stopped e out) = stopped e out
 
 -- Performs a call, or ends the run with CallBound if `c`, the number of calls that may still be
 -- open, is 0. After the call returns, the store has as many variables as before the call.
-unfoldable pub call_freeing : {N : Type 0} → Naming N → ℕ → ℕ → Activation N → Calls N
+unfoldable pub call_freeing : {N : Type 0} → Naming N → ℕ → ℕ → Activation N → CallFunction N
 unfolding activate
 call_freeing naming zero t env x args s = stopped CallBound s.output
 call_freeing naming (suc c) t env x args s =
     drop_variables (length s.store)
-    (activate naming (call_freeing naming c t) t (from_binding naming env x) args s)
+    (activate naming (call_freeing naming c t) t (environment_from_binding naming env x) args s)
 
 -- returns the run of a module in which each call drops its variables when it returns; `c` bounds
 -- the open calls, and `t` the iterations of each loop

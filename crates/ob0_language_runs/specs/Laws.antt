@@ -2,34 +2,34 @@
 -- Rule: none; laws of runs.
 use Rattle.std.specs.Prelude.{◌≡◌, ℕ, ◌≢◌, List, ℤ, Some}
 use Rattle.ob0_tree.specs.Tree.{Tree, factor, module_text, occurrences, statement}
-use Rattle.ob0_language_names.specs.Inlining.{Uses, inline_in}
+use Rattle.ob0_language_names.specs.Inlining.{OccurrenceSet, inline_in}
 use Rattle.ob0_language_names.specs.Names.{Label, Name, Naming}
 use Rattle.ob0_language_names.specs.Occurrences.{Free}
 use Rattle.ob0_language_names.specs.Scopes.{numbered, renamed}
 use Rattle.ob0_language_types.specs.Expressions.{Meanings, a_constant, evaluate_factor}
-use Rattle.ob0_language_types.specs.Laws.{UsesAre}
+use Rattle.ob0_language_types.specs.Laws.{EachUseHas}
 use Rattle.ob0_language_values.specs.Values.{Place, Store, Stuck, Value, gives}
 use Rattle.ob0_language_types.specs.WellTyped.{Mode, WellTyped}
 use Rattle.ob0_language_runs.specs.Freed.{run_freeing}
-use Rattle.ob0_language_runs.specs.Runs.{Calls, State, execute, run, run_numbered, run_over}
+use Rattle.ob0_language_runs.specs.Runs.{CallFunction, State, execute, run, run_numbered, run_over}
 
 -- A module has the same run as its numbered tree.
-abbrev pub RunsByOrdinal : Type 0
-RunsByOrdinal =
+abbrev pub NumberingKeepsRuns : Type 0
+NumberingKeepsRuns =
     (m : Tree Name module_text) (input : List ℤ) (c t : ℕ)
     → run m input c t ≡ run_numbered (numbered m) input c t
 
 -- Two modules with the same numbered tree have the same runs.
-abbrev pub RunsByShape : Type 0
-RunsByShape =
+abbrev pub NumberedTreeDecidesRuns : Type 0
+NumberedTreeDecidesRuns =
     (a b : Tree Name module_text)
     → numbered a ≡ numbered b
     → (input : List ℤ) (c t : ℕ)
     → run a input c t ≡ run b input c t
 
 -- A module has the same runs after a declaration is renamed to a free name.
-abbrev pub FreeKeepsRuns : Type 0
-FreeKeepsRuns =
+abbrev pub FreeRenamingKeepsRuns : Type 0
+FreeRenamingKeepsRuns =
     (m : Tree Name module_text) (d : ℕ) (new : Name)
     → Free m d new
     → (input : List ℤ) (c t : ℕ)
@@ -56,8 +56,8 @@ NeverStuck =
 -- statement unchanged.
 abbrev pub InliningKeepsExecution : Type 0
 InliningKeepsExecution =
-    (meaning : Meanings Name Place (List Mode)) (enter : Calls Name) (t : ℕ) (uses : Uses)
+    (meaning : Meanings Name Place (List Mode)) (enter : CallFunction Name) (t : ℕ) (uses : OccurrenceSet)
     (v : Tree Name factor) (w : Value) (k : ℕ) (a : Tree Name statement) (s : State)
     → ((store : Store) → evaluate_factor meaning store v ≡ gives w)
-    → UsesAre uses (λ x. meaning.object_for x ≡ Some (a_constant w)) k (occurrences a)
+    → EachUseHas uses (λ x. meaning.object_for x ≡ Some (a_constant w)) k (occurrences a)
     → execute meaning enter t (inline_in uses v k a) s ≡ execute meaning enter t a s

@@ -5,22 +5,22 @@
 //! defines when a value, a store, a place or an environment fits the types of a checked module. These facts hold
 //! throughout a run, so no run gets stuck.
 
-ghost use Rattle.ob0_language_runs.specs.Laws.{RunsByOrdinal, RunsByShape, FreeKeepsRuns, FreeingKeepsRuns, NeverStuck, InliningKeepsExecution};
-ghost use Rattle.ob0_language_runs.specs.EditLaws.{FreeKeepsModules, InliningKeepsModules, LeavingOutKeepsModules, InliningEverywhereKeepsModules};
+ghost use Rattle.ob0_language_runs.specs.Laws.{NumberingKeepsRuns, NumberedTreeDecidesRuns, FreeRenamingKeepsRuns, FreeingKeepsRuns, NeverStuck, InliningKeepsExecution};
+ghost use Rattle.ob0_language_runs.specs.EditLaws.{FreeRenamingKeepsTypingAndRuns, InliningKeepsTypingAndRuns, RemovingUnusedKeepsTypingAndRuns, InliningEverywhereKeepsTypingAndRuns};
 
 /// Proves that a module and its numbered tree have the same run for every input and all bounds.
-pub fn runs_by_ordinal()
-    ensures { RunsByOrdinal }
+pub fn numbering_keeps_runs()
+    ensures { NumberingKeepsRuns }
 {}
 
 /// Proves that two modules with the same numbered tree have the same runs.
-pub fn runs_by_shape()
-    ensures { RunsByShape }
+pub fn numbered_tree_decides_runs()
+    ensures { NumberedTreeDecidesRuns }
 {}
 
 /// Proves that a module has the same runs after a declaration is renamed to a free name.
-pub fn free_keeps_runs()
-    ensures { FreeKeepsRuns }
+pub fn free_renaming_keeps_runs()
+    ensures { FreeRenamingKeepsRuns }
 {}
 
 /// Proves that dropping a call's variables when the call returns changes no run.
@@ -41,25 +41,25 @@ pub fn inlining_keeps_execution()
 
 /// Proves that a well-typed module remains well-typed and has the same runs after a declaration is renamed to a free
 /// name.
-pub fn free_keeps_modules()
-    ensures { FreeKeepsModules }
+pub fn free_renaming_keeps_typing_and_runs()
+    ensures { FreeRenamingKeepsTypingAndRuns }
 {}
 
 /// Proves that a well-typed module remains well-typed and has the same runs if uses of a constant are replaced by its
 /// literal. The literal must have the constant's value at each of these uses.
-pub fn inlining_keeps_modules()
-    ensures { InliningKeepsModules }
+pub fn inlining_keeps_typing_and_runs()
+    ensures { InliningKeepsTypingAndRuns }
 {}
 
 /// Proves that a well-typed module remains well-typed and has the same runs without the declaration of a constant that
 /// no occurrence is bound to.
-pub fn leaving_out_keeps_modules()
-    ensures { LeavingOutKeepsModules }
+pub fn removing_unused_keeps_typing_and_runs()
+    ensures { RemovingUnusedKeepsTypingAndRuns }
 {}
 
 /// Proves that a well-typed module remains well-typed and has the same runs after a constant is inlined everywhere. Its
 /// literal then replaces all its uses, and its declaration is removed. The literal must have the constant's value at
 /// each use.
-pub fn inlining_everywhere_keeps_modules()
-    ensures { InliningEverywhereKeepsModules }
+pub fn inlining_everywhere_keeps_typing_and_runs()
+    ensures { InliningEverywhereKeepsTypingAndRuns }
 {}

@@ -5,13 +5,13 @@ use Rattle.ob0_tree.specs.Tree.{Tree, expression, items, selector}
 use Rattle.ob0_language_names.specs.Names.{Name, same_name}
 use Rattle.ob0_language_types.specs.Expressions.{Object, a_constant, a_procedure, a_standard, a_type, a_variable}
 use Rattle.ob0_language_types.specs.Typing.{type_at}
-use Rattle.ob0_language_types.specs.WellTyped.{Signature, Typed, agree, arguments_fit, call_fits, same_fields, same_shape, some_and, variable_type}
+use Rattle.ob0_language_types.specs.WellTyped.{Signature, TypeMeanings, same_known_shape, arguments_fit, call_fits, same_fields, same_shape, some_satisfies, variable_type}
 use Rattle.ob0_language_values.specs.Values.{FieldShapes, Shape, array_shape, boolean_shape, integer_shape, next_field_shape, no_field_shape, record_shape}
 
 pub of_some : {s t : Shape} (P : Shape → Type 0) → Some s ≡ Some t → P s → P t
 of_some {s} {t} P e h = let e' : s ≡ t = search in subst P e' h
 
-pub hold-true : {A : Type 0} (o : Option A) (test : A → Bool) → some_and o test ≡ true → (a : A) × (o ≡ Some a) × (test a ≡ true)
+pub hold-true : {A : Type 0} (o : Option A) (test : A → Bool) → some_satisfies o test ≡ true → (a : A) × (o ≡ Some a) × (test a ≡ true)
 hold-true None test e = absurd (cc)
 hold-true (Some a) test e = (a, refl, e)
 
@@ -48,13 +48,13 @@ mutual
       λ i. next_field_shape (same_name-true x y h.0 i) (same_shape-true s t g.0 i) (same_fields-true rest others g.1 i)
   same_fields-true _ _ e = absurd (cc)
 
-pub agree-true : (a b : Option Shape) → agree a b ≡ true → (s : Shape) × (a ≡ Some s) × (b ≡ Some s)
-agree-true (Some s) (Some t) e = (s, refl, ap Some (sym (same_shape-true s t e)))
-agree-true None b e = absurd (cc)
-agree-true (Some s) None e = absurd (cc)
+pub same_known_shape-true : (a b : Option Shape) → same_known_shape a b ≡ true → (s : Shape) × (a ≡ Some s) × (b ≡ Some s)
+same_known_shape-true (Some s) (Some t) e = (s, refl, ap Some (sym (same_shape-true s t e)))
+same_known_shape-true None b e = absurd (cc)
+same_known_shape-true (Some s) None e = absurd (cc)
 
 -- A variable's type is the type that its selectors select from the type of its name.
-pub variable-typed : {N : Type 0} (checked : Typed N) (x : N) (path : Tree N (items selector)) (s : Shape) → variable_type checked (Some (x, path)) ≡ Some s → (t : Shape) × (checked.object_for x ≡ Some (a_variable t)) × (type_at checked t path ≡ Some s)
+pub variable-typed : {N : Type 0} (checked : TypeMeanings N) (x : N) (path : Tree N (items selector)) (s : Shape) → variable_type checked (Some (x, path)) ≡ Some s → (t : Shape) × (checked.object_for x ≡ Some (a_variable t)) × (type_at checked t path ≡ Some s)
 unfolding variable_type
 variable-typed checked x path s h = go (checked.object_for x) h
   where
@@ -67,7 +67,7 @@ variable-typed checked x path s h = go (checked.object_for x) h
     go (Some (a_standard t)) e = absurd (cc)
 
 -- A well-typed call calls a procedure.
-pub call-typed : {N : Type 0} (checked : Typed N) (o : Option Signature) (es : List (Tree N expression)) → call_fits checked o es ≡ true → (signature : Signature) × (o ≡ Some signature) × (arguments_fit checked signature es ≡ true)
+pub call-typed : {N : Type 0} (checked : TypeMeanings N) (o : Option Signature) (es : List (Tree N expression)) → call_fits checked o es ≡ true → (signature : Signature) × (o ≡ Some signature) × (arguments_fit checked signature es ≡ true)
 unfolding call_fits
 call-typed checked None es h = absurd (cc)
 call-typed checked (Some signature) es h = (signature, refl, h)

@@ -7,39 +7,39 @@ use Rattle.std.proofs.lemmas.Bool.{ltb-false, ltb-true}
 use Rattle.std.proofs.lemmas.List.{append-nil}
 use Rattle.std.proofs.lemmas.List.Elements.{All-append, All-cons, All-nil}
 use Rattle.ob0_tree.specs.Tree.{Tree, block, body, declares, declares_procedure, end, formals, has_body, is_module, items, maybe, module_text, more, procedure, item}
-use Rattle.ob0_language_names.specs.Names.{Label, Name, as_labels, as_names, declared}
-use Rattle.ob0_language_names.specs.Parts.{block_procedures, block_statements, formal_names, formal_sections, named_types, section_types, section_variables, variable_names, module_block, procedure_formals, procedure_name}
-use Rattle.ob0_language_names.specs.Scopes.{Scope, after_block, after_names, after_procedure, after_procedures, as_label, declare_names, first_procedure, numbered, relabel_block, relabel_formals, relabel_procedures}
-use Rattle.ob0_language_names.proofs.Ordinals.{le-after_names, le-after_block, le-after_procedure, le-after_procedures}
-use Rattle.ob0_language_types.specs.Bindings.{block_bindings, for_some, module_bindings, object_bound, procedures_bindings}
-use Rattle.ob0_language_types.specs.Bodies.{BlockHas, BodyAt, NamesAreDeclared, ProcedureHas, ProceduresHave, block_bodies, procedure_bodies, procedures_bodies}
+use Rattle.ob0_language_names.specs.Names.{Label, Name, naming_by_label, naming_by_spelling, declared}
+use Rattle.ob0_language_names.specs.Parts.{block_procedures, block_statements, formal_names, formal_sections, declared_type_names, section_types, section_variables, variable_names, module_block, procedure_formals, procedure_name}
+use Rattle.ob0_language_names.specs.Scopes.{Scope, ordinal_after_block, ordinal_after_names, ordinal_after_procedure, ordinal_after_procedures, label_from_ordinal, declare_names, first_procedure_ordinal, numbered, relabel_block, relabel_formals, relabel_procedures}
+use Rattle.ob0_language_names.proofs.Ordinals.{le-ordinal_after_names, le-ordinal_after_block, le-ordinal_after_procedure, le-ordinal_after_procedures}
+use Rattle.ob0_language_types.specs.Bindings.{block_bindings, list_if_some, module_bindings, bound_object, procedures_bindings}
+use Rattle.ob0_language_types.specs.Bodies.{BlockHas, BodyAt, BindingsMatchDeclarations, ProcedureHas, ProceduresHave, block_bodies, procedure_bodies, procedures_bodies}
 use Rattle.ob0_language_types.specs.Declaring.{declare_block}
-use Rattle.ob0_language_types.specs.ConstantValues.{Known, no_constant}
-use Rattle.ob0_language_types.specs.Declarations.{after_variables, formals_constructors, procedure_constructors}
+use Rattle.ob0_language_types.specs.ConstantValues.{ConstantEnvironment, non_constant}
+use Rattle.ob0_language_types.specs.Declarations.{constructor_after_variables, formals_constructor_count, procedure_constructor_count}
 use Rattle.ob0_language_types.specs.Environments.{outermost}
 use Rattle.ob0_language_types.specs.Expressions.{Object}
-use Rattle.ob0_language_types.specs.WellTyped.{Signature, TypeEnvironment, TypedParameter, WellTyped, bind_names, bind_typed, block_fits, fits_over, heading, procedures_fit, typed_parameters}
+use Rattle.ob0_language_types.specs.WellTyped.{Signature, TypeEnvironment, TypedParameter, WellTyped, bind_names, bind_typed_parameters, block_fits, fits_over, bind_procedure, procedures_fit, typed_parameters}
 use Rattle.ob0_language_values.specs.Values.{Shape}
-use Rattle.ob0_language_types.proofs.ConstantsDeclared.{Binds, Entered, FitParts, Knows, Opened, binds-append, binds-wider, block-listed, block-opened, block-parts, block-evaluates, bound-elsewhere, bound-first, knows-all, all_known, opened-above, opened-binds, opened-grown, opened-since, outermost-binds, predeclared-below, procedure-entered, procedure-parts, procedures-listed, procedures-evaluate}
-use Rattle.ob0_language_types.proofs.Bound.{bind_typed-append}
+use Rattle.ob0_language_types.proofs.ConstantsDeclared.{Binds, Entered, FitParts, Knows, Opened, binds-append, binds-wider, block-listed, block-opened, block-parts, block-evaluates, bound-elsewhere, bound-first, knows-all, all_known, opened-above, opened-binds, opened-grown, opened-bindings_since, outermost-binds, predeclared-below, procedure-entered, procedure-parts, procedures-listed, procedures-evaluate}
+use Rattle.ob0_language_types.proofs.Bound.{bind_typed_parameters-append}
 use Rattle.ob0_language_types.proofs.Literals.{some_inverse}
-use Rattle.ob0_language_types.proofs.Proved.{fits_by_ordinal-holds}
+use Rattle.ob0_language_types.proofs.Proved.{numbering_keeps_type_check-holds}
 use Rattle.ob0_language_types.proofs.TypesByOrdinal.{TypeNoted, TypedBelow, TypedBelow-weaken, typed_by_ordinal, typed_outermost, typed_scope}
 
 -- holds if each binding in an environment is also found in a list of bindings
 abbrev pub Includes : TypeEnvironment Label → TypeEnvironment Label → Type 0
-Includes all env = (d : ℕ) (o : Object Shape Signature) → object_bound env d ≡ Some o → object_bound all d ≡ Some o
+Includes all env = (d : ℕ) (o : Object Shape Signature) → bound_object env d ≡ Some o → bound_object all d ≡ Some o
 
 -- holds if two lists of bindings bind the ordinals from `k` to `n - 1` in the same way
 abbrev Has : ℕ → ℕ → TypeEnvironment Label → TypeEnvironment Label → Type 0
-Has k n all xs = (d : ℕ) → k ≤ d → d < n → object_bound all d ≡ object_bound xs d
+Has k n all xs = (d : ℕ) → k ≤ d → d < n → bound_object all d ≡ bound_object xs d
 
 pub noted-binds : (n : ℕ) (noted : TypeNoted Name) → TypedBelow n noted → Binds 0 n (typed_by_ordinal noted)
 noted-binds n [] below = tt
 noted-binds n (b ∷ noted) below = ((b.ordinal, refl, omega arith, below.0), binds-wider 0 b.ordinal 0 n (typed_by_ordinal noted) (omega arith) (le_of_lt below.0) (noted-binds b.ordinal noted below.1))
 
-pub bound-none : (k n d : ℕ) (xs : TypeEnvironment Label) → Binds k n xs → (k ≤ d → d < n → ⊥) → object_bound xs d ≡ None
-bound-none k n d xs b h = ap (λ e. object_bound e d) (sym (append-nil xs)) ∙ bound-elsewhere k n d xs [] b h
+pub bound-none : (k n d : ℕ) (xs : TypeEnvironment Label) → Binds k n xs → (k ≤ d → d < n → ⊥) → bound_object xs d ≡ None
+bound-none k n d xs b h = ap (λ e. bound_object e d) (sym (append-nil xs)) ∙ bound-elsewhere k n d xs [] b h
 
 pub nothing : {A : Type 0} (o : A) → None ≡ Some o → ⊥
 nothing o e = cc
@@ -47,7 +47,7 @@ nothing o e = cc
 holds-grown : (all env own : TypeEnvironment Label) (k n : ℕ) → k ≤ n → Includes all env → Binds 0 k env → Binds k n own → Has k n all own → Includes all (own ++ env)
 holds-grown all env own k n le st envb ownb has = λ d o h. by d o h (nat_lt d k) refl (nat_lt d n) refl
   where
-    by : (d : ℕ) (o : Object Shape Signature) → object_bound (own ++ env) d ≡ Some o → (s : Bool) → nat_lt d k ≡ s → (t : Bool) → nat_lt d n ≡ t → object_bound all d ≡ Some o
+    by : (d : ℕ) (o : Object Shape Signature) → bound_object (own ++ env) d ≡ Some o → (s : Bool) → nat_lt d k ≡ s → (t : Bool) → nat_lt d n ≡ t → bound_object all d ≡ Some o
     by d o h true below t e = st d o (sym (bound-elsewhere k n d own env ownb (λ a z. omega (arith, a, ltb-true d k below))) ∙ h)
     by d o h false above true e = has d (ltb-false d k above) (ltb-true d n e) ∙ sym (bound-first 0 k d own env envb (λ a z. omega (arith, z, ltb-false d k above))) ∙ h
     by d o h false above false e =
@@ -56,123 +56,123 @@ holds-grown all env own k n le st envb ownb has = λ d o h. by d o h (nat_lt d k
 -- Assumes a property `Q` for each environment whose bindings are included in the list `all`.
 module _ (all : TypeEnvironment Label) (Q : TypeEnvironment Label → Type 0) (so : (n : ℕ) (noted : TypeNoted Name) → TypedBelow n noted → Includes all (typed_by_ordinal noted) → Q (typed_by_ordinal noted)) where
   mutual
-    block-has : (known : Known) (noted : TypeNoted Name) (j k : ℕ) → Knows known noted → TypedBelow k noted → Includes all (typed_by_ordinal noted) → (b : Tree Name block)
-        → block_fits as_labels (typed_by_ordinal noted) j (relabel_block as_names (as_label as_names) (typed_scope noted) k b) ≡ true
-        → Has k (after_block k b) all (block_bindings as_labels (typed_by_ordinal noted) j (relabel_block as_names (as_label as_names) (typed_scope noted) k b))
-        → BlockHas Q (typed_by_ordinal noted) j (relabel_block as_names (as_label as_names) (typed_scope noted) k b)
+    block-has : (known : ConstantEnvironment) (noted : TypeNoted Name) (j k : ℕ) → Knows known noted → TypedBelow k noted → Includes all (typed_by_ordinal noted) → (b : Tree Name block)
+        → block_fits naming_by_label (typed_by_ordinal noted) j (relabel_block naming_by_spelling (label_from_ordinal naming_by_spelling) (typed_scope noted) k b) ≡ true
+        → Has k (ordinal_after_block k b) all (block_bindings naming_by_label (typed_by_ordinal noted) j (relabel_block naming_by_spelling (label_from_ordinal naming_by_spelling) (typed_scope noted) k b))
+        → BlockHas Q (typed_by_ordinal noted) j (relabel_block naming_by_spelling (label_from_ordinal naming_by_spelling) (typed_scope noted) k b)
     block-has known noted j k knows below st (has_body (declares cs ts vs ps) statements) h has = λ inner' given.
         let b : Tree Name block = has_body (declares cs ts vs ps) statements in
         let env : TypeEnvironment Label = typed_by_ordinal noted in
-        let b' : Tree Label block = relabel_block as_names (as_label as_names) (typed_scope noted) k b in
-        let kp : ℕ = first_procedure k b in
-        let jv : ℕ = after_variables j b' in
-        let n : ℕ = after_block k b in
+        let b' : Tree Label block = relabel_block naming_by_spelling (label_from_ordinal naming_by_spelling) (typed_scope noted) k b in
+        let kp : ℕ = first_procedure_ordinal k b in
+        let jv : ℕ = constructor_after_variables j b' in
+        let n : ℕ = ordinal_after_block k b in
         let parts = block-parts env j b' h in
         let o : Opened known noted k b parts.0 = block-opened known noted j k knows below b parts.0 parts.1 in
-        let names : List Name = named_types (section_types ts) ++ variable_names (section_variables vs) in
-        let known' : Known = bind_names names no_constant o.constants.known_after in
-        let fits = (λ i. procedures_fit as_labels (sym o.reads i) jv (block_statements b') (relabel_procedures as_names (as_label as_names) (o.scoped i) kp ps)) ∙ parts.2 in
+        let names : List Name = declared_type_names (section_types ts) ++ variable_names (section_variables vs) in
+        let known' : ConstantEnvironment = bind_names names non_constant o.constants.known_after in
+        let fits = (λ i. procedures_fit naming_by_label (sym o.reads i) jv (block_statements b') (relabel_procedures naming_by_spelling (label_from_ordinal naming_by_spelling) (o.scoped i) kp ps)) ∙ parts.2 in
         let p = procedures-evaluate known' o.last jv kp (o.others.knows o.constants.known_after o.constants.knows) o.below (block_statements b') ps fits in
-        let P : TypeEnvironment Label = procedures_bindings as_labels (typed_by_ordinal o.last) jv (relabel_procedures as_names (as_label as_names) (typed_scope o.last) kp ps) in
+        let P : TypeEnvironment Label = procedures_bindings naming_by_label (typed_by_ordinal o.last) jv (relabel_procedures naming_by_spelling (label_from_ordinal naming_by_spelling) (typed_scope o.last) kp ps) in
         let own : TypeEnvironment Label = o.others.bound ++ o.constants.bound in
         let own_binds : Binds k kp own = opened-binds known noted k b parts.0 o in
         let first : k ≤ kp = opened-above k b in
-        let last : kp ≤ n = le-after_procedures kp ps in
-        let listed : block_bindings as_labels env j b' ≡ P ++ own =
+        let last : kp ≤ n = le-ordinal_after_procedures kp ps in
+        let listed : block_bindings naming_by_label env j b' ≡ P ++ own =
         block-listed env j b' parts.0 parts.1
-        ∙ (λ i. procedures_bindings as_labels (o.reads i) jv (relabel_procedures as_names (as_label as_names) (sym o.scoped i) kp ps) ++ opened-since known noted k b parts.0 o i) in
-        let each : Has k n all (P ++ own) = λ d l m. has d l m ∙ ap (λ e. object_bound e d) listed in
+        ∙ (λ i. procedures_bindings naming_by_label (o.reads i) jv (relabel_procedures naming_by_spelling (label_from_ordinal naming_by_spelling) (sym o.scoped i) kp ps) ++ opened-bindings_since known noted k b parts.0 o i) in
+        let each : Has k n all (P ++ own) = λ d l m. has d l m ∙ ap (λ e. bound_object e d) listed in
         let inner : Includes all (typed_by_ordinal o.last) = subst (Includes all) (sym (opened-grown known noted k b parts.0 o) ∙ o.reads)
         (holds-grown all env own k kp first st (noted-binds k noted below) own_binds (λ d l m. each d l (omega (arith, m, last)) ∙ bound-elsewhere kp n d P own p.binds (λ a z. omega (arith, a, m)))) in
         let same : parts.0 ≡ inner' = some_inverse (sym parts.1 ∙ given) in (
           subst Q (sym o.reads ∙ same) (so kp o.last o.below inner),
           subst (λ e. ProceduresHave Q e jv (block_procedures b')) same
-              (subst (λ e. e) (λ i. ProceduresHave Q (sym o.reads i) jv (relabel_procedures as_names (as_label as_names) (o.scoped i) kp ps))
+              (subst (λ e. e) (λ i. ProceduresHave Q (sym o.reads i) jv (relabel_procedures naming_by_spelling (label_from_ordinal naming_by_spelling) (o.scoped i) kp ps))
               (procedures-have known' o.last jv kp (o.others.knows o.constants.known_after o.constants.knows) o.below inner (block_statements b') ps fits
               (λ d l m. each d (omega (arith, l, first)) m ∙ bound-first k kp d P own own_binds (λ a z. omega (arith, l, z))))),
         )
 
-    procedures-have : (known : Known) (noted : TypeNoted Name) (j k : ℕ) → Knows known noted → TypedBelow k noted → Includes all (typed_by_ordinal noted) → (statements : Tree Label (maybe body)) (ps : Tree Name (items procedure))
-        → procedures_fit as_labels (typed_by_ordinal noted) j statements (relabel_procedures as_names (as_label as_names) (typed_scope noted) k ps) ≡ true
-        → Has k (after_procedures k ps) all (procedures_bindings as_labels (typed_by_ordinal noted) j (relabel_procedures as_names (as_label as_names) (typed_scope noted) k ps))
-        → ProceduresHave Q (typed_by_ordinal noted) j (relabel_procedures as_names (as_label as_names) (typed_scope noted) k ps)
+    procedures-have : (known : ConstantEnvironment) (noted : TypeNoted Name) (j k : ℕ) → Knows known noted → TypedBelow k noted → Includes all (typed_by_ordinal noted) → (statements : Tree Label (maybe body)) (ps : Tree Name (items procedure))
+        → procedures_fit naming_by_label (typed_by_ordinal noted) j statements (relabel_procedures naming_by_spelling (label_from_ordinal naming_by_spelling) (typed_scope noted) k ps) ≡ true
+        → Has k (ordinal_after_procedures k ps) all (procedures_bindings naming_by_label (typed_by_ordinal noted) j (relabel_procedures naming_by_spelling (label_from_ordinal naming_by_spelling) (typed_scope noted) k ps))
+        → ProceduresHave Q (typed_by_ordinal noted) j (relabel_procedures naming_by_spelling (label_from_ordinal naming_by_spelling) (typed_scope noted) k ps)
     procedures-have known noted j k knows below st statements end h has = so k noted below st
     procedures-have known noted j k knows below st statements (more (declares_procedure x fs b closing) rest) h has = λ qs' typed.
         let scope : Scope Name = typed_scope noted in
         let env : TypeEnvironment Label = typed_by_ordinal noted in
         let xs : List Name = formal_names (formal_sections fs) in
-        let m : ℕ = after_names (suc k) xs in
-        let q : ℕ = after_procedure (suc k) (declares_procedure x fs b closing) in
-        let n : ℕ = after_procedures q rest in
-        let fs' : Tree Label (maybe formals) = relabel_formals as_names (as_label as_names) scope (suc k) fs in
-        let b' : Tree Label block = relabel_block as_names (as_label as_names) (declare_names (suc k) xs ((x, k) ∷ scope)) m b in
-        let rest' : Tree Label (items procedure) = relabel_procedures as_names (as_label as_names) ((x, k) ∷ scope) q rest in
-        let jb : ℕ = j + formals_constructors (formal_sections fs') in
-        let jr : ℕ = j + procedure_constructors (declares_procedure (declared k) fs' b' (declared k)) in
+        let m : ℕ = ordinal_after_names (suc k) xs in
+        let q : ℕ = ordinal_after_procedure (suc k) (declares_procedure x fs b closing) in
+        let n : ℕ = ordinal_after_procedures q rest in
+        let fs' : Tree Label (maybe formals) = relabel_formals naming_by_spelling (label_from_ordinal naming_by_spelling) scope (suc k) fs in
+        let b' : Tree Label block = relabel_block naming_by_spelling (label_from_ordinal naming_by_spelling) (declare_names (suc k) xs ((x, k) ∷ scope)) m b in
+        let rest' : Tree Label (items procedure) = relabel_procedures naming_by_spelling (label_from_ordinal naming_by_spelling) ((x, k) ∷ scope) q rest in
+        let jb : ℕ = j + formals_constructor_count (formal_sections fs') in
+        let jr : ℕ = j + procedure_constructor_count (declares_procedure (declared k) fs' b' (declared k)) in
         let f : FitParts env j statements (declared k) fs' b' (declared k) rest' = procedure-parts env j statements (declared k) fs' b' (declared k) rest' h in
         let qs : List (TypedParameter Label) = f.listed in
         let e : Entered known noted k x xs qs = procedure-entered known noted j k knows below x fs qs f.typed in
-        let inside_fits = (λ i. block_fits as_labels (e.opened i) jb (relabel_block as_names (as_label as_names) (e.scoped i) m b)) ∙ f.block_right in
-        let inside_block = block-evaluates (bind_names xs no_constant ((x, no_constant) ∷ known)) e.inner jb m e.knows e.below b inside_fits in
-        let later_below : TypedBelow q e.own = TypedBelow-weaken (suc k) q e.own (le-after_procedure (suc k) (declares_procedure x fs b closing)) e.own_below in
-        let later_fits = (λ i. procedures_fit as_labels (e.headed i) jr statements (relabel_procedures as_names (as_label as_names) (e.own_scope i) q rest)) ∙ f.rest_right in
-        let later = procedures-evaluate ((x, no_constant) ∷ known) e.own jr q e.own_knows later_below statements rest later_fits in
-        let B : TypeEnvironment Label = block_bindings as_labels (typed_by_ordinal e.inner) jb (relabel_block as_names (as_label as_names) (typed_scope e.inner) m b) in
-        let top : TypeEnvironment Label = heading (declared k) qs [] in
-        let H : TypeEnvironment Label = bind_typed qs top in
-        let R : TypeEnvironment Label = procedures_bindings as_labels (typed_by_ordinal e.own) jr (relabel_procedures as_names (as_label as_names) (typed_scope e.own) q rest) in
-        let above : suc k ≤ m = le-after_names (suc k) xs in
-        let inside : m ≤ q = le-after_block m b in
-        let last : q ≤ n = le-after_procedures q rest in
+        let inside_fits = (λ i. block_fits naming_by_label (e.opened i) jb (relabel_block naming_by_spelling (label_from_ordinal naming_by_spelling) (e.scoped i) m b)) ∙ f.block_right in
+        let inside_block = block-evaluates (bind_names xs non_constant ((x, non_constant) ∷ known)) e.inner jb m e.knows e.below b inside_fits in
+        let later_below : TypedBelow q e.own = TypedBelow-weaken (suc k) q e.own (le-ordinal_after_procedure (suc k) (declares_procedure x fs b closing)) e.own_below in
+        let later_fits = (λ i. procedures_fit naming_by_label (e.headed i) jr statements (relabel_procedures naming_by_spelling (label_from_ordinal naming_by_spelling) (e.own_scope i) q rest)) ∙ f.rest_right in
+        let later = procedures-evaluate ((x, non_constant) ∷ known) e.own jr q e.own_knows later_below statements rest later_fits in
+        let B : TypeEnvironment Label = block_bindings naming_by_label (typed_by_ordinal e.inner) jb (relabel_block naming_by_spelling (label_from_ordinal naming_by_spelling) (typed_scope e.inner) m b) in
+        let top : TypeEnvironment Label = bind_procedure (declared k) qs [] in
+        let H : TypeEnvironment Label = bind_typed_parameters qs top in
+        let R : TypeEnvironment Label = procedures_bindings naming_by_label (typed_by_ordinal e.own) jr (relabel_procedures naming_by_spelling (label_from_ordinal naming_by_spelling) (typed_scope e.own) q rest) in
+        let above : suc k ≤ m = le-ordinal_after_names (suc k) xs in
+        let inside : m ≤ q = le-ordinal_after_block m b in
+        let last : q ≤ n = le-ordinal_after_procedures q rest in
         let one_binds : Binds k q (B ++ H) = binds-append k q B H (binds-wider m q k q B (omega (arith, above)) (le_refl q) inside_block.binds) (binds-wider k m k q H (le_refl k) inside e.binds) in
-        let listed : procedures_bindings as_labels env j (more (declares_procedure (declared k) fs' b' (declared k)) rest') ≡ R ++ (B ++ H) =
+        let listed : procedures_bindings naming_by_label env j (more (declares_procedure (declared k) fs' b' (declared k)) rest') ≡ R ++ (B ++ H) =
         procedures-listed env j statements (declared k) fs' b' (declared k) rest' f
-        ∙ (λ i. procedures_bindings as_labels (sym e.headed i) jr (relabel_procedures as_names (as_label as_names) (sym e.own_scope i) q rest) ++ (block_bindings as_labels (sym e.opened i) jb (relabel_block as_names (as_label as_names) (sym e.scoped i) m b) ++ H)) in
-        let each : Has k n all (R ++ (B ++ H)) = λ d l u. has d l u ∙ ap (λ z. object_bound z d) listed in
+        ∙ (λ i. procedures_bindings naming_by_label (sym e.headed i) jr (relabel_procedures naming_by_spelling (label_from_ordinal naming_by_spelling) (sym e.own_scope i) q rest) ++ (block_bindings naming_by_label (sym e.opened i) jb (relabel_block naming_by_spelling (label_from_ordinal naming_by_spelling) (sym e.scoped i) m b) ++ H)) in
+        let each : Has k n all (R ++ (B ++ H)) = λ d l u. has d l u ∙ ap (λ z. bound_object z d) listed in
         let each_H : Has k m all H = λ d l u.
         each d l (omega (arith, u, inside, last)) ∙ bound-elsewhere q n d R (B ++ H) later.binds (λ a z. omega (arith, a, u, inside)) ∙ bound-elsewhere m q d B H inside_block.binds (λ a z. omega (arith, a, u)) in
         let each_top : Has k (suc k) all top = λ d l u.
-        each_H d l (omega (arith, u, above)) ∙ ap (λ z. object_bound z d) (bind_typed-append qs [] top) ∙ bound-elsewhere (suc k) m d (bind_typed qs []) top e.parameters_bind (λ a z. omega (arith, a, u)) in
-        let inner : Includes all (typed_by_ordinal e.inner) = subst (Includes all) (sym (bind_typed-append qs top env) ∙ sym e.opened)
+        each_H d l (omega (arith, u, above)) ∙ ap (λ z. bound_object z d) (bind_typed_parameters-append qs [] top) ∙ bound-elsewhere (suc k) m d (bind_typed_parameters qs []) top e.parameters_bind (λ a z. omega (arith, a, u)) in
+        let inner : Includes all (typed_by_ordinal e.inner) = subst (Includes all) (sym (bind_typed_parameters-append qs top env) ∙ sym e.opened)
         (holds-grown all env H k m (omega (arith, above)) st (noted-binds k noted below) e.binds each_H) in
         let following : Includes all (typed_by_ordinal e.own) = subst (Includes all) (sym e.headed)
         (holds-grown all env top k (suc k) (omega arith) st (noted-binds k noted below) ((k, refl, le_refl k, le_refl (suc k)), tt) each_top) in
         let same : qs ≡ qs' = some_inverse (sym f.typed ∙ typed) in
-        subst (λ ps. Q (bind_typed ps (heading (declared k) ps env)) × BlockHas Q (bind_typed ps (heading (declared k) ps env)) jb b' × ProceduresHave Q (heading (declared k) ps env) jr rest') same (
+        subst (λ ps. Q (bind_typed_parameters ps (bind_procedure (declared k) ps env)) × BlockHas Q (bind_typed_parameters ps (bind_procedure (declared k) ps env)) jb b' × ProceduresHave Q (bind_procedure (declared k) ps env) jr rest') same (
           subst Q e.opened (so m e.inner e.below inner),
-          subst (λ z. z) (λ i. BlockHas Q (e.opened i) jb (relabel_block as_names (as_label as_names) (e.scoped i) m b))
-              (block-has (bind_names xs no_constant ((x, no_constant) ∷ known)) e.inner jb m e.knows e.below inner b inside_fits
+          subst (λ z. z) (λ i. BlockHas Q (e.opened i) jb (relabel_block naming_by_spelling (label_from_ordinal naming_by_spelling) (e.scoped i) m b))
+              (block-has (bind_names xs non_constant ((x, non_constant) ∷ known)) e.inner jb m e.knows e.below inner b inside_fits
               (λ d l u. each d (omega (arith, l, above)) (omega (arith, u, last)) ∙ bound-elsewhere q n d R (B ++ H) later.binds (λ a z. omega (arith, a, u)) ∙ bound-first k m d B H e.binds (λ a z. omega (arith, l, z)))),
-          subst (λ z. z) (λ i. ProceduresHave Q (e.headed i) jr (relabel_procedures as_names (as_label as_names) (e.own_scope i) q rest))
-              (procedures-have ((x, no_constant) ∷ known) e.own jr q e.own_knows later_below following statements rest later_fits
+          subst (λ z. z) (λ i. ProceduresHave Q (e.headed i) jr (relabel_procedures naming_by_spelling (label_from_ordinal naming_by_spelling) (e.own_scope i) q rest))
+              (procedures-have ((x, non_constant) ∷ known) e.own jr q e.own_knows later_below following statements rest later_fits
               (λ d l u. each d (omega (arith, l, inside, above)) u ∙ bound-first k q d R (B ++ H) one_binds (λ a z. omega (arith, l, z)))),
         )
 
 pub module-has : (Q : TypeEnvironment Label → Type 0) (m : Tree Name module_text)
-    → ((n : ℕ) (noted : TypeNoted Name) → TypedBelow n noted → Includes (module_bindings as_labels (numbered m)) (typed_by_ordinal noted) → Q (typed_by_ordinal noted))
-    → WellTyped m → BlockHas Q (outermost as_labels) 0 (module_block (numbered m))
+    → ((n : ℕ) (noted : TypeNoted Name) → TypedBelow n noted → Includes (module_bindings naming_by_label (numbered m)) (typed_by_ordinal noted) → Q (typed_by_ordinal noted))
+    → WellTyped m → BlockHas Q (outermost naming_by_label) 0 (module_block (numbered m))
 unfolding WellTyped fits_over all_known
 module-has Q (is_module x b closing) so well =
-    let h : fits_over as_labels (numbered (is_module x b closing)) ≡ true = sym (fits_by_ordinal-holds (is_module x b closing)) ∙ well.1 in
-    let noted : TypeNoted Name = typed_outermost as_names in
-    let b' : Tree Label block = relabel_block as_names (as_label as_names) (typed_scope noted) 7 b in
-    let B : TypeEnvironment Label = block_bindings as_labels (outermost as_labels) 0 b' in
+    let h : fits_over naming_by_label (numbered (is_module x b closing)) ≡ true = sym (numbering_keeps_type_check-holds (is_module x b closing)) ∙ well.1 in
+    let noted : TypeNoted Name = typed_outermost naming_by_spelling in
+    let b' : Tree Label block = relabel_block naming_by_spelling (label_from_ordinal naming_by_spelling) (typed_scope noted) 7 b in
+    let B : TypeEnvironment Label = block_bindings naming_by_label (outermost naming_by_label) 0 b' in
     let w = block-evaluates (all_known noted) noted 0 7 (knows-all noted) predeclared-below b h in
-    block-has (B ++ outermost as_labels) Q so (all_known noted) noted 0 7 (knows-all noted) predeclared-below
+    block-has (B ++ outermost naming_by_label) Q so (all_known noted) noted 0 7 (knows-all noted) predeclared-below
     (λ d o e. first d o e (nat_lt d 7) refl w.binds) b h
-    (λ d l m. bound-first 0 7 d B (outermost as_labels) outermost-binds (λ a z. omega (arith, l, z)))
+    (λ d l m. bound-first 0 7 d B (outermost naming_by_label) outermost-binds (λ a z. omega (arith, l, z)))
   where
-    first : (d : ℕ) (o : Object Shape Signature) → object_bound (outermost as_labels) d ≡ Some o → (t : Bool) → nat_lt d 7 ≡ t
-        → Binds 7 (after_block 7 b) (block_bindings as_labels (outermost as_labels) 0 (relabel_block as_names (as_label as_names) (typed_scope (typed_outermost as_names)) 7 b))
-        → object_bound (block_bindings as_labels (outermost as_labels) 0 (relabel_block as_names (as_label as_names) (typed_scope (typed_outermost as_names)) 7 b) ++ outermost as_labels) d ≡ Some o
-    first d o e true t binds = bound-elsewhere 7 (after_block 7 b) d (block_bindings as_labels (outermost as_labels) 0 (relabel_block as_names (as_label as_names) (typed_scope (typed_outermost as_names)) 7 b)) (outermost as_labels) binds (λ a z. omega (arith, a, ltb-true d 7 t)) ∙ e
-    first d o e false t binds = absurd (nothing o (sym (bound-none 0 7 d (outermost as_labels) outermost-binds (λ a z. omega (arith, z, ltb-false d 7 t))) ∙ e))
+    first : (d : ℕ) (o : Object Shape Signature) → bound_object (outermost naming_by_label) d ≡ Some o → (t : Bool) → nat_lt d 7 ≡ t
+        → Binds 7 (ordinal_after_block 7 b) (block_bindings naming_by_label (outermost naming_by_label) 0 (relabel_block naming_by_spelling (label_from_ordinal naming_by_spelling) (typed_scope (typed_outermost naming_by_spelling)) 7 b))
+        → bound_object (block_bindings naming_by_label (outermost naming_by_label) 0 (relabel_block naming_by_spelling (label_from_ordinal naming_by_spelling) (typed_scope (typed_outermost naming_by_spelling)) 7 b) ++ outermost naming_by_label) d ≡ Some o
+    first d o e true t binds = bound-elsewhere 7 (ordinal_after_block 7 b) d (block_bindings naming_by_label (outermost naming_by_label) 0 (relabel_block naming_by_spelling (label_from_ordinal naming_by_spelling) (typed_scope (typed_outermost naming_by_spelling)) 7 b)) (outermost naming_by_label) binds (λ a z. omega (arith, a, ltb-true d 7 t)) ∙ e
+    first d o e false t binds = absurd (nothing o (sym (bound-none 0 7 d (outermost naming_by_label) outermost-binds (λ a z. omega (arith, z, ltb-false d 7 t))) ∙ e))
 
 -- If `Q` holds wherever a block is checked, it holds for the environment of each body.
 
-for_some-all : {A B : Type 0} (P : B → Type 0) (o : Option A) (list : A → List B) → ((a : A) → o ≡ Some a → All P (list a)) → All P (for_some o list)
-for_some-all P None list h = All-nil P
-for_some-all P (Some a) list h = h a refl
+list_if_some-all : {A B : Type 0} (P : B → Type 0) (o : Option A) (list : A → List B) → ((a : A) → o ≡ Some a → All P (list a)) → All P (list_if_some o list)
+list_if_some-all P None list h = All-nil P
+list_if_some-all P (Some a) list h = h a refl
 
 module _ (Q : TypeEnvironment Label → Type 0) where
   abbrev At : BodyAt Label → Type 0
@@ -181,25 +181,25 @@ module _ (Q : TypeEnvironment Label → Type 0) where
   mutual
     unfolding block_bodies
 
-    block_bodies-have : (env : TypeEnvironment Label) (j : ℕ) (b : Tree Label block) → BlockHas Q env j b → All At (block_bodies as_labels env j b)
+    block_bodies-have : (env : TypeEnvironment Label) (j : ℕ) (b : Tree Label block) → BlockHas Q env j b → All At (block_bodies naming_by_label env j b)
     block_bodies-have env j (has_body (declares cs ts vs ps) statements) h =
         let b : Tree Label block = has_body (declares cs ts vs ps) statements in
-        for_some-all At (declare_block as_labels env j b) (λ inner. procedures_bodies as_labels inner (after_variables j b) statements ps)
-        (λ inner e. procedures_bodies-have inner (after_variables j b) statements ps (h inner e).1)
+        list_if_some-all At (declare_block naming_by_label env j b) (λ inner. procedures_bodies naming_by_label inner (constructor_after_variables j b) statements ps)
+        (λ inner e. procedures_bodies-have inner (constructor_after_variables j b) statements ps (h inner e).1)
 
-    procedures_bodies-have : (env : TypeEnvironment Label) (j : ℕ) (statements : Tree Label (maybe body)) (ps : Tree Label (items procedure)) → ProceduresHave Q env j ps → All At (procedures_bodies as_labels env j statements ps)
+    procedures_bodies-have : (env : TypeEnvironment Label) (j : ℕ) (statements : Tree Label (maybe body)) (ps : Tree Label (items procedure)) → ProceduresHave Q env j ps → All At (procedures_bodies naming_by_label env j statements ps)
     procedures_bodies-have env j statements end h = All-cons At (record { environment = env; statements = statements }) [] h (All-nil At)
     procedures_bodies-have env j statements (more p rest) h =
-        for_some-all At (typed_parameters as_labels env j (procedure_formals p))
-        (λ ps. procedure_bodies as_labels (bind_typed ps (heading (procedure_name p) ps env)) j p ++ procedures_bodies as_labels (heading (procedure_name p) ps env) (j + procedure_constructors p) statements rest)
-        (λ ps e. All-append At (procedure_bodies as_labels (bind_typed ps (heading (procedure_name p) ps env)) j p) (procedures_bodies as_labels (heading (procedure_name p) ps env) (j + procedure_constructors p) statements rest)
-        (procedure_bodies-have (bind_typed ps (heading (procedure_name p) ps env)) j p (h ps e).1)
-        (procedures_bodies-have (heading (procedure_name p) ps env) (j + procedure_constructors p) statements rest (h ps e).2))
+        list_if_some-all At (typed_parameters naming_by_label env j (procedure_formals p))
+        (λ ps. procedure_bodies naming_by_label (bind_typed_parameters ps (bind_procedure (procedure_name p) ps env)) j p ++ procedures_bodies naming_by_label (bind_procedure (procedure_name p) ps env) (j + procedure_constructor_count p) statements rest)
+        (λ ps e. All-append At (procedure_bodies naming_by_label (bind_typed_parameters ps (bind_procedure (procedure_name p) ps env)) j p) (procedures_bodies naming_by_label (bind_procedure (procedure_name p) ps env) (j + procedure_constructor_count p) statements rest)
+        (procedure_bodies-have (bind_typed_parameters ps (bind_procedure (procedure_name p) ps env)) j p (h ps e).1)
+        (procedures_bodies-have (bind_procedure (procedure_name p) ps env) (j + procedure_constructor_count p) statements rest (h ps e).2))
 
-    procedure_bodies-have : (env : TypeEnvironment Label) (j : ℕ) (p : Tree Label (item procedure)) → ProcedureHas Q env j p → All At (procedure_bodies as_labels env j p)
-    procedure_bodies-have env j (declares_procedure x fs b closing) h = block_bodies-have env (j + formals_constructors (formal_sections fs)) b h
+    procedure_bodies-have : (env : TypeEnvironment Label) (j : ℕ) (p : Tree Label (item procedure)) → ProcedureHas Q env j p → All At (procedure_bodies naming_by_label env j p)
+    procedure_bodies-have env j (declares_procedure x fs b closing) h = block_bodies-have env (j + formals_constructor_count (formal_sections fs)) b h
 
-pub names_are_declared-holds : NamesAreDeclared
-names_are_declared-holds m well =
-    block_bodies-have (Includes (module_bindings as_labels (numbered m))) (outermost as_labels) 0 (module_block (numbered m))
-    (module-has (Includes (module_bindings as_labels (numbered m))) m (λ n noted below st. st) well)
+pub bindings_match_declarations-holds : BindingsMatchDeclarations
+bindings_match_declarations-holds m well =
+    block_bodies-have (Includes (module_bindings naming_by_label (numbered m))) (outermost naming_by_label) 0 (module_block (numbered m))
+    (module-has (Includes (module_bindings naming_by_label (numbered m))) m (λ n noted below st. st) well)

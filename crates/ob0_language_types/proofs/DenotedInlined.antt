@@ -2,75 +2,75 @@
 -- unchanged.
 use Rattle.std.proofs.Common.{List, Some, [], ap, length, map, option_and_then, option_map, refl, suc, ℕ, ◌+◌, ◌∙◌, ◌∷◌, ◌≡◌}
 use Rattle.ob0_tree.specs.Tree.{Tree, array_type, end, expression, factor, fields, further_fields, items, more, named_type, no_fields, occurrences, record_type, some_fields, then_fields, written_type}
-use Rattle.ob0_language_names.specs.Inlining.{Uses, inline_in}
+use Rattle.ob0_language_names.specs.Inlining.{OccurrenceSet, inline_in}
 use Rattle.ob0_language_names.specs.Names.{Name}
-use Rattle.ob0_language_names.specs.Parts.{names_listed}
+use Rattle.ob0_language_names.specs.Parts.{names_in_list}
 use Rattle.ob0_language_values.specs.Values.{FieldShapes, Place, Shape, Value, array_shape, gives, record_shape}
 use Rattle.ob0_language_types.specs.Expressions.{Meanings, a_constant, evaluate_factor}
-use Rattle.ob0_language_types.specs.Laws.{UsesAre}
-use Rattle.ob0_language_types.specs.Typing.{array_length, constant_of, constant_value, constants_only, constructors, denoted, denoted_group, denoted_groups, given_value, group_constructors, groups_constructors, type_of_factor, value_type, with_fields, within_limits, ◌>>=◌}
+use Rattle.ob0_language_types.specs.Laws.{EachUseHas}
+use Rattle.ob0_language_types.specs.Typing.{array_length, constant_of, constant_value, constant_meanings, constructor_count, denoted, denoted_group, denoted_groups, outcome_value, group_constructor_count, groups_constructor_count, type_of_factor, value_type, prepend_fields, check_limits, ◌>>=◌}
 use Rattle.ob0_language_types.proofs.Inlined.{evaluate-inlined, uses-split}
 use Rattle.ob0_language_types.proofs.InlinedTypes.{type_of-inlined}
 
-pub uses-map : (uses : Uses) (P Q : Name → Type 0) → ((x : Name) → P x → Q x) → (k : ℕ) (xs : List Name) → UsesAre uses P k xs → UsesAre uses Q k xs
+pub uses-map : (uses : OccurrenceSet) (P Q : Name → Type 0) → ((x : Name) → P x → Q x) → (k : ℕ) (xs : List Name) → EachUseHas uses P k xs → EachUseHas uses Q k xs
 uses-map uses P Q f k [] u = tt
 uses-map uses P Q f k (x ∷ xs) u = (λ e. f x (u.0 e), uses-map uses P Q f (suc k) xs u.1)
 
 -- holds if a literal has the constant's type and value in constant expressions
 pub record ConstantWritten {V P : Type 0} (meaning : Meanings Name V P) (v : Tree Name factor) (w : Value) : Type 0 where
-  pub typed : type_of_factor {P = Unit {0}} (constants_only meaning) v ≡ value_type w
-  pub has_value : evaluate_factor {P = Unit {0}} (constants_only meaning) [] v ≡ gives w
+  pub typed : type_of_factor {P = Unit {0}} (constant_meanings meaning) v ≡ value_type w
+  pub has_value : evaluate_factor {P = Unit {0}} (constant_meanings meaning) [] v ≡ gives w
 
 abbrev pub NamesConstant : {V P : Type 0} → Meanings Name V P → Value → Name → Type 0
 NamesConstant meaning w x = meaning.object_for x ≡ Some (a_constant w)
 
-pub constant_value-written : {V P : Type 0} (meaning : Meanings Name V P) (uses : Uses) (v : Tree Name factor) (w : Value) → ConstantWritten meaning v w → (k : ℕ) (e : Tree Name expression) → UsesAre uses (NamesConstant meaning w) k (occurrences e)
+pub constant_value-written : {V P : Type 0} (meaning : Meanings Name V P) (uses : OccurrenceSet) (v : Tree Name factor) (w : Value) → ConstantWritten meaning v w → (k : ℕ) (e : Tree Name expression) → EachUseHas uses (NamesConstant meaning w) k (occurrences e)
     → constant_value meaning (inline_in uses v k e) ≡ constant_value meaning e
 unfolding constant_value
 constant_value-written {V} {P} meaning uses v w h k e u =
-    let u₁ : UsesAre uses (NamesConstant {V = Shape} {P = Unit {0}} (constants_only meaning) w) k (occurrences e) = uses-map uses (NamesConstant meaning w) (NamesConstant (constants_only meaning) w) (λ x e. ap (λ o. option_map a_constant (constant_of o)) e) k (occurrences e) u in
-    let u₂ : UsesAre uses (NamesConstant {V = Place} {P = Unit {0}} (constants_only meaning) w) k (occurrences e) = uses-map uses (NamesConstant meaning w) (NamesConstant (constants_only meaning) w) (λ x e. ap (λ o. option_map a_constant (constant_of o)) e) k (occurrences e) u in
-    λ i. option_and_then (λ s. given_value (evaluate-inlined {P = Unit {0}} (constants_only meaning) [] uses v w record { has_value = h.has_value } k e u₂ i))
-    (type_of-inlined {P = Unit {0}} (constants_only meaning) uses v w record { typed = h.typed } k e u₁ i)
+    let u₁ : EachUseHas uses (NamesConstant {V = Shape} {P = Unit {0}} (constant_meanings meaning) w) k (occurrences e) = uses-map uses (NamesConstant meaning w) (NamesConstant (constant_meanings meaning) w) (λ x e. ap (λ o. option_map a_constant (constant_of o)) e) k (occurrences e) u in
+    let u₂ : EachUseHas uses (NamesConstant {V = Place} {P = Unit {0}} (constant_meanings meaning) w) k (occurrences e) = uses-map uses (NamesConstant meaning w) (NamesConstant (constant_meanings meaning) w) (λ x e. ap (λ o. option_map a_constant (constant_of o)) e) k (occurrences e) u in
+    λ i. option_and_then (λ s. outcome_value (evaluate-inlined {P = Unit {0}} (constant_meanings meaning) [] uses v w record { has_value = h.has_value } k e u₂ i))
+    (type_of-inlined {P = Unit {0}} (constant_meanings meaning) uses v w record { typed = h.typed } k e u₁ i)
 
 mutual
-  pub constructors-inlined : (uses : Uses) (v : Tree Name factor) (k : ℕ) (t : Tree Name written_type) → constructors (inline_in uses v k t) ≡ constructors t
-  constructors-inlined uses v k (named_type x) = refl
-  constructors-inlined uses v k (array_type e t) = λ i. suc (constructors-inlined uses v (k + length (occurrences e)) t i)
-  constructors-inlined uses v k (record_type g rest) = λ i. suc (group_constructors-inlined uses v k g i + groups_constructors-inlined uses v (k + length (occurrences g)) rest i)
+  pub constructor_count-inlined : (uses : OccurrenceSet) (v : Tree Name factor) (k : ℕ) (t : Tree Name written_type) → constructor_count (inline_in uses v k t) ≡ constructor_count t
+  constructor_count-inlined uses v k (named_type x) = refl
+  constructor_count-inlined uses v k (array_type e t) = λ i. suc (constructor_count-inlined uses v (k + length (occurrences e)) t i)
+  constructor_count-inlined uses v k (record_type g rest) = λ i. suc (group_constructor_count-inlined uses v k g i + groups_constructor_count-inlined uses v (k + length (occurrences g)) rest i)
 
-  pub group_constructors-inlined : (uses : Uses) (v : Tree Name factor) (k : ℕ) (g : Tree Name fields) → group_constructors (inline_in uses v k g) ≡ group_constructors g
-  group_constructors-inlined uses v k no_fields = refl
-  group_constructors-inlined uses v k (some_fields ns t) = constructors-inlined uses v k t
+  pub group_constructor_count-inlined : (uses : OccurrenceSet) (v : Tree Name factor) (k : ℕ) (g : Tree Name fields) → group_constructor_count (inline_in uses v k g) ≡ group_constructor_count g
+  group_constructor_count-inlined uses v k no_fields = refl
+  group_constructor_count-inlined uses v k (some_fields ns t) = constructor_count-inlined uses v k t
 
-  pub groups_constructors-inlined : (uses : Uses) (v : Tree Name factor) (k : ℕ) (gs : Tree Name (items further_fields)) → groups_constructors (inline_in uses v k gs) ≡ groups_constructors gs
-  groups_constructors-inlined uses v k end = refl
-  groups_constructors-inlined uses v k (more (then_fields g) rest) = λ i. group_constructors-inlined uses v k g i + groups_constructors-inlined uses v (k + length (occurrences g)) rest i
+  pub groups_constructor_count-inlined : (uses : OccurrenceSet) (v : Tree Name factor) (k : ℕ) (gs : Tree Name (items further_fields)) → groups_constructor_count (inline_in uses v k gs) ≡ groups_constructor_count gs
+  groups_constructor_count-inlined uses v k end = refl
+  groups_constructor_count-inlined uses v k (more (then_fields g) rest) = λ i. group_constructor_count-inlined uses v k g i + groups_constructor_count-inlined uses v (k + length (occurrences g)) rest i
 
 mutual
   unfolding denoted
 
-  pub denoted-written : {V P : Type 0} (meaning : Meanings Name V P) (uses : Uses) (v : Tree Name factor) (w : Value) → ConstantWritten meaning v w → (k j : ℕ) (t : Tree Name written_type) → UsesAre uses (NamesConstant meaning w) k (occurrences t)
+  pub denoted-written : {V P : Type 0} (meaning : Meanings Name V P) (uses : OccurrenceSet) (v : Tree Name factor) (w : Value) → ConstantWritten meaning v w → (k j : ℕ) (t : Tree Name written_type) → EachUseHas uses (NamesConstant meaning w) k (occurrences t)
       → denoted meaning j (inline_in uses v k t) ≡ denoted meaning j t
   denoted-written meaning uses v w h k j (named_type x) u = refl
   denoted-written meaning uses v w h k j (array_type e t) u =
       let s = uses-split uses (NamesConstant meaning w) k (occurrences e) (occurrences t) u in
-      λ i. constant_value-written meaning uses v w h k e s.0 i >>= (λ z. array_length z >>= (λ n. denoted-written meaning uses v w h (k + length (occurrences e)) (suc j) t s.1 i >>= (λ s. within_limits (array_shape j n s))))
+      λ i. constant_value-written meaning uses v w h k e s.0 i >>= (λ z. array_length z >>= (λ n. denoted-written meaning uses v w h (k + length (occurrences e)) (suc j) t s.1 i >>= (λ s. check_limits (array_shape j n s))))
   denoted-written meaning uses v w h k j (record_type g rest) u =
       let s = uses-split uses (NamesConstant meaning w) k (occurrences g) (occurrences rest) u in
-      λ i. ((λ m. denoted_groups meaning (suc j + group_constructors-inlined uses v k g m) (inline_in uses v (k + length (occurrences g)) rest)) ∙ denoted_groups-written meaning uses v w h (k + length (occurrences g)) (suc j + group_constructors g) rest s.1) i
-      >>= (λ later. denoted_group-written meaning uses v w h k (suc j) later g s.0 i >>= (λ fs. within_limits (record_shape j fs)))
+      λ i. ((λ m. denoted_groups meaning (suc j + group_constructor_count-inlined uses v k g m) (inline_in uses v (k + length (occurrences g)) rest)) ∙ denoted_groups-written meaning uses v w h (k + length (occurrences g)) (suc j + group_constructor_count g) rest s.1) i
+      >>= (λ later. denoted_group-written meaning uses v w h k (suc j) later g s.0 i >>= (λ fs. check_limits (record_shape j fs)))
 
-  pub denoted_group-written : {V P : Type 0} (meaning : Meanings Name V P) (uses : Uses) (v : Tree Name factor) (w : Value) → ConstantWritten meaning v w → (k j : ℕ) (later : FieldShapes) (g : Tree Name fields) → UsesAre uses (NamesConstant meaning w) k (occurrences g)
+  pub denoted_group-written : {V P : Type 0} (meaning : Meanings Name V P) (uses : OccurrenceSet) (v : Tree Name factor) (w : Value) → ConstantWritten meaning v w → (k j : ℕ) (later : FieldShapes) (g : Tree Name fields) → EachUseHas uses (NamesConstant meaning w) k (occurrences g)
       → denoted_group meaning j later (inline_in uses v k g) ≡ denoted_group meaning j later g
   denoted_group-written meaning uses v w h k j later no_fields u = refl
   denoted_group-written meaning uses v w h k j later (some_fields ns t) u = λ i.
-      denoted-written meaning uses v w h k j t u i >>= (λ s. Some (with_fields (map meaning.written (names_listed ns)) s later))
+      denoted-written meaning uses v w h k j t u i >>= (λ s. Some (prepend_fields (map meaning.written (names_in_list ns)) s later))
 
-  pub denoted_groups-written : {V P : Type 0} (meaning : Meanings Name V P) (uses : Uses) (v : Tree Name factor) (w : Value) → ConstantWritten meaning v w → (k j : ℕ) (gs : Tree Name (items further_fields)) → UsesAre uses (NamesConstant meaning w) k (occurrences gs)
+  pub denoted_groups-written : {V P : Type 0} (meaning : Meanings Name V P) (uses : OccurrenceSet) (v : Tree Name factor) (w : Value) → ConstantWritten meaning v w → (k j : ℕ) (gs : Tree Name (items further_fields)) → EachUseHas uses (NamesConstant meaning w) k (occurrences gs)
       → denoted_groups meaning j (inline_in uses v k gs) ≡ denoted_groups meaning j gs
   denoted_groups-written meaning uses v w h k j end u = refl
   denoted_groups-written meaning uses v w h k j (more (then_fields g) rest) u =
       let s = uses-split uses (NamesConstant meaning w) k (occurrences g) (occurrences rest) u in
-      λ i. ((λ m. denoted_groups meaning (j + group_constructors-inlined uses v k g m) (inline_in uses v (k + length (occurrences g)) rest)) ∙ denoted_groups-written meaning uses v w h (k + length (occurrences g)) (j + group_constructors g) rest s.1) i
+      λ i. ((λ m. denoted_groups meaning (j + group_constructor_count-inlined uses v k g m) (inline_in uses v (k + length (occurrences g)) rest)) ∙ denoted_groups-written meaning uses v w h (k + length (occurrences g)) (j + group_constructor_count g) rest s.1) i
       >>= (λ later. denoted_group-written meaning uses v w h k j later g s.0 i)

@@ -1,25 +1,25 @@
 -- An edited module is well-typed, because the facts that are known about the edit suffice for each part of the module.
 use Rattle.std.proofs.Common.{IsTrue, List, None, Option, Some, [], add-zero, ap, arith, codes, false, if◌then◌else◌, le_refl, lit<, ltb-false, nat_lt, option_and_then, refl, slice_get, subst, suc, sym, true, true≢false, zero-add, ℕ, ◌+◌, ◌<◌, ◌∙◌, ◌∷◌, ◌≡◌, ◌≢◌, ◌≤◌}
 use Rattle.ob0_tree.specs.Tree.{Tree, factor, is_module, module_text, occurrences}
-use Rattle.ob0_language_names.specs.Inlining.{Uses, inline_in}
+use Rattle.ob0_language_names.specs.Inlining.{OccurrenceSet, inline_in}
 use Rattle.ob0_language_names.specs.Occurrences.{binds, label_ordinal}
 use Rattle.ob0_language_names.specs.Parts.{module_block}
-use Rattle.ob0_language_names.specs.SeenNames.{looking_for}
+use Rattle.ob0_language_names.specs.OccurrenceLookup.{lookup_naming}
 use Rattle.ob0_language_names.proofs.EditedTrees.{Edit, edited, edited_block, leaf-kept, leaving_out, left-module, writing, written-module}
 use Rattle.ob0_language_names.proofs.Peeling.{both}
 use Rattle.ob0_language_names.proofs.Places.{AllAt, Both, Each, EachBlock, each-block}
 use Rattle.ob0_language_values.specs.Values.{Value, boolean_shape, elements, integer_shape, members, number, truth}
-use Rattle.ob0_language_types.specs.EditLaws.{AreUsesOf, InliningKeepsWellTyped, IsConstantWritten, IsPredeclaredTruth, LeavingOutKeepsWellTyped}
+use Rattle.ob0_language_types.specs.EditLaws.{AreUsesOf, InliningKeepsWellTyped, IsConstantWritten, MeansPredeclaredTruth, RemovingUnusedKeepsWellTyped}
 use Rattle.ob0_language_types.specs.Expressions.{Object, a_constant, a_standard, a_type, reads, writes, writes_line}
 use Rattle.ob0_language_types.specs.WellTyped.{WellTyped, block_fits, fits_over}
 use Rattle.ob0_language_types.proofs.EditedTypes.{Checked, anything, as_signed, block_fits-edited}
 use Rattle.ob0_language_types.proofs.Leaves.{AllStay, Here, Literal, Writes, shown}
 use Rattle.ob0_language_types.proofs.Literals.{some_inverse}
 use Rattle.ob0_language_types.proofs.Marks.{IsRight, Marks, Sound, not-left, object_as, read, read_edited}
-use Rattle.ob0_language_names.specs.Names.{Label, Name, Naming, as_names, predeclared_name, same_name}
-use Rattle.ob0_language_names.specs.Scopes.{Scope, as_label, label_of, ordinal_of, predeclared_scope, relabelled, same_ordinal}
+use Rattle.ob0_language_names.specs.Names.{Label, Name, Naming, naming_by_spelling, predeclared_name, same_name}
+use Rattle.ob0_language_names.specs.Scopes.{Scope, label_from_ordinal, label_of, ordinal_of, predeclared_scope, relabel_module, same_ordinal}
 use Rattle.ob0_language_names.proofs.EditedOnce.{declared_once-edited}
-use Rattle.ob0_language_types.specs.ConstantValues.{predeclared_known, value_in_block, value_of_constant}
+use Rattle.ob0_language_types.specs.ConstantValues.{predeclared_constants, value_in_block, value_of_constant}
 
 -- the marks of the outermost block, which has the predeclared names
 abbrev pub marked_outermost : {V P : Type 0} → Marks V P
@@ -75,14 +75,14 @@ read_edited-below edit w X q n (b ∷ marks) s h =
 -- the facts that suffice for an edited module to be well-typed
 pub record IsFitted (edit : Edit) (w : Value) (m : Tree Name module_text) : Type 0 where
   pub literal : Literal edit w
-  pub here : EachBlock (Here edit w) 0 (predeclared_scope as_names) 7 (module_block m)
-  pub has_value : value_in_block predeclared_known edit.constant 7 (module_block m) ≡ Some w
+  pub here : EachBlock (Here edit w) 0 (predeclared_scope naming_by_spelling) 7 (module_block m)
+  pub has_value : value_in_block predeclared_constants edit.constant 7 (module_block m) ≡ Some w
 
-pub fits-edited : (edit : Edit) (w : Value) (m : Tree Name module_text) → IsFitted edit w m → fits_over as_names (edited edit m) ≡ fits_over as_names m
+pub fits-edited : (edit : Edit) (w : Value) (m : Tree Name module_text) → IsFitted edit w m → fits_over naming_by_spelling (edited edit m) ≡ fits_over naming_by_spelling m
 unfolding fits_over
 fits-edited edit w (is_module x b closing) h =
     let sound : Checked edit w 7 marked_outermost = outermost-sound edit w anything h.literal.ordinal in
-    ap (λ env. block_fits as_names env 0 (edited_block edit 0 7 b)) (sym (read_edited-below edit w anything as_signed 7 marked_outermost sound h.literal.ordinal))
+    ap (λ env. block_fits naming_by_spelling env 0 (edited_block edit 0 7 b)) (sym (read_edited-below edit w anything as_signed 7 marked_outermost sound h.literal.ordinal))
     ∙ block_fits-edited edit w h.literal 0 0 7 marked_outermost sound (le_refl 7) b h.here (λ l m. h.has_value)
 
 pub well_typed-edited : (edit : Edit) (w : Value) (m : Tree Name module_text) → IsFitted edit w m → WellTyped m → WellTyped (edited edit m)
@@ -95,22 +95,22 @@ pub all-at : (R : ℕ → Label → Type 0) (j : ℕ) (ls : List Label) → ((i 
 all-at R j [] h = tt
 all-at R j (l ∷ ls) h = (subst (λ n. R n l) (add-zero j) (h 0 l refl), all-at R (suc j) ls (λ i m e. subst (λ n. R n m) (omega arith) (h (suc i) m e)))
 
-pub label_ordinal-of : (naming : Naming Name) (scope : Scope Name) (x : Name) → label_ordinal (label_of naming (as_label naming) scope x) ≡ ordinal_of naming scope x
+pub label_ordinal-of : (naming : Naming Name) (scope : Scope Name) (x : Name) → label_ordinal (label_of naming (label_from_ordinal naming) scope x) ≡ ordinal_of naming scope x
 label_ordinal-of naming scope x = go (ordinal_of naming scope x)
   where
-    go : (o : Option ℕ) → label_ordinal (as_label naming o x) ≡ o
+    go : (o : Option ℕ) → label_ordinal (label_from_ordinal naming o x) ≡ o
     go None = refl
     go (Some k) = refl
 
-pub seven-or-less : (m : Tree Name module_text) (d : ℕ) (w : Value) → value_of_constant m d ≡ Some w → (7 ≤ d) × (value_in_block predeclared_known d 7 (module_block m) ≡ Some w)
+pub seven-or-less : (m : Tree Name module_text) (d : ℕ) (w : Value) → value_of_constant m d ≡ Some w → (7 ≤ d) × (value_in_block predeclared_constants d 7 (module_block m) ≡ Some w)
 unfolding value_of_constant
 seven-or-less m d w h =
-    (elim (nat_lt d 7) as (λ v. nat_lt d 7 ≡ v → (if v then None else value_in_block predeclared_known d 7 (module_block m)) ≡ Some w → (7 ≤ d) × (value_in_block predeclared_known d 7 (module_block m) ≡ Some w))
+    (elim (nat_lt d 7) as (λ v. nat_lt d 7 ≡ v → (if v then None else value_in_block predeclared_constants d 7 (module_block m)) ≡ Some w → (7 ≤ d) × (value_in_block predeclared_constants d 7 (module_block m) ≡ Some w))
     [ true ↦ λ e h. absurd (cc) | false ↦ λ e h. (ltb-false d 7 e, h) ]) refl h
 
 -- holds if a use is bound to the constant, by its label
 
-abbrev pub IsBound : Uses → ℕ → ℕ → Label → Type 0
+abbrev pub IsBound : OccurrenceSet → ℕ → ℕ → Label → Type 0
 IsBound uses d j l = uses j ≡ true → label_ordinal l ≡ Some d
 
 abbrev pub truth_name : Value → Name
@@ -118,47 +118,47 @@ truth_name (truth true) = codes "TRUE"
 truth_name _ = codes "FALSE"
 
 -- holds if a use whose literal is TRUE or FALSE has the predeclared constant's label
-abbrev pub IsShownAs : Uses → Value → ℕ → Label → Type 0
+abbrev pub IsShownAs : OccurrenceSet → Value → ℕ → Label → Type 0
 IsShownAs uses (truth true) j l = uses j ≡ true → label_ordinal l ≡ Some 2
 IsShownAs uses (truth false) j l = uses j ≡ true → label_ordinal l ≡ Some 3
 IsShownAs uses (number n) j l = Unit {0}
 IsShownAs uses (elements vs) j l = Unit {0}
 IsShownAs uses (members k ms) j l = Unit {0}
 
-pub shown-from : (uses : Uses) (w : Value) (j : ℕ) (scope : Scope Name) (x : Name) → IsShownAs uses w j (label_of (looking_for (truth_name w)) (as_label (looking_for (truth_name w))) scope x) → uses j ≡ true → shown w scope ≡ true
+pub shown-from : (uses : OccurrenceSet) (w : Value) (j : ℕ) (scope : Scope Name) (x : Name) → IsShownAs uses w j (label_of (lookup_naming (truth_name w)) (label_from_ordinal (lookup_naming (truth_name w))) scope x) → uses j ≡ true → shown w scope ≡ true
 shown-from uses (truth true) j scope x h u =
-    ap (λ o. same_ordinal o 2) (sym (looked (codes "TRUE") scope x) ∙ (sym (label_ordinal-of (looking_for (codes "TRUE")) scope x) ∙ h u))
+    ap (λ o. same_ordinal o 2) (sym (looked (codes "TRUE") scope x) ∙ (sym (label_ordinal-of (lookup_naming (codes "TRUE")) scope x) ∙ h u))
   where
-    looked : (y : Name) (scope : Scope Name) (x : Name) → ordinal_of (looking_for y) scope x ≡ ordinal_of as_names scope y
+    looked : (y : Name) (scope : Scope Name) (x : Name) → ordinal_of (lookup_naming y) scope x ≡ ordinal_of naming_by_spelling scope y
     looked y [] x = refl
-    looked y (b ∷ scope) x = elim (same_name y b.0) as (λ v. (elim v [ true ↦ Some b.1 | false ↦ ordinal_of (looking_for y) scope x ]) ≡ (elim v [ true ↦ Some b.1 | false ↦ ordinal_of as_names scope y ])) [ true ↦ refl | false ↦ looked y scope x ]
+    looked y (b ∷ scope) x = elim (same_name y b.0) as (λ v. (elim v [ true ↦ Some b.1 | false ↦ ordinal_of (lookup_naming y) scope x ]) ≡ (elim v [ true ↦ Some b.1 | false ↦ ordinal_of naming_by_spelling scope y ])) [ true ↦ refl | false ↦ looked y scope x ]
 shown-from uses (truth false) j scope x h u =
-    ap (λ o. same_ordinal o 3) (sym (looked (codes "FALSE") scope x) ∙ (sym (label_ordinal-of (looking_for (codes "FALSE")) scope x) ∙ h u))
+    ap (λ o. same_ordinal o 3) (sym (looked (codes "FALSE") scope x) ∙ (sym (label_ordinal-of (lookup_naming (codes "FALSE")) scope x) ∙ h u))
   where
-    looked : (y : Name) (scope : Scope Name) (x : Name) → ordinal_of (looking_for y) scope x ≡ ordinal_of as_names scope y
+    looked : (y : Name) (scope : Scope Name) (x : Name) → ordinal_of (lookup_naming y) scope x ≡ ordinal_of naming_by_spelling scope y
     looked y [] x = refl
-    looked y (b ∷ scope) x = elim (same_name y b.0) as (λ v. (elim v [ true ↦ Some b.1 | false ↦ ordinal_of (looking_for y) scope x ]) ≡ (elim v [ true ↦ Some b.1 | false ↦ ordinal_of as_names scope y ])) [ true ↦ refl | false ↦ looked y scope x ]
+    looked y (b ∷ scope) x = elim (same_name y b.0) as (λ v. (elim v [ true ↦ Some b.1 | false ↦ ordinal_of (lookup_naming y) scope x ]) ≡ (elim v [ true ↦ Some b.1 | false ↦ ordinal_of naming_by_spelling scope y ])) [ true ↦ refl | false ↦ looked y scope x ]
 shown-from uses (number n) j scope x h u = refl
 shown-from uses (elements vs) j scope x h u = refl
 shown-from uses (members k ms) j scope x h u = refl
 
-pub all-shown : (m : Tree Name module_text) (w : Value) (uses : Uses) → ((k : ℕ) → uses k ≡ true → IsPredeclaredTruth m k w) → AllAt (IsShownAs uses w) 0 (occurrences (relabelled (looking_for (truth_name w)) (as_label (looking_for (truth_name w))) m))
-all-shown m (truth true) uses h = all-at (IsShownAs uses (truth true)) 0 (occurrences (relabelled (looking_for (codes "TRUE")) (as_label (looking_for (codes "TRUE"))) m)) (λ i l e u. sym (ap (option_and_then label_ordinal) e) ∙ h i (ap uses (sym (zero-add i)) ∙ u))
-all-shown m (truth false) uses h = all-at (IsShownAs uses (truth false)) 0 (occurrences (relabelled (looking_for (codes "FALSE")) (as_label (looking_for (codes "FALSE"))) m)) (λ i l e u. sym (ap (option_and_then label_ordinal) e) ∙ h i (ap uses (sym (zero-add i)) ∙ u))
-all-shown m (number n) uses h = all-at (IsShownAs uses (number n)) 0 (occurrences (relabelled (looking_for (codes "FALSE")) (as_label (looking_for (codes "FALSE"))) m)) (λ i l e. tt)
-all-shown m (elements vs) uses h = all-at (IsShownAs uses (elements vs)) 0 (occurrences (relabelled (looking_for (codes "FALSE")) (as_label (looking_for (codes "FALSE"))) m)) (λ i l e. tt)
-all-shown m (members n ms) uses h = all-at (IsShownAs uses (members n ms)) 0 (occurrences (relabelled (looking_for (codes "FALSE")) (as_label (looking_for (codes "FALSE"))) m)) (λ i l e. tt)
+pub all-shown : (m : Tree Name module_text) (w : Value) (uses : OccurrenceSet) → ((k : ℕ) → uses k ≡ true → MeansPredeclaredTruth m k w) → AllAt (IsShownAs uses w) 0 (occurrences (relabel_module (lookup_naming (truth_name w)) (label_from_ordinal (lookup_naming (truth_name w))) m))
+all-shown m (truth true) uses h = all-at (IsShownAs uses (truth true)) 0 (occurrences (relabel_module (lookup_naming (codes "TRUE")) (label_from_ordinal (lookup_naming (codes "TRUE"))) m)) (λ i l e u. sym (ap (option_and_then label_ordinal) e) ∙ h i (ap uses (sym (zero-add i)) ∙ u))
+all-shown m (truth false) uses h = all-at (IsShownAs uses (truth false)) 0 (occurrences (relabel_module (lookup_naming (codes "FALSE")) (label_from_ordinal (lookup_naming (codes "FALSE"))) m)) (λ i l e u. sym (ap (option_and_then label_ordinal) e) ∙ h i (ap uses (sym (zero-add i)) ∙ u))
+all-shown m (number n) uses h = all-at (IsShownAs uses (number n)) 0 (occurrences (relabel_module (lookup_naming (codes "FALSE")) (label_from_ordinal (lookup_naming (codes "FALSE"))) m)) (λ i l e. tt)
+all-shown m (elements vs) uses h = all-at (IsShownAs uses (elements vs)) 0 (occurrences (relabel_module (lookup_naming (codes "FALSE")) (label_from_ordinal (lookup_naming (codes "FALSE"))) m)) (λ i l e. tt)
+all-shown m (members n ms) uses h = all-at (IsShownAs uses (members n ms)) 0 (occurrences (relabel_module (lookup_naming (codes "FALSE")) (label_from_ordinal (lookup_naming (codes "FALSE"))) m)) (λ i l e. tt)
 
-pub written-fitted : (m : Tree Name module_text) (d : ℕ) (w : Value) (v : Tree Name factor) (uses : Uses) → IsConstantWritten m d w v → AreUsesOf m d w uses → IsFitted (writing uses v d) w m
+pub written-fitted : (m : Tree Name module_text) (d : ℕ) (w : Value) (v : Tree Name factor) (uses : OccurrenceSet) → IsConstantWritten m d w v → AreUsesOf m d w uses → IsFitted (writing uses v d) w m
 written-fitted (is_module x b closing) d w v uses c u =
     let m : Tree Name module_text = is_module x b closing in
     let seven = seven-or-less m d w c.value in
     record {
       literal = record { written = c.literal; scalar = c.scalar; ordinal = seven.0 };
-      here = each-block as_names (looking_for (truth_name w)) (IsBound uses d) (IsShownAs uses w) (Here (writing uses v d) w)
+      here = each-block naming_by_spelling (lookup_naming (truth_name w)) (IsBound uses d) (IsShownAs uses w) (Here (writing uses v d) w)
           (λ s j scope t both. (writes_at uses j scope (occurrences t) both, all-stay scope (occurrences (inline_in uses v j t))))
-          0 (predeclared_scope as_names) 7 b
-          (all-at (IsBound uses d) 0 (occurrences (relabelled as_names (as_label as_names) m)) (λ i l e t. sym (ap (option_and_then label_ordinal) e) ∙ u.bound i (ap uses (sym (zero-add i)) ∙ t)))
+          0 (predeclared_scope naming_by_spelling) 7 b
+          (all-at (IsBound uses d) 0 (occurrences (relabel_module naming_by_spelling (label_from_ordinal naming_by_spelling) m)) (λ i l e t. sym (ap (option_and_then label_ordinal) e) ∙ u.bound i (ap uses (sym (zero-add i)) ∙ t)))
           (all-shown m w uses u.seen);
       has_value = seven.1;
     }
@@ -167,10 +167,10 @@ written-fitted (is_module x b closing) d w v uses c u =
     all-stay scope [] = tt
     all-stay scope (x ∷ xs) = (λ e. absurd (true≢false (sym e)), all-stay scope xs)
 
-    writes_at : (uses : Uses) (j : ℕ) (scope : Scope Name) (xs : List Name) → Each (Both as_names (looking_for (truth_name w)) (IsBound uses d) (IsShownAs uses w)) j scope xs → Each (Writes (writing uses v d) w) j scope xs
+    writes_at : (uses : OccurrenceSet) (j : ℕ) (scope : Scope Name) (xs : List Name) → Each (Both naming_by_spelling (lookup_naming (truth_name w)) (IsBound uses d) (IsShownAs uses w)) j scope xs → Each (Writes (writing uses v d) w) j scope xs
     writes_at uses j scope [] both = tt
     writes_at uses j scope (x ∷ xs) both =
-        ((λ e. sym (label_ordinal-of as_names scope x) ∙ both.0.0 e, λ e. shown-from uses w j scope x both.0.1 e), writes_at uses (suc j) scope xs both.1)
+        ((λ e. sym (label_ordinal-of naming_by_spelling scope x) ∙ both.0.0 e, λ e. shown-from uses w j scope x both.0.1 e), writes_at uses (suc j) scope xs both.1)
 
 pub inlining_keeps_well_typed-holds : InliningKeepsWellTyped
 inlining_keeps_well_typed-holds m d w v uses c u well = subst WellTyped (written-module uses v d m) (well_typed-edited (writing uses v d) w m (written-fitted m d w v uses c u) well)
@@ -184,13 +184,13 @@ pub left-fitted : (m : Tree Name module_text) (d : ℕ) (w : Value) (v : Tree Na
 left-fitted (is_module x b closing) d w v c u =
     let m : Tree Name module_text = is_module x b closing in
     let seven = seven-or-less m d w c.value in
-    let others : AllAt (IsOther d) 0 (occurrences (relabelled as_names (as_label as_names) m)) =
-    all-at (IsOther d) 0 (occurrences (relabelled as_names (as_label as_names) m)) (λ i l e t. u i (ap (option_and_then label_ordinal) e ∙ t)) in
+    let others : AllAt (IsOther d) 0 (occurrences (relabel_module naming_by_spelling (label_from_ordinal naming_by_spelling) m)) =
+    all-at (IsOther d) 0 (occurrences (relabel_module naming_by_spelling (label_from_ordinal naming_by_spelling) m)) (λ i l e t. u i (ap (option_and_then label_ordinal) e ∙ t)) in
     record {
       literal = record { written = c.literal; scalar = c.scalar; ordinal = seven.0 };
-      here = each-block as_names as_names (IsOther d) (IsOther d) (Here (leaving_out v d) w)
+      here = each-block naming_by_spelling naming_by_spelling (IsOther d) (IsOther d) (Here (leaving_out v d) w)
           (λ s j scope t both. (no_writes j scope (occurrences t), subst (λ a. AllStay (leaving_out v d) scope (occurrences a)) (sym (leaf-kept v j t)) (all_others j scope (occurrences t) both)))
-          0 (predeclared_scope as_names) 7 b others others;
+          0 (predeclared_scope naming_by_spelling) 7 b others others;
       has_value = seven.1;
     }
   where
@@ -198,9 +198,9 @@ left-fitted (is_module x b closing) d w v c u =
     no_writes j scope [] = tt
     no_writes j scope (x ∷ xs) = ((λ e. absurd (true≢false (sym e)), λ e. absurd (true≢false (sym e))), no_writes (suc j) scope xs)
 
-    all_others : (j : ℕ) (scope : Scope Name) (xs : List Name) → Each (Both as_names as_names (IsOther d) (IsOther d)) j scope xs → AllStay (leaving_out v d) scope xs
+    all_others : (j : ℕ) (scope : Scope Name) (xs : List Name) → Each (Both naming_by_spelling naming_by_spelling (IsOther d) (IsOther d)) j scope xs → AllStay (leaving_out v d) scope xs
     all_others j scope [] both = tt
-    all_others j scope (x ∷ xs) both = (λ e o. both.0.0 (label_ordinal-of as_names scope x ∙ o), all_others (suc j) scope xs both.1)
+    all_others j scope (x ∷ xs) both = (λ e o. both.0.0 (label_ordinal-of naming_by_spelling scope x ∙ o), all_others (suc j) scope xs both.1)
 
-pub leaving_out_keeps_well_typed-holds : LeavingOutKeepsWellTyped
-leaving_out_keeps_well_typed-holds m d w v c u well = subst WellTyped (left-module v d m) (well_typed-edited (leaving_out v d) w m (left-fitted m d w v c u) well)
+pub removing_unused_keeps_well_typed-holds : RemovingUnusedKeepsWellTyped
+removing_unused_keeps_well_typed-holds m d w v c u well = subst WellTyped (left-module v d m) (well_typed-edited (leaving_out v d) w m (left-fitted m d w v c u) well)

@@ -1,14 +1,14 @@
 -- Replacing uses of a constant by its literal leaves a statement well-typed exactly if it was.
 use Rattle.std.proofs.Common.{List, None, Option, Some, [], ap, false, if◌then◌else◌, length, refl, suc, sym, true, ℕ, ◌&&◌, ◌++◌, ◌+◌, ◌∙◌, ◌∷◌, ◌≡◌}
 use Rattle.ob0_tree.specs.Tree.{Tree, addend, arguments, assigns, branches, calls, compares, comparison, designator, else_branch, else_part, elsif_branch, elsif_part, empty, end, expression, factor, further_argument, further_statement, integer, item, items, maybe, more, multiplier, negation, no_arguments, none, occurrences, one, parenthesised, product, repeat_loop, runs, selector, sequence, some_arguments, statement, sum, then_argument, then_statement, while_loop}
-use Rattle.ob0_language_names.specs.Inlining.{Uses, inline_in}
+use Rattle.ob0_language_names.specs.Inlining.{OccurrenceSet, inline_in}
 use Rattle.ob0_language_names.specs.Names.{Name}
 use Rattle.ob0_language_values.specs.Values.{Value, boolean_shape}
 use Rattle.ob0_language_types.specs.Arguments.{arguments_listed, further_arguments}
 use Rattle.ob0_language_types.specs.Expressions.{a_constant, a_variable}
-use Rattle.ob0_language_types.specs.Laws.{UsesAre}
+use Rattle.ob0_language_types.specs.Laws.{EachUseHas}
 use Rattle.ob0_language_types.specs.Typing.{lone_designator, type_at, type_of, type_of_factor, value_type}
-use Rattle.ob0_language_types.specs.WellTyped.{Formal, Signature, Typed, agree, argument_fits, arguments_fit, by_place, by_value, call_fits, condition_fits, else_fits, elsifs_fit, sequence_fits, signature_of, statement_fits, statements_fit, variable_type}
+use Rattle.ob0_language_types.specs.WellTyped.{FormalParameter, Signature, TypeMeanings, same_known_shape, argument_fits, arguments_fit, by_place, by_value, call_fits, condition_fits, else_fits, elsifs_fit, sequence_fits, signature_of, statement_fits, statements_fit, variable_type}
 use Rattle.ob0_language_types.proofs.Inlined.{uses-split}
 use Rattle.ob0_language_types.proofs.InlinedTypes.{IsConstant, type_at-inlined, type_of-inlined}
 
@@ -35,27 +35,27 @@ product-no_designator (parenthesised e) m ms rest c = refl
 product-no_designator (negation f) m ms rest c = refl
 
 -- holds if a literal has the constant's type and isn't a variable
-pub record Written (checked : Typed Name) (v : Tree Name factor) (w : Value) : Type 0 where
+pub record Written (checked : TypeMeanings Name) (v : Tree Name factor) (w : Value) : Type 0 where
   pub typed : type_of_factor checked v ≡ value_type w
   pub no_variable : variable_type checked (lone_designator (alone v)) ≡ None
 
-abbrev pub AreUses : Typed Name → Value → Uses → ℕ → List Name → Type 0
-AreUses checked w uses k xs = UsesAre uses (IsConstant checked w) k xs
+abbrev pub AreUses : TypeMeanings Name → Value → OccurrenceSet → ℕ → List Name → Type 0
+AreUses checked w uses k xs = EachUseHas uses (IsConstant checked w) k xs
 
-pub type-written : (checked : Typed Name) (uses : Uses) (v : Tree Name factor) (w : Value) → Written checked v w → (k : ℕ) (e : Tree Name expression) → AreUses checked w uses k (occurrences e) → type_of checked (inline_in uses v k e) ≡ type_of checked e
+pub type-written : (checked : TypeMeanings Name) (uses : OccurrenceSet) (v : Tree Name factor) (w : Value) → Written checked v w → (k : ℕ) (e : Tree Name expression) → AreUses checked w uses k (occurrences e) → type_of checked (inline_in uses v k e) ≡ type_of checked e
 type-written checked uses v w h k e u = type_of-inlined checked uses v w record { typed = h.typed } k e u
 
-pub variable-written : (checked : Typed Name) (uses : Uses) (v : Tree Name factor) (w : Value) → Written checked v w → (k : ℕ) (x : Name) (path : Tree Name (items selector)) → AreUses checked w uses k (occurrences path)
+pub variable-written : (checked : TypeMeanings Name) (uses : OccurrenceSet) (v : Tree Name factor) (w : Value) → Written checked v w → (k : ℕ) (x : Name) (path : Tree Name (items selector)) → AreUses checked w uses k (occurrences path)
     → variable_type checked (Some (x, inline_in uses v k path)) ≡ variable_type checked (Some (x, path))
 unfolding variable_type
 variable-written checked uses v w h k x path u = λ i.
     elim (checked.object_for x) [ Some (a_variable s) ↦ type_at-inlined checked uses v w record { typed = h.typed } k s path u i | _ ↦ None ]
 
-use-no_variable : (checked : Typed Name) (x : Name) (w : Value) → checked.object_for x ≡ Some (a_constant w) → variable_type checked (Some (x, end)) ≡ None
+use-no_variable : (checked : TypeMeanings Name) (x : Name) (w : Value) → checked.object_for x ≡ Some (a_constant w) → variable_type checked (Some (x, end)) ≡ None
 unfolding variable_type
 use-no_variable checked x w e = ap (λ o. elim o [ Some (a_variable s) ↦ type_at checked s end | _ ↦ None ]) e
 
-pub lone_designator-written : (checked : Typed Name) (uses : Uses) (v : Tree Name factor) (w : Value) → Written checked v w → (k : ℕ) (e : Tree Name expression) → AreUses checked w uses k (occurrences e)
+pub lone_designator-written : (checked : TypeMeanings Name) (uses : OccurrenceSet) (v : Tree Name factor) (w : Value) → Written checked v w → (k : ℕ) (e : Tree Name expression) → AreUses checked w uses k (occurrences e)
     → variable_type checked (lone_designator (inline_in uses v k e)) ≡ variable_type checked (lone_designator e)
 lone_designator-written checked uses v w h k (compares (sum None (product (designator x end) end) end) none) u =
     (elim (uses k) as (λ b. uses k ≡ b → variable_type checked (lone_designator (alone (if b then v else designator x end))) ≡ variable_type checked (Some (x, end)))
@@ -70,13 +70,13 @@ lone_designator-written checked uses v w h k (compares (sum None (product (desig
     ap (variable_type checked) (product-no_designator (if uses k then v else designator x end) _ _ _ _)
 lone_designator-written checked uses v w h k _ u = refl
 
-pub argument_fits-written : (checked : Typed Name) (uses : Uses) (v : Tree Name factor) (w : Value) → Written checked v w → (f : Formal) (k : ℕ) (e : Tree Name expression) → AreUses checked w uses k (occurrences e)
+pub argument_fits-written : (checked : TypeMeanings Name) (uses : OccurrenceSet) (v : Tree Name factor) (w : Value) → Written checked v w → (f : FormalParameter) (k : ℕ) (e : Tree Name expression) → AreUses checked w uses k (occurrences e)
     → argument_fits checked f (inline_in uses v k e) ≡ argument_fits checked f e
 unfolding argument_fits
 argument_fits-written checked uses v w h f k e u = λ i.
-    agree (Some f.shape) (elim f.mode [ by_value ↦ type-written checked uses v w h k e u i | by_place ↦ lone_designator-written checked uses v w h k e u i ])
+    same_known_shape (Some f.shape) (elim f.mode [ by_value ↦ type-written checked uses v w h k e u i | by_place ↦ lone_designator-written checked uses v w h k e u i ])
 
-pub further_fit-written : (checked : Typed Name) (uses : Uses) (v : Tree Name factor) (w : Value) → Written checked v w → (fs : Signature) (k : ℕ) (es : Tree Name (items further_argument)) → AreUses checked w uses k (occurrences es)
+pub further_fit-written : (checked : TypeMeanings Name) (uses : OccurrenceSet) (v : Tree Name factor) (w : Value) → Written checked v w → (fs : Signature) (k : ℕ) (es : Tree Name (items further_argument)) → AreUses checked w uses k (occurrences es)
     → arguments_fit checked fs (further_arguments (inline_in uses v k es)) ≡ arguments_fit checked fs (further_arguments es)
 unfolding arguments_fit
 further_fit-written checked uses v w h [] k end u = refl
@@ -86,7 +86,7 @@ further_fit-written checked uses v w h (f ∷ fs) k (more (then_argument e) es) 
     let s = uses-split uses (IsConstant checked w) k (occurrences e) (occurrences es) u in
     λ i. argument_fits-written checked uses v w h f k e s.0 i && further_fit-written checked uses v w h fs (k + length (occurrences e)) es s.1 i
 
-pub arguments_fit-written : (checked : Typed Name) (uses : Uses) (v : Tree Name factor) (w : Value) → Written checked v w → (fs : Signature) (k : ℕ) (es : Tree Name (maybe arguments)) → AreUses checked w uses k (occurrences es)
+pub arguments_fit-written : (checked : TypeMeanings Name) (uses : OccurrenceSet) (v : Tree Name factor) (w : Value) → Written checked v w → (fs : Signature) (k : ℕ) (es : Tree Name (maybe arguments)) → AreUses checked w uses k (occurrences es)
     → arguments_fit checked fs (arguments_listed (inline_in uses v k es)) ≡ arguments_fit checked fs (arguments_listed es)
 unfolding arguments_fit
 arguments_fit-written checked uses v w h fs k none u = refl
@@ -96,26 +96,26 @@ arguments_fit-written checked uses v w h (f ∷ fs) k (one (some_arguments e es)
     let s = uses-split uses (IsConstant checked w) k (occurrences e) (occurrences es) u in
     λ i. argument_fits-written checked uses v w h f k e s.0 i && further_fit-written checked uses v w h fs (k + length (occurrences e)) es s.1 i
 
-pub call_fits-written : (checked : Typed Name) (uses : Uses) (v : Tree Name factor) (w : Value) → Written checked v w → (signature : Option Signature) (k : ℕ) (es : Tree Name (maybe arguments)) → AreUses checked w uses k (occurrences es)
+pub call_fits-written : (checked : TypeMeanings Name) (uses : OccurrenceSet) (v : Tree Name factor) (w : Value) → Written checked v w → (signature : Option Signature) (k : ℕ) (es : Tree Name (maybe arguments)) → AreUses checked w uses k (occurrences es)
     → call_fits checked signature (arguments_listed (inline_in uses v k es)) ≡ call_fits checked signature (arguments_listed es)
 unfolding call_fits
 call_fits-written checked uses v w h None k es u = refl
 call_fits-written checked uses v w h (Some fs) k es u = arguments_fit-written checked uses v w h fs k es u
 
-pub condition_fits-written : (checked : Typed Name) (uses : Uses) (v : Tree Name factor) (w : Value) → Written checked v w → (k : ℕ) (e : Tree Name expression) → AreUses checked w uses k (occurrences e)
+pub condition_fits-written : (checked : TypeMeanings Name) (uses : OccurrenceSet) (v : Tree Name factor) (w : Value) → Written checked v w → (k : ℕ) (e : Tree Name expression) → AreUses checked w uses k (occurrences e)
     → condition_fits checked (inline_in uses v k e) ≡ condition_fits checked e
 unfolding condition_fits
-condition_fits-written checked uses v w h k e u = λ i. agree (Some boolean_shape) (type-written checked uses v w h k e u i)
+condition_fits-written checked uses v w h k e u = λ i. same_known_shape (Some boolean_shape) (type-written checked uses v w h k e u i)
 
 mutual
   unfolding statement_fits
 
-  pub statement_fits-written : (checked : Typed Name) (uses : Uses) (v : Tree Name factor) (w : Value) → Written checked v w → (k : ℕ) (a : Tree Name statement) → AreUses checked w uses k (occurrences a)
+  pub statement_fits-written : (checked : TypeMeanings Name) (uses : OccurrenceSet) (v : Tree Name factor) (w : Value) → Written checked v w → (k : ℕ) (a : Tree Name statement) → AreUses checked w uses k (occurrences a)
       → statement_fits checked (inline_in uses v k a) ≡ statement_fits checked a
   statement_fits-written checked uses v w h k empty u = refl
   statement_fits-written checked uses v w h k (assigns x path e) u =
       let s = uses-split uses (IsConstant checked w) (suc k) (occurrences path) (occurrences e) u.1 in
-      λ i. agree (variable-written checked uses v w h (suc k) x path s.0 i) (type-written checked uses v w h (suc k + length (occurrences path)) e s.1 i)
+      λ i. same_known_shape (variable-written checked uses v w h (suc k) x path s.0 i) (type-written checked uses v w h (suc k + length (occurrences path)) e s.1 i)
   statement_fits-written checked uses v w h k (calls x es) u = call_fits-written checked uses v w h (signature_of (checked.object_for x)) (suc k) es u.1
   statement_fits-written checked uses v w h k (branches e statements rest last) u =
       let s = uses-split uses (IsConstant checked w) k (occurrences e) (occurrences statements ++ (occurrences rest ++ occurrences last)) u in
@@ -132,20 +132,20 @@ mutual
       let s = uses-split uses (IsConstant checked w) k (occurrences statements) (occurrences e) u in
       λ i. sequence_fits-written checked uses v w h k statements s.0 i && condition_fits-written checked uses v w h (k + length (occurrences statements)) e s.1 i
 
-  pub sequence_fits-written : (checked : Typed Name) (uses : Uses) (v : Tree Name factor) (w : Value) → Written checked v w → (k : ℕ) (a : Tree Name sequence) → AreUses checked w uses k (occurrences a)
+  pub sequence_fits-written : (checked : TypeMeanings Name) (uses : OccurrenceSet) (v : Tree Name factor) (w : Value) → Written checked v w → (k : ℕ) (a : Tree Name sequence) → AreUses checked w uses k (occurrences a)
       → sequence_fits checked (inline_in uses v k a) ≡ sequence_fits checked a
   sequence_fits-written checked uses v w h k (runs a rest) u =
       let s = uses-split uses (IsConstant checked w) k (occurrences a) (occurrences rest) u in
       λ i. statement_fits-written checked uses v w h k a s.0 i && statements_fit-written checked uses v w h (k + length (occurrences a)) rest s.1 i
 
-  pub statements_fit-written : (checked : Typed Name) (uses : Uses) (v : Tree Name factor) (w : Value) → Written checked v w → (k : ℕ) (a : Tree Name (items further_statement)) → AreUses checked w uses k (occurrences a)
+  pub statements_fit-written : (checked : TypeMeanings Name) (uses : OccurrenceSet) (v : Tree Name factor) (w : Value) → Written checked v w → (k : ℕ) (a : Tree Name (items further_statement)) → AreUses checked w uses k (occurrences a)
       → statements_fit checked (inline_in uses v k a) ≡ statements_fit checked a
   statements_fit-written checked uses v w h k end u = refl
   statements_fit-written checked uses v w h k (more (then_statement a) rest) u =
       let s = uses-split uses (IsConstant checked w) k (occurrences a) (occurrences rest) u in
       λ i. statement_fits-written checked uses v w h k a s.0 i && statements_fit-written checked uses v w h (k + length (occurrences a)) rest s.1 i
 
-  pub elsifs_fit-written : (checked : Typed Name) (uses : Uses) (v : Tree Name factor) (w : Value) → Written checked v w → (k : ℕ) (a : Tree Name (items elsif_part)) → AreUses checked w uses k (occurrences a)
+  pub elsifs_fit-written : (checked : TypeMeanings Name) (uses : OccurrenceSet) (v : Tree Name factor) (w : Value) → Written checked v w → (k : ℕ) (a : Tree Name (items elsif_part)) → AreUses checked w uses k (occurrences a)
       → elsifs_fit checked (inline_in uses v k a) ≡ elsifs_fit checked a
   elsifs_fit-written checked uses v w h k end u = refl
   elsifs_fit-written checked uses v w h k (more (elsif_branch e statements) rest) u =
@@ -154,7 +154,7 @@ mutual
       λ i. condition_fits-written checked uses v w h k e s₁.0 i
       && (sequence_fits-written checked uses v w h (k + length (occurrences e)) statements s₁.1 i && elsifs_fit-written checked uses v w h (k + length (occurrences e ++ occurrences statements)) rest s.1 i)
 
-  pub else_fits-written : (checked : Typed Name) (uses : Uses) (v : Tree Name factor) (w : Value) → Written checked v w → (k : ℕ) (a : Tree Name (maybe else_part)) → AreUses checked w uses k (occurrences a)
+  pub else_fits-written : (checked : TypeMeanings Name) (uses : OccurrenceSet) (v : Tree Name factor) (w : Value) → Written checked v w → (k : ℕ) (a : Tree Name (maybe else_part)) → AreUses checked w uses k (occurrences a)
       → else_fits checked (inline_in uses v k a) ≡ else_fits checked a
   else_fits-written checked uses v w h k none u = refl
   else_fits-written checked uses v w h k (one (else_branch statements)) u = sequence_fits-written checked uses v w h k statements u

@@ -2,12 +2,12 @@
 -- new names.
 use Rattle.std.proofs.Common.{◌≡◌, ◌&&◌, List, [], ◌∷◌, map, Some, None, Option, option_map, refl, ap, ◌∙◌}
 use Rattle.ob0_tree.specs.Tree.{Tree, arguments, assigns, branches, calls, else_branch, else_part, elsif_branch, elsif_part, empty, end, expression, further_statement, items, maybe, more, none, one, repeat_loop, runs, selector, sequence, statement, then_statement, while_loop}
-use Rattle.ob0_language_names.specs.Mapping.{with_names}
+use Rattle.ob0_language_names.specs.Mapping.{map_names}
 use Rattle.ob0_language_types.specs.Arguments.{arguments_listed}
 use Rattle.ob0_language_types.specs.Expressions.{Meanings, a_variable}
 use Rattle.ob0_language_types.specs.Typing.{lone_designator}
 use Rattle.ob0_language_values.specs.Values.{Shape, boolean_shape}
-use Rattle.ob0_language_types.specs.WellTyped.{Formal, Signature, Typed, agree, argument_fits, arguments_fit, by_place, by_value, call_fits, condition_fits, else_fits, elsifs_fit, sequence_fits, signature_of, statement_fits, statements_fit, variable_type}
+use Rattle.ob0_language_types.specs.WellTyped.{FormalParameter, Signature, TypeMeanings, same_known_shape, argument_fits, arguments_fit, by_place, by_value, call_fits, condition_fits, else_fits, elsifs_fit, sequence_fits, signature_of, statement_fits, statements_fit, variable_type}
 use Rattle.ob0_language_types.proofs.Naturality.{arguments-map, lone_designator-map, map_designator, through}
 use Rattle.ob0_language_types.proofs.TypeNaturality.{type_at-map, type_of-map}
 
@@ -16,52 +16,52 @@ unfolding variable_type
 variable_type-map f h meaning None = refl
 variable_type-map f h meaning (Some (x, path)) = λ i. elim (meaning.object_for (f x)) [ Some (a_variable s) ↦ type_at-map f h meaning s path i | _ ↦ None ]
 
-pub argument_fits-map : {N M P : Type 0} (f h : N → M) (meaning : Meanings M Shape P) (g : Formal) (e : Tree N expression) → argument_fits meaning g (with_names f h e) ≡ argument_fits (through f h meaning) g e
+pub argument_fits-map : {N M P : Type 0} (f h : N → M) (meaning : Meanings M Shape P) (g : FormalParameter) (e : Tree N expression) → argument_fits meaning g (map_names f h e) ≡ argument_fits (through f h meaning) g e
 unfolding argument_fits
 argument_fits-map f h meaning g e = λ i.
-    agree (Some g.shape) (elim g.mode [ by_value ↦ type_of-map f h meaning e i | by_place ↦ (ap (variable_type meaning) (lone_designator-map f h e) ∙ variable_type-map f h meaning (lone_designator e)) i ])
+    same_known_shape (Some g.shape) (elim g.mode [ by_value ↦ type_of-map f h meaning e i | by_place ↦ (ap (variable_type meaning) (lone_designator-map f h e) ∙ variable_type-map f h meaning (lone_designator e)) i ])
 
-pub arguments_fit-map : {N M P : Type 0} (f h : N → M) (meaning : Meanings M Shape P) (gs : Signature) (es : List (Tree N expression)) → arguments_fit meaning gs (map (with_names f h) es) ≡ arguments_fit (through f h meaning) gs es
+pub arguments_fit-map : {N M P : Type 0} (f h : N → M) (meaning : Meanings M Shape P) (gs : Signature) (es : List (Tree N expression)) → arguments_fit meaning gs (map (map_names f h) es) ≡ arguments_fit (through f h meaning) gs es
 unfolding arguments_fit
 arguments_fit-map f h meaning [] [] = refl
 arguments_fit-map f h meaning [] (e ∷ es) = refl
 arguments_fit-map f h meaning (g ∷ gs) [] = refl
 arguments_fit-map f h meaning (g ∷ gs) (e ∷ es) = λ i. argument_fits-map f h meaning g e i && arguments_fit-map f h meaning gs es i
 
-pub call_fits-map : {N M P : Type 0} (f h : N → M) (meaning : Meanings M Shape P) (signature : Option Signature) (es : Tree N (maybe arguments)) → call_fits meaning signature (arguments_listed (with_names f h es)) ≡ call_fits (through f h meaning) signature (arguments_listed es)
+pub call_fits-map : {N M P : Type 0} (f h : N → M) (meaning : Meanings M Shape P) (signature : Option Signature) (es : Tree N (maybe arguments)) → call_fits meaning signature (arguments_listed (map_names f h es)) ≡ call_fits (through f h meaning) signature (arguments_listed es)
 unfolding call_fits
 call_fits-map f h meaning None es = refl
 call_fits-map f h meaning (Some gs) es = ap (arguments_fit meaning gs) (arguments-map f h es) ∙ arguments_fit-map f h meaning gs (arguments_listed es)
 
-pub condition_fits-map : {N M P : Type 0} (f h : N → M) (meaning : Meanings M Shape P) (e : Tree N expression) → condition_fits meaning (with_names f h e) ≡ condition_fits (through f h meaning) e
+pub condition_fits-map : {N M P : Type 0} (f h : N → M) (meaning : Meanings M Shape P) (e : Tree N expression) → condition_fits meaning (map_names f h e) ≡ condition_fits (through f h meaning) e
 unfolding condition_fits
-condition_fits-map f h meaning e = λ i. agree (Some boolean_shape) (type_of-map f h meaning e i)
+condition_fits-map f h meaning e = λ i. same_known_shape (Some boolean_shape) (type_of-map f h meaning e i)
 
 mutual
   unfolding statement_fits
 
-  pub statement_fits-map : {N M : Type 0} (f h : N → M) (meaning : Typed M) (a : Tree N statement) → statement_fits meaning (with_names f h a) ≡ statement_fits (through f h meaning) a
+  pub statement_fits-map : {N M : Type 0} (f h : N → M) (meaning : TypeMeanings M) (a : Tree N statement) → statement_fits meaning (map_names f h a) ≡ statement_fits (through f h meaning) a
   statement_fits-map f h meaning empty = refl
   statement_fits-map f h meaning (assigns x path e) = λ i.
-      agree (variable_type-map f h meaning (Some (x, path)) i) (type_of-map f h meaning e i)
+      same_known_shape (variable_type-map f h meaning (Some (x, path)) i) (type_of-map f h meaning e i)
   statement_fits-map f h meaning (calls x es) = call_fits-map f h meaning (signature_of (meaning.object_for (f x))) es
   statement_fits-map f h meaning (branches e statements rest last) = λ i.
       condition_fits-map f h meaning e i && (sequence_fits-map f h meaning statements i && (elsifs_fit-map f h meaning rest i && else_fits-map f h meaning last i))
   statement_fits-map f h meaning (while_loop e statements) = λ i. condition_fits-map f h meaning e i && sequence_fits-map f h meaning statements i
   statement_fits-map f h meaning (repeat_loop statements e) = λ i. sequence_fits-map f h meaning statements i && condition_fits-map f h meaning e i
 
-  pub sequence_fits-map : {N M : Type 0} (f h : N → M) (meaning : Typed M) (a : Tree N sequence) → sequence_fits meaning (with_names f h a) ≡ sequence_fits (through f h meaning) a
+  pub sequence_fits-map : {N M : Type 0} (f h : N → M) (meaning : TypeMeanings M) (a : Tree N sequence) → sequence_fits meaning (map_names f h a) ≡ sequence_fits (through f h meaning) a
   sequence_fits-map f h meaning (runs a rest) = λ i. statement_fits-map f h meaning a i && statements_fit-map f h meaning rest i
 
-  pub statements_fit-map : {N M : Type 0} (f h : N → M) (meaning : Typed M) (a : Tree N (items further_statement)) → statements_fit meaning (with_names f h a) ≡ statements_fit (through f h meaning) a
+  pub statements_fit-map : {N M : Type 0} (f h : N → M) (meaning : TypeMeanings M) (a : Tree N (items further_statement)) → statements_fit meaning (map_names f h a) ≡ statements_fit (through f h meaning) a
   statements_fit-map f h meaning end = refl
   statements_fit-map f h meaning (more (then_statement a) rest) = λ i. statement_fits-map f h meaning a i && statements_fit-map f h meaning rest i
 
-  pub elsifs_fit-map : {N M : Type 0} (f h : N → M) (meaning : Typed M) (a : Tree N (items elsif_part)) → elsifs_fit meaning (with_names f h a) ≡ elsifs_fit (through f h meaning) a
+  pub elsifs_fit-map : {N M : Type 0} (f h : N → M) (meaning : TypeMeanings M) (a : Tree N (items elsif_part)) → elsifs_fit meaning (map_names f h a) ≡ elsifs_fit (through f h meaning) a
   elsifs_fit-map f h meaning end = refl
   elsifs_fit-map f h meaning (more (elsif_branch e statements) rest) = λ i.
       condition_fits-map f h meaning e i && (sequence_fits-map f h meaning statements i && elsifs_fit-map f h meaning rest i)
 
-  pub else_fits-map : {N M : Type 0} (f h : N → M) (meaning : Typed M) (a : Tree N (maybe else_part)) → else_fits meaning (with_names f h a) ≡ else_fits (through f h meaning) a
+  pub else_fits-map : {N M : Type 0} (f h : N → M) (meaning : TypeMeanings M) (a : Tree N (maybe else_part)) → else_fits meaning (map_names f h a) ≡ else_fits (through f h meaning) a
   else_fits-map f h meaning none = refl
   else_fits-map f h meaning (one (else_branch statements)) = sequence_fits-map f h meaning statements

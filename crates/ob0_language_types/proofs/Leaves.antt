@@ -3,20 +3,20 @@
 -- lemmas of naturality are used. So no induction over expressions or statements is needed.
 use Rattle.std.proofs.Common.{Bool, List, None, Option, Some, [], ap, codes, eqb-true, false, option_map, refl, suc, sym, true, true≢false, ℕ, ⊎_elim, ◌∙◌, ◌∷◌, ◌≡◌, ◌≤◌}
 use Rattle.ob0_tree.specs.Tree.{Tree, expression, occurrences, written_type}
-use Rattle.ob0_language_names.specs.Mapping.{with_names}
-use Rattle.ob0_language_names.specs.Names.{Name, as_names}
+use Rattle.ob0_language_names.specs.Mapping.{map_names}
+use Rattle.ob0_language_names.specs.Names.{Name, naming_by_spelling}
 use Rattle.ob0_language_names.specs.Scopes.{Scope, ordinal_of, same_ordinal}
-use Rattle.ob0_language_names.proofs.EditedTrees.{Edit, SameAt, UsesNone, inline-nothing, leaf, with_names-same}
+use Rattle.ob0_language_names.proofs.EditedTrees.{Edit, SameAt, UsesNone, inline-nothing, leaf, map_names-same}
 use Rattle.ob0_language_names.proofs.Places.{Each, Placed}
-use Rattle.ob0_language_names.proofs.SameNames.{with_names-id}
+use Rattle.ob0_language_names.proofs.SameNames.{map_names-id}
 use Rattle.ob0_language_values.specs.Values.{Place, Shape, Value, elements, members, number, truth}
-use Rattle.ob0_language_types.specs.ConstantValues.{known_object}
+use Rattle.ob0_language_types.specs.ConstantValues.{keep_constant}
 use Rattle.ob0_language_types.specs.EditLaws.{IsScalar}
-use Rattle.ob0_language_types.specs.Environments.{Environment, meanings, newest}
+use Rattle.ob0_language_types.specs.Environments.{Environment, meanings, newest_object}
 use Rattle.ob0_language_types.specs.Expressions.{Meanings, Object, a_constant, a_procedure, a_standard, a_type, a_variable}
-use Rattle.ob0_language_types.specs.Laws.{UsesAre}
-use Rattle.ob0_language_types.specs.Typing.{constant_of, constant_value, constants_only, denoted, type_of_name}
-use Rattle.ob0_language_types.specs.Written.{written_value}
+use Rattle.ob0_language_types.specs.Laws.{EachUseHas}
+use Rattle.ob0_language_types.specs.Typing.{constant_of, constant_value, constant_meanings, denoted, type_of_name}
+use Rattle.ob0_language_types.specs.Written.{value_literal}
 use Rattle.ob0_language_types.proofs.DenotedInlined.{ConstantWritten, NamesConstant, constant_value-written, denoted-written}
 use Rattle.ob0_language_types.proofs.Literals.{IsSeen, literal-typed, literal-has_value}
 use Rattle.ob0_language_types.proofs.Marks.{Mark, Marks, Sound, Stays, edited-holds, found, found-right, known-found, knowns, no-found, object_as, object_of, ordinal-found, read, read-from, read-holds, read_edited, read_edited-from, scope_marked, has_value-found, yes-found}
@@ -25,15 +25,15 @@ use Rattle.std.proofs.lemmas.Bool.{cases_Bool, false_from_ne_true}
 
 -- returns true if the literal's name is bound to the predeclared TRUE or FALSE, or if the literal has no name
 abbrev pub shown : Value → Scope Name → Bool
-shown (truth true) scope = same_ordinal (ordinal_of as_names scope (codes "TRUE")) 2
-shown (truth false) scope = same_ordinal (ordinal_of as_names scope (codes "FALSE")) 3
+shown (truth true) scope = same_ordinal (ordinal_of naming_by_spelling scope (codes "TRUE")) 2
+shown (truth false) scope = same_ordinal (ordinal_of naming_by_spelling scope (codes "FALSE")) 3
 shown (number n) scope = true
 shown (elements vs) scope = true
 shown (members k ms) scope = true
 
 -- holds if a use is bound to the constant, and the literal's name is visible there
 abbrev pub Writes : Edit → Value → ℕ → Scope Name → Name → Type 0
-Writes edit w j scope x = (edit.uses j ≡ true → ordinal_of as_names scope x ≡ Some edit.constant) × (edit.uses j ≡ true → shown w scope ≡ true)
+Writes edit w j scope x = (edit.uses j ≡ true → ordinal_of naming_by_spelling scope x ≡ Some edit.constant) × (edit.uses j ≡ true → shown w scope ≡ true)
 
 abbrev pub AllStay : Edit → Scope Name → List Name → Type 0
 AllStay edit scope [] = Unit {0}
@@ -45,7 +45,7 @@ abbrev pub Here : Edit → Value → Placed
 Here edit w s j scope t = Each (Writes edit w) j scope (occurrences t) × AllStay edit scope (occurrences (leaf edit j t))
 
 pub record Literal (edit : Edit) (w : Value) : Type 0 where
-  pub written : written_value w ≡ Some edit.literal
+  pub written : value_literal w ≡ Some edit.literal
   pub scalar : IsScalar w
   pub ordinal : 7 ≤ edit.constant
 
@@ -60,19 +60,19 @@ none-used edit w j scope (x ∷ xs) e here = (false_from_ne_true (edit.uses j) (
 -- returns the meanings of names in the edited environment
 
 abbrev pub edited_meanings : {V P Q : Type 0} → Edit → (ℕ → P → Q) → Marks V P → Meanings Name V Q
-edited_meanings edit q marks = meanings as_names (read_edited edit q marks)
+edited_meanings edit q marks = meanings naming_by_spelling (read_edited edit q marks)
 
 abbrev pub read_meanings : {V P Q : Type 0} → (ℕ → P → Q) → Marks V P → Meanings Name V Q
-read_meanings q marks = meanings as_names (read q marks)
+read_meanings q marks = meanings naming_by_spelling (read q marks)
 
 pub edited-object_for : {V P Q : Type 0} (edit : Edit) (q : ℕ → P → Q) (marks : Marks V P) (x : Name) → Stays edit (scope_marked marks) x → (edited_meanings edit q marks).object_for x ≡ option_map (object_of q) (found marks x)
-edited-object_for edit q marks x stays = ap newest (read_edited-from edit q marks x stays) ∙ edited-holds edit q marks x stays
+edited-object_for edit q marks x stays = ap newest_object (read_edited-from edit q marks x stays) ∙ edited-holds edit q marks x stays
 
 pub read-object_for : {V P Q : Type 0} (q : ℕ → P → Q) (marks : Marks V P) (x : Name) → (read_meanings q marks).object_for x ≡ option_map (object_of q) (found marks x)
-read-object_for q marks x = ap newest (read-from q marks x) ∙ read-holds q marks x
+read-object_for q marks x = ap newest_object (read-from q marks x) ∙ read-holds q marks x
 
 pub uses-read : {V P Q : Type 0} (edit : Edit) (w : Value) (X : Marks V P → Name → ℕ → P → Type 0) (p : ℕ → P → Q) (n : ℕ) (marks : Marks V P) → Sound edit w X n marks → (j : ℕ) (xs : List Name)
-    → Each (Writes edit w) j (scope_marked marks) xs → UsesAre edit.uses (NamesConstant (read_meanings p marks) w) j xs
+    → Each (Writes edit w) j (scope_marked marks) xs → EachUseHas edit.uses (NamesConstant (read_meanings p marks) w) j xs
 uses-read edit w X p n marks s j [] reported = tt
 uses-read edit w X p n marks s j (x ∷ xs) reported = (
   λ u. read-object_for p marks x ∙ has_value-found edit w p (found marks x) (found-right edit w X n marks x s) (sym (ordinal-found marks x) ∙ reported.0.0 u),
@@ -83,15 +83,15 @@ pub seen-read : {V P Q : Type 0} (edit : Edit) (w : Value) (X : Marks V P → Na
     → shown w (scope_marked marks) ≡ true → IsSeen (read_meanings p marks) w
 seen-read edit (truth true) X p n marks s h =
     read-object_for p marks (codes "TRUE")
-    ∙ yes-found edit (truth true) p (found marks (codes "TRUE")) (found-right edit (truth true) X n marks (codes "TRUE") s) (sym (ordinal-found marks (codes "TRUE")) ∙ same_ordinal-true (ordinal_of as_names (scope_marked marks) (codes "TRUE")) 2 h)
+    ∙ yes-found edit (truth true) p (found marks (codes "TRUE")) (found-right edit (truth true) X n marks (codes "TRUE") s) (sym (ordinal-found marks (codes "TRUE")) ∙ same_ordinal-true (ordinal_of naming_by_spelling (scope_marked marks) (codes "TRUE")) 2 h)
 seen-read edit (truth false) X p n marks s h =
     read-object_for p marks (codes "FALSE")
-    ∙ no-found edit (truth false) p (found marks (codes "FALSE")) (found-right edit (truth false) X n marks (codes "FALSE") s) (sym (ordinal-found marks (codes "FALSE")) ∙ same_ordinal-true (ordinal_of as_names (scope_marked marks) (codes "FALSE")) 3 h)
+    ∙ no-found edit (truth false) p (found marks (codes "FALSE")) (found-right edit (truth false) X n marks (codes "FALSE") s) (sym (ordinal-found marks (codes "FALSE")) ∙ same_ordinal-true (ordinal_of naming_by_spelling (scope_marked marks) (codes "FALSE")) 3 h)
 seen-read edit (number m) X p n marks s h = tt
 seen-read edit (elements vs) X p n marks s h = tt
 seen-read edit (members k ms) X p n marks s h = tt
 
-pub seen-constants : {V P : Type 0} (W R : Type 0) (meaning : Meanings Name V P) (w : Value) → IsSeen meaning w → IsSeen {V = W} {P = R} (constants_only meaning) w
+pub seen-constants : {V P : Type 0} (W R : Type 0) (meaning : Meanings Name V P) (w : Value) → IsSeen meaning w → IsSeen {V = W} {P = R} (constant_meanings meaning) w
 seen-constants W R meaning (truth true) e = ap (λ o. option_map a_constant (constant_of o)) e
 seen-constants W R meaning (truth false) e = ap (λ o. option_map a_constant (constant_of o)) e
 seen-constants W R meaning (number n) e = tt
@@ -100,8 +100,8 @@ seen-constants W R meaning (members k ms) e = tt
 
 pub literal-constant : {V P : Type 0} (edit : Edit) (w : Value) → Literal edit w → (meaning : Meanings Name V P) → IsSeen meaning w → ConstantWritten meaning edit.literal w
 literal-constant edit w lit meaning seen = record {
-  typed = literal-typed {P = Unit {0}} (constants_only meaning) edit.literal w lit.written lit.scalar (seen-constants Shape (Unit {0}) meaning w seen);
-  has_value = literal-has_value {P = Unit {0}} (constants_only meaning) [] edit.literal w lit.written lit.scalar (seen-constants Place (Unit {0}) meaning w seen);
+  typed = literal-typed {P = Unit {0}} (constant_meanings meaning) edit.literal w lit.written lit.scalar (seen-constants Shape (Unit {0}) meaning w seen);
+  has_value = literal-has_value {P = Unit {0}} (constant_meanings meaning) [] edit.literal w lit.written lit.scalar (seen-constants Place (Unit {0}) meaning w seen);
 }
 
 -- a name's meaning and spelling, which replace the name in a tree
@@ -124,7 +124,7 @@ plain_object (a_procedure p) = a_procedure tt
 plain_object (a_standard p) = a_standard p
 
 abbrev pub plain_tag : {V P : Type 0} → Environment Name V P → Name → Tag (Unit {0}) (Unit {0})
-plain_tag env x = record { object = option_map plain_object ((meanings as_names env).object_for x); text = [] }
+plain_tag env x = record { object = option_map plain_object ((meanings naming_by_spelling env).object_for x); text = [] }
 
 pub constant_of-plain : {V P : Type 0} (o : Option (Object V P)) → constant_of (option_map plain_object o) ≡ constant_of o
 constant_of-plain None = refl
@@ -142,21 +142,21 @@ type_of_name-plain (Some (a_variable p)) = refl
 type_of_name-plain (Some (a_procedure p)) = refl
 type_of_name-plain (Some (a_standard p)) = refl
 
-constant_value-tagged : {V P : Type 0} (env : Environment Name V P) (e : Tree Name expression) → constant_value tagged (with_names (plain_tag env) as_field e) ≡ constant_value (meanings as_names env) e
+constant_value-tagged : {V P : Type 0} (env : Environment Name V P) (e : Tree Name expression) → constant_value tagged (map_names (plain_tag env) as_field e) ≡ constant_value (meanings naming_by_spelling env) e
 constant_value-tagged env e =
-    constant_value-map (plain_tag env) as_field tagged (meanings as_names env) e (λ x. constant_of-plain ((meanings as_names env).object_for x)) (λ x. refl)
+    constant_value-map (plain_tag env) as_field tagged (meanings naming_by_spelling env) e (λ x. constant_of-plain ((meanings naming_by_spelling env).object_for x)) (λ x. refl)
 
-denoted-tagged : {V P : Type 0} (env : Environment Name V P) (k : ℕ) (t : Tree Name written_type) → denoted tagged k (with_names (plain_tag env) as_field t) ≡ denoted (meanings as_names env) k t
+denoted-tagged : {V P : Type 0} (env : Environment Name V P) (k : ℕ) (t : Tree Name written_type) → denoted tagged k (map_names (plain_tag env) as_field t) ≡ denoted (meanings naming_by_spelling env) k t
 denoted-tagged env k t =
-    denoted-map (plain_tag env) as_field tagged (meanings as_names env) (λ x. constant_of-plain ((meanings as_names env).object_for x)) (λ x. type_of_name-plain ((meanings as_names env).object_for x)) (λ x. refl) k t
+    denoted-map (plain_tag env) as_field tagged (meanings naming_by_spelling env) (λ x. constant_of-plain ((meanings naming_by_spelling env).object_for x)) (λ x. type_of_name-plain ((meanings naming_by_spelling env).object_for x)) (λ x. refl) k t
 
-pub constant_value-alike : {V P W Q : Type 0} (there : Environment Name V P) (here : Environment Name W Q) (e : Tree Name expression) → SameAt (plain_tag there) (plain_tag here) (occurrences e) → constant_value (meanings as_names there) e ≡ constant_value (meanings as_names here) e
+pub constant_value-alike : {V P W Q : Type 0} (there : Environment Name V P) (here : Environment Name W Q) (e : Tree Name expression) → SameAt (plain_tag there) (plain_tag here) (occurrences e) → constant_value (meanings naming_by_spelling there) e ≡ constant_value (meanings naming_by_spelling here) e
 constant_value-alike there here e same =
-    sym (constant_value-tagged there e) ∙ (ap (constant_value tagged) (with_names-same (plain_tag there) (plain_tag here) as_field e same) ∙ constant_value-tagged here e)
+    sym (constant_value-tagged there e) ∙ (ap (constant_value tagged) (map_names-same (plain_tag there) (plain_tag here) as_field e same) ∙ constant_value-tagged here e)
 
-pub denoted-alike : {V P W Q : Type 0} (there : Environment Name V P) (here : Environment Name W Q) (k : ℕ) (t : Tree Name written_type) → SameAt (plain_tag there) (plain_tag here) (occurrences t) → denoted (meanings as_names there) k t ≡ denoted (meanings as_names here) k t
+pub denoted-alike : {V P W Q : Type 0} (there : Environment Name V P) (here : Environment Name W Q) (k : ℕ) (t : Tree Name written_type) → SameAt (plain_tag there) (plain_tag here) (occurrences t) → denoted (meanings naming_by_spelling there) k t ≡ denoted (meanings naming_by_spelling here) k t
 denoted-alike there here k t same =
-    sym (denoted-tagged there k t) ∙ (ap (denoted tagged k) (with_names-same (plain_tag there) (plain_tag here) as_field t same) ∙ denoted-tagged here k t)
+    sym (denoted-tagged there k t) ∙ (ap (denoted tagged k) (map_names-same (plain_tag there) (plain_tag here) as_field t same) ∙ denoted-tagged here k t)
 
 plain-same : {V P Q : Type 0} (p q : ℕ → P → Q) (o : Option (Mark V P)) → option_map plain_object (option_map (object_of p) o) ≡ option_map plain_object (option_map (object_of q) o)
 plain-same p q None = refl
@@ -199,19 +199,19 @@ denoted-leaf edit w lit X p q n marks s j k t here =
     (cases_Bool (shown w (scope_marked marks)))
 
 -- A constant expression has the same value if only the constants are known.
-pub known-value : {V P Q : Type 0} (p : ℕ → P → Q) (marks : Marks V P) (e : Tree Name expression) → constant_value (meanings as_names (knowns marks)) e ≡ constant_value (read_meanings p marks) e
+pub known-value : {V P Q : Type 0} (p : ℕ → P → Q) (marks : Marks V P) (e : Tree Name expression) → constant_value (meanings naming_by_spelling (knowns marks)) e ≡ constant_value (read_meanings p marks) e
 known-value {V} {P} {Q} p marks e =
-    ap (constant_value (meanings as_names (knowns marks))) (sym (with_names-id e))
-    ∙ constant_value-map (λ x. x) (λ x. x) (meanings as_names (knowns marks)) (read_meanings p marks) e
+    ap (constant_value (meanings naming_by_spelling (knowns marks))) (sym (map_names-id e))
+    ∙ constant_value-map (λ x. x) (λ x. x) (meanings naming_by_spelling (knowns marks)) (read_meanings p marks) e
     (λ x. ap constant_of (known-found marks x) ∙ (same (found marks x) ∙ sym (ap constant_of (read-object_for p marks x)))) (λ x. refl)
   where
-    of_object : (k : ℕ) (o : Object V P) → constant_of (Some (known_object o)) ≡ constant_of (Some (object_as (p k) o))
+    of_object : (k : ℕ) (o : Object V P) → constant_of (Some (keep_constant o)) ≡ constant_of (Some (object_as (p k) o))
     of_object k (a_type s) = refl
     of_object k (a_constant v) = refl
     of_object k (a_variable s) = refl
     of_object k (a_procedure s) = refl
     of_object k (a_standard s) = refl
 
-    same : (o : Option (Mark V P)) → constant_of (option_map (λ b. known_object b.object) o) ≡ constant_of (option_map (object_of p) o)
+    same : (o : Option (Mark V P)) → constant_of (option_map (λ b. keep_constant b.object) o) ≡ constant_of (option_map (object_of p) o)
     same None = refl
     same (Some b) = of_object b.ordinal b.object

@@ -1,6 +1,6 @@
 -- The tree of an expression is built from the trees of its parts.
 use Rattle.std.proofs.Common.{◌≡◌, Some, None, sym, ap, ◌∙◌}
-use Rattle.ob0_tree.specs.declared.tree.Compound.{Compound, out-Compound, roll-out-Compound, back-Compound-compared}
+use Rattle.ob0_tree.specs.declared.tree.CompoundExpression.{CompoundExpression, out-CompoundExpression, roll-out-CompoundExpression, back-CompoundExpression-compared}
 use Rattle.ob0_tree.specs.declared.tree.Comparison.{Comparison, out-Comparison, roll-out-Comparison}
 use Rattle.ob0_tree.specs.declared.tree.Addend.{Addend, out-Addend, roll-out-Addend}
 use Rattle.ob0_tree.specs.Tree.{adds, compares, none, one, relates}
@@ -13,13 +13,13 @@ addend_parts a = sym (ap addend_of (roll-out-Addend a)) ∙ addend_made (out-Add
 pub comparison_parts : (c : Comparison) → comparison_of c ≡ relates (out-Comparison c).relation (simple_of (out-Comparison c).right)
 comparison_parts c = sym (ap comparison_of (roll-out-Comparison c)) ∙ comparison_made (out-Comparison c)
 
-pub compound_alone : (e : Compound) → (out-Compound e).compared ≡ None → compound_of e ≡ compares (simple_of (out-Compound e).left) none
+pub compound_alone : (e : CompoundExpression) → (out-CompoundExpression e).compared ≡ None → compound_of e ≡ compares (simple_of (out-CompoundExpression e).left) none
 compound_alone e h =
-    sym (ap compound_of (roll-out-Compound e)) ∙ compound_made (out-Compound e)
-    ∙ ap (λ c. compares (simple_of (out-Compound e).left) (compared_of (back-Compound-compared c))) h
+    sym (ap compound_of (roll-out-CompoundExpression e)) ∙ compound_made (out-CompoundExpression e)
+    ∙ ap (λ c. compares (simple_of (out-CompoundExpression e).left) (compared_of (back-CompoundExpression-compared c))) h
 
-pub compound_related : (e : Compound) (c : _) → (out-Compound e).compared ≡ Some c → compound_of e ≡ compares (simple_of (out-Compound e).left) (one (relates (out-Comparison c.value).relation (simple_of (out-Comparison c.value).right)))
+pub compound_related : (e : CompoundExpression) (c : _) → (out-CompoundExpression e).compared ≡ Some c → compound_of e ≡ compares (simple_of (out-CompoundExpression e).left) (one (relates (out-Comparison c.value).relation (simple_of (out-Comparison c.value).right)))
 compound_related e c h =
-    sym (ap compound_of (roll-out-Compound e)) ∙ compound_made (out-Compound e)
-    ∙ ap (λ o. compares (simple_of (out-Compound e).left) (compared_of (back-Compound-compared o))) h
-    ∙ ap (λ t. compares (simple_of (out-Compound e).left) (one t)) (comparison_parts c.value)
+    sym (ap compound_of (roll-out-CompoundExpression e)) ∙ compound_made (out-CompoundExpression e)
+    ∙ ap (λ o. compares (simple_of (out-CompoundExpression e).left) (compared_of (back-CompoundExpression-compared o))) h
+    ∙ ap (λ t. compares (simple_of (out-CompoundExpression e).left) (one t)) (comparison_parts c.value)

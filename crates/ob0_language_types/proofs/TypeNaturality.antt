@@ -2,46 +2,46 @@
 -- names.
 use Rattle.std.proofs.Common.{◌≡◌, ℕ, suc, ◌+◌, [], ◌∷◌, map, Some, option_map, refl, ◌∙◌}
 use Rattle.ob0_tree.specs.Tree.{Tree, addend, adds, array_type, compares, designator, end, expression, factor, field, fields, further_fields, further_name, index, integer, items, listed, more, multiplier, multiplies, named_type, names, negation, no_fields, none, one, parenthesised, product, record_type, relates, selector, simple, some_fields, sum, term, then_fields, then_name, written_type}
-use Rattle.ob0_language_names.specs.Mapping.{with_names}
-use Rattle.ob0_language_names.specs.Parts.{further_names, names_listed}
+use Rattle.ob0_language_names.specs.Mapping.{map_names}
+use Rattle.ob0_language_names.specs.Parts.{further_names, names_in_list}
 use Rattle.ob0_language_types.specs.Expressions.{Meanings, a_constant, evaluate}
-use Rattle.ob0_language_types.specs.Typing.{add_type, array_length, complement_type, constant_of, constant_value, constants_only, constructors, denoted, denoted_group, denoted_groups, element_type, field_type, given_value, group_constructors, groups_constructors, multiply_type, object_type, relation_type, sign_type, type_at, type_of, type_of_addends, type_of_factor, type_of_multipliers, type_of_name, type_of_simple, type_of_term, with_fields, within_limits, ◌>>=◌}
+use Rattle.ob0_language_types.specs.Typing.{addition_type, array_length, negation_type, constant_of, constant_value, constant_meanings, constructor_count, denoted, denoted_group, denoted_groups, element_type, field_type, outcome_value, group_constructor_count, groups_constructor_count, multiplication_type, object_type, relation_type, sign_type, type_at, type_of, type_of_addends, type_of_factor, type_of_multipliers, type_of_name, type_of_simple, type_of_term, prepend_fields, check_limits, ◌>>=◌}
 use Rattle.ob0_language_values.specs.Values.{FieldShapes, Shape, array_shape, record_shape}
 use Rattle.ob0_language_types.proofs.Naturality.{evaluate-map, through}
 
 mutual
   unfolding type_of
 
-  pub type_of-map : {N M P : Type 0} (f h : N → M) (meaning : Meanings M Shape P) (e : Tree N expression) → type_of meaning (with_names f h e) ≡ type_of (through f h meaning) e
+  pub type_of-map : {N M P : Type 0} (f h : N → M) (meaning : Meanings M Shape P) (e : Tree N expression) → type_of meaning (map_names f h e) ≡ type_of (through f h meaning) e
   type_of-map f h meaning (compares a none) = type_of_simple-map f h meaning a
   type_of-map f h meaning (compares a (one (relates r b))) = λ i.
       type_of_simple-map f h meaning a i >>= (λ x. type_of_simple-map f h meaning b i >>= (λ y. relation_type r x y))
 
-  pub type_of_simple-map : {N M P : Type 0} (f h : N → M) (meaning : Meanings M Shape P) (a : Tree N simple) → type_of_simple meaning (with_names f h a) ≡ type_of_simple (through f h meaning) a
+  pub type_of_simple-map : {N M P : Type 0} (f h : N → M) (meaning : Meanings M Shape P) (a : Tree N simple) → type_of_simple meaning (map_names f h a) ≡ type_of_simple (through f h meaning) a
   type_of_simple-map f h meaning (sum s t rest) = λ i.
       type_of_term-map f h meaning t i >>= (λ x. sign_type s x >>= (λ y. type_of_addends-map f h meaning y rest i))
 
-  pub type_of_addends-map : {N M P : Type 0} (f h : N → M) (meaning : Meanings M Shape P) (x : Shape) (rest : Tree N (items addend)) → type_of_addends meaning x (with_names f h rest) ≡ type_of_addends (through f h meaning) x rest
+  pub type_of_addends-map : {N M P : Type 0} (f h : N → M) (meaning : Meanings M Shape P) (x : Shape) (rest : Tree N (items addend)) → type_of_addends meaning x (map_names f h rest) ≡ type_of_addends (through f h meaning) x rest
   type_of_addends-map f h meaning x end = refl
   type_of_addends-map f h meaning x (more (adds o t) rest) = λ i.
-      type_of_term-map f h meaning t i >>= (λ y. add_type o x y >>= (λ z. type_of_addends-map f h meaning z rest i))
+      type_of_term-map f h meaning t i >>= (λ y. addition_type o x y >>= (λ z. type_of_addends-map f h meaning z rest i))
 
-  pub type_of_term-map : {N M P : Type 0} (f h : N → M) (meaning : Meanings M Shape P) (t : Tree N term) → type_of_term meaning (with_names f h t) ≡ type_of_term (through f h meaning) t
+  pub type_of_term-map : {N M P : Type 0} (f h : N → M) (meaning : Meanings M Shape P) (t : Tree N term) → type_of_term meaning (map_names f h t) ≡ type_of_term (through f h meaning) t
   type_of_term-map f h meaning (product a rest) = λ i.
       type_of_factor-map f h meaning a i >>= (λ x. type_of_multipliers-map f h meaning x rest i)
 
-  pub type_of_multipliers-map : {N M P : Type 0} (f h : N → M) (meaning : Meanings M Shape P) (x : Shape) (rest : Tree N (items multiplier)) → type_of_multipliers meaning x (with_names f h rest) ≡ type_of_multipliers (through f h meaning) x rest
+  pub type_of_multipliers-map : {N M P : Type 0} (f h : N → M) (meaning : Meanings M Shape P) (x : Shape) (rest : Tree N (items multiplier)) → type_of_multipliers meaning x (map_names f h rest) ≡ type_of_multipliers (through f h meaning) x rest
   type_of_multipliers-map f h meaning x end = refl
   type_of_multipliers-map f h meaning x (more (multiplies o a) rest) = λ i.
-      type_of_factor-map f h meaning a i >>= (λ y. multiply_type o x y >>= (λ z. type_of_multipliers-map f h meaning z rest i))
+      type_of_factor-map f h meaning a i >>= (λ y. multiplication_type o x y >>= (λ z. type_of_multipliers-map f h meaning z rest i))
 
-  pub type_of_factor-map : {N M P : Type 0} (f h : N → M) (meaning : Meanings M Shape P) (a : Tree N factor) → type_of_factor meaning (with_names f h a) ≡ type_of_factor (through f h meaning) a
+  pub type_of_factor-map : {N M P : Type 0} (f h : N → M) (meaning : Meanings M Shape P) (a : Tree N factor) → type_of_factor meaning (map_names f h a) ≡ type_of_factor (through f h meaning) a
   type_of_factor-map f h meaning (designator x path) = λ i. object_type (meaning.object_for (f x)) >>= (λ s. type_at-map f h meaning s path i)
   type_of_factor-map f h meaning (integer n) = refl
   type_of_factor-map f h meaning (parenthesised e) = type_of-map f h meaning e
-  type_of_factor-map f h meaning (negation a) = λ i. type_of_factor-map f h meaning a i >>= complement_type
+  type_of_factor-map f h meaning (negation a) = λ i. type_of_factor-map f h meaning a i >>= negation_type
 
-  pub type_at-map : {N M P : Type 0} (f h : N → M) (meaning : Meanings M Shape P) (s : Shape) (path : Tree N (items selector)) → type_at meaning s (with_names f h path) ≡ type_at (through f h meaning) s path
+  pub type_at-map : {N M P : Type 0} (f h : N → M) (meaning : Meanings M Shape P) (s : Shape) (path : Tree N (items selector)) → type_at meaning s (map_names f h path) ≡ type_at (through f h meaning) s path
   type_at-map f h meaning s end = refl
   type_at-map f h meaning s (more (field x) rest) = λ i. field_type s (meaning.written (h x)) >>= (λ t. type_at-map f h meaning t rest i)
   type_at-map f h meaning s (more (index e) rest) = λ i.
@@ -49,33 +49,33 @@ mutual
 
 -- Two constant expressions have the same value if their names mean the same constants.
 pub constant_value-map : {N M V P W Q : Type 0} (f h : N → M) (there : Meanings M V P) (here : Meanings N W Q) (e : Tree N expression)
-    → ((x : N) → constant_of (there.object_for (f x)) ≡ constant_of (here.object_for x)) → ((x : N) → there.written (h x) ≡ here.written x) → constant_value there (with_names f h e) ≡ constant_value here e
+    → ((x : N) → constant_of (there.object_for (f x)) ≡ constant_of (here.object_for x)) → ((x : N) → there.written (h x) ≡ here.written x) → constant_value there (map_names f h e) ≡ constant_value here e
 unfolding constant_value
 constant_value-map f h there here e same_constants same_written = λ i.
-    (type_of-map {P = Unit {0}} f h (constants_only there) e ∙ (λ j. type_of {P = Unit {0}} (record { object_for = λ x. option_map a_constant (same_constants x j); written = λ x. same_written x j }) e)) i
-    >>= (λ s. given_value ((evaluate-map {P = Unit {0}} f h (constants_only there) [] e ∙ (λ j. evaluate {P = Unit {0}} (record { object_for = λ x. option_map a_constant (same_constants x j); written = λ x. same_written x j }) [] e)) i))
+    (type_of-map {P = Unit {0}} f h (constant_meanings there) e ∙ (λ j. type_of {P = Unit {0}} (record { object_for = λ x. option_map a_constant (same_constants x j); written = λ x. same_written x j }) e)) i
+    >>= (λ s. outcome_value ((evaluate-map {P = Unit {0}} f h (constant_meanings there) [] e ∙ (λ j. evaluate {P = Unit {0}} (record { object_for = λ x. option_map a_constant (same_constants x j); written = λ x. same_written x j }) [] e)) i))
 
 mutual
-  pub constructors-map : {N M : Type 0} (f h : N → M) (t : Tree N written_type) → constructors (with_names f h t) ≡ constructors t
-  constructors-map f h (named_type x) = refl
-  constructors-map f h (array_type e t) = λ i. suc (constructors-map f h t i)
-  constructors-map f h (record_type g rest) = λ i. suc (group_constructors-map f h g i + groups_constructors-map f h rest i)
+  pub constructor_count-map : {N M : Type 0} (f h : N → M) (t : Tree N written_type) → constructor_count (map_names f h t) ≡ constructor_count t
+  constructor_count-map f h (named_type x) = refl
+  constructor_count-map f h (array_type e t) = λ i. suc (constructor_count-map f h t i)
+  constructor_count-map f h (record_type g rest) = λ i. suc (group_constructor_count-map f h g i + groups_constructor_count-map f h rest i)
 
-  pub group_constructors-map : {N M : Type 0} (f h : N → M) (t : Tree N fields) → group_constructors (with_names f h t) ≡ group_constructors t
-  group_constructors-map f h no_fields = refl
-  group_constructors-map f h (some_fields ns t) = constructors-map f h t
+  pub group_constructor_count-map : {N M : Type 0} (f h : N → M) (t : Tree N fields) → group_constructor_count (map_names f h t) ≡ group_constructor_count t
+  group_constructor_count-map f h no_fields = refl
+  group_constructor_count-map f h (some_fields ns t) = constructor_count-map f h t
 
-  pub groups_constructors-map : {N M : Type 0} (f h : N → M) (t : Tree N (items further_fields)) → groups_constructors (with_names f h t) ≡ groups_constructors t
-  groups_constructors-map f h end = refl
-  groups_constructors-map f h (more (then_fields g) rest) = λ i. group_constructors-map f h g i + groups_constructors-map f h rest i
+  pub groups_constructor_count-map : {N M : Type 0} (f h : N → M) (t : Tree N (items further_fields)) → groups_constructor_count (map_names f h t) ≡ groups_constructor_count t
+  groups_constructor_count-map f h end = refl
+  groups_constructor_count-map f h (more (then_fields g) rest) = λ i. group_constructor_count-map f h g i + groups_constructor_count-map f h rest i
 
 pub further_fields_written : {N M V P W Q : Type 0} (f h : N → M) (there : Meanings M V P) (here : Meanings N W Q) → ((x : N) → there.written (h x) ≡ here.written x)
-    → (xs : Tree N (items further_name)) → map there.written (further_names (with_names f h xs)) ≡ map here.written (further_names xs)
+    → (xs : Tree N (items further_name)) → map there.written (further_names (map_names f h xs)) ≡ map here.written (further_names xs)
 further_fields_written f h there here hw end = refl
 further_fields_written f h there here hw (more (then_name x) xs) = λ i. hw x i ∷ further_fields_written f h there here hw xs i
 
 pub fields_written : {N M V P W Q : Type 0} (f h : N → M) (there : Meanings M V P) (here : Meanings N W Q) → ((x : N) → there.written (h x) ≡ here.written x)
-    → (ns : Tree N names) → map there.written (names_listed (with_names f h ns)) ≡ map here.written (names_listed ns)
+    → (ns : Tree N names) → map there.written (names_in_list (map_names f h ns)) ≡ map here.written (names_in_list ns)
 fields_written f h there here hw (listed x xs) = λ i. hw x i ∷ further_fields_written f h there here hw xs i
 
 -- Two texts of types denote the same type if their names mean the same constants and types.
@@ -84,24 +84,24 @@ mutual
 
   pub denoted-map : {N M V P W Q : Type 0} (f h : N → M) (there : Meanings M V P) (here : Meanings N W Q)
       → ((x : N) → constant_of (there.object_for (f x)) ≡ constant_of (here.object_for x)) → ((x : N) → type_of_name (there.object_for (f x)) ≡ type_of_name (here.object_for x)) → ((x : N) → there.written (h x) ≡ here.written x)
-      → (k : ℕ) (t : Tree N written_type) → denoted there k (with_names f h t) ≡ denoted here k t
+      → (k : ℕ) (t : Tree N written_type) → denoted there k (map_names f h t) ≡ denoted here k t
   denoted-map f h there here hc ht hw k (named_type x) = ht x
   denoted-map f h there here hc ht hw k (array_type e t) = λ i.
-      constant_value-map f h there here e hc hw i >>= (λ v. array_length v >>= (λ n. denoted-map f h there here hc ht hw (suc k) t i >>= (λ s. within_limits (array_shape k n s))))
+      constant_value-map f h there here e hc hw i >>= (λ v. array_length v >>= (λ n. denoted-map f h there here hc ht hw (suc k) t i >>= (λ s. check_limits (array_shape k n s))))
   denoted-map f h there here hc ht hw k (record_type g rest) = λ i.
-      ((λ j. denoted_groups there (suc k + group_constructors-map f h g j) (with_names f h rest)) ∙ denoted_groups-map f h there here hc ht hw (suc k + group_constructors g) rest) i
-      >>= (λ later. denoted_group-map f h there here hc ht hw (suc k) later g i >>= (λ fs. within_limits (record_shape k fs)))
+      ((λ j. denoted_groups there (suc k + group_constructor_count-map f h g j) (map_names f h rest)) ∙ denoted_groups-map f h there here hc ht hw (suc k + group_constructor_count g) rest) i
+      >>= (λ later. denoted_group-map f h there here hc ht hw (suc k) later g i >>= (λ fs. check_limits (record_shape k fs)))
 
   pub denoted_group-map : {N M V P W Q : Type 0} (f h : N → M) (there : Meanings M V P) (here : Meanings N W Q)
       → ((x : N) → constant_of (there.object_for (f x)) ≡ constant_of (here.object_for x)) → ((x : N) → type_of_name (there.object_for (f x)) ≡ type_of_name (here.object_for x)) → ((x : N) → there.written (h x) ≡ here.written x)
-      → (k : ℕ) (later : FieldShapes) (g : Tree N fields) → denoted_group there k later (with_names f h g) ≡ denoted_group here k later g
+      → (k : ℕ) (later : FieldShapes) (g : Tree N fields) → denoted_group there k later (map_names f h g) ≡ denoted_group here k later g
   denoted_group-map f h there here hc ht hw k later no_fields = refl
-  denoted_group-map f h there here hc ht hw k later (some_fields ns t) = λ i. denoted-map f h there here hc ht hw k t i >>= (λ s. Some (with_fields (fields_written f h there here hw ns i) s later))
+  denoted_group-map f h there here hc ht hw k later (some_fields ns t) = λ i. denoted-map f h there here hc ht hw k t i >>= (λ s. Some (prepend_fields (fields_written f h there here hw ns i) s later))
 
   pub denoted_groups-map : {N M V P W Q : Type 0} (f h : N → M) (there : Meanings M V P) (here : Meanings N W Q)
       → ((x : N) → constant_of (there.object_for (f x)) ≡ constant_of (here.object_for x)) → ((x : N) → type_of_name (there.object_for (f x)) ≡ type_of_name (here.object_for x)) → ((x : N) → there.written (h x) ≡ here.written x)
-      → (k : ℕ) (gs : Tree N (items further_fields)) → denoted_groups there k (with_names f h gs) ≡ denoted_groups here k gs
+      → (k : ℕ) (gs : Tree N (items further_fields)) → denoted_groups there k (map_names f h gs) ≡ denoted_groups here k gs
   denoted_groups-map f h there here hc ht hw k end = refl
   denoted_groups-map f h there here hc ht hw k (more (then_fields g) rest) = λ i.
-      ((λ j. denoted_groups there (k + group_constructors-map f h g j) (with_names f h rest)) ∙ denoted_groups-map f h there here hc ht hw (k + group_constructors g) rest) i
+      ((λ j. denoted_groups there (k + group_constructor_count-map f h g j) (map_names f h rest)) ∙ denoted_groups-map f h there here hc ht hw (k + group_constructor_count g) rest) i
       >>= (λ later. denoted_group-map f h there here hc ht hw k later g i)

@@ -1,22 +1,22 @@
 -- The type check by names accepts a module exactly if the check by ordinals accepts its numbered tree.
 use Rattle.std.proofs.Common.{◌≡◌, ℕ, suc, ◌+◌, ◌<◌, ◌≤◌, Bool, true, false, ◌&&◌, List, [], ◌∷◌, ◌++◌, map, Some, None, Option, option_map, option_and_then, sym, refl, ap, ◌∙◌, subst, subst₂, le_refl, le_of_lt, arith, lit<}
 use Rattle.ob0_tree.specs.Tree.{Tree, begins, block, body, constant, declares, declares_constant, declares_procedure, declares_type, declares_variable, end, further_section, has_body, is_module, item, items, maybe, module_text, more, none, one, procedure, section, then_section, type_name, value_section, variable, variable_section, written_type}
-use Rattle.ob0_language_names.specs.Mapping.{with_names}
-use Rattle.ob0_language_names.specs.Names.{Label, Naming, as_labels, declared, same_label}
-use Rattle.ob0_language_names.specs.Parts.{block_variables, constant_names, formal_names, formal_sections, named_types, names_listed, section_constants, section_names, section_type, section_types, section_variables, variable_names}
-use Rattle.ob0_language_names.specs.Scopes.{Labels, Scope, after_names, after_procedure, as_label, body_scope, declare_names, declare_procedure_names, first_procedure, first_type, first_variable, label_names, label_of, ordinal_of, procedures_scope, relabel_block, relabel_constants, relabel_formals, relabel_procedure, relabel_procedures, relabel_section, relabel_sections, relabel_types, relabel_uses, relabel_variables, relabelled, types_scope, variables_scope}
-use Rattle.ob0_language_names.proofs.Ordinals.{after_names-append, declare_names-append, le-after_procedure}
+use Rattle.ob0_language_names.specs.Mapping.{map_names}
+use Rattle.ob0_language_names.specs.Names.{Label, Naming, naming_by_label, declared, same_label}
+use Rattle.ob0_language_names.specs.Parts.{block_variables, constant_names, formal_names, formal_sections, declared_type_names, names_in_list, section_constants, section_names, section_type, section_types, section_variables, variable_names}
+use Rattle.ob0_language_names.specs.Scopes.{Labelling, Scope, ordinal_after_names, ordinal_after_procedure, label_from_ordinal, body_scope, declare_names, declare_procedure_names, first_procedure_ordinal, first_type_ordinal, first_variable_ordinal, label_names, label_of, ordinal_of, procedures_scope, relabel_block, relabel_constants, relabel_formals, relabel_procedure, relabel_procedures, relabel_section, relabel_sections, relabel_types, relabel_uses, relabel_variables, relabel_module, types_scope, variables_scope}
+use Rattle.ob0_language_names.proofs.Ordinals.{ordinal_after_names-append, declare_names-append, le-ordinal_after_procedure}
 use Rattle.ob0_language_names.proofs.Relabelled.{constants-section, formals-section, names-relabel, section_names-relabel, section_type-relabel, types-section, variables-section}
-use Rattle.ob0_language_types.specs.Declarations.{after_types, after_variables, declare_constants, declare_first, declare_types, formals_constructors, procedure_constructors, types_constructors, variables_constructors}
-use Rattle.ob0_language_types.specs.Environments.{from_binding, meanings, newest}
+use Rattle.ob0_language_types.specs.Declarations.{constructor_after_types, constructor_after_variables, declare_constants, declare_first, declare_types, formals_constructor_count, procedure_constructor_count, types_constructor_count, variables_constructor_count}
+use Rattle.ob0_language_types.specs.Environments.{environment_from_binding, meanings, newest_object}
 use Rattle.ob0_language_types.specs.Expressions.{Object, a_constant, a_procedure, a_standard, a_type, a_variable, reads, writes, writes_line}
-use Rattle.ob0_language_types.specs.Typing.{constant_of, constant_value, constructors, denoted, type_of_name}
+use Rattle.ob0_language_types.specs.Typing.{constant_of, constant_value, constructor_count, denoted, type_of_name}
 use Rattle.ob0_language_values.specs.Values.{Shape, boolean_shape, integer_shape, truth}
-use Rattle.ob0_language_types.specs.WellTyped.{Formal, Signature, TypeEnvironment, TypedParameter, bind_names, bind_typed, block_fits, body_fits, declare_typed, fits_over, heading, some_and, procedure_fits, procedures_fit, section_mode, sequence_fits, typed_parameters}
+use Rattle.ob0_language_types.specs.WellTyped.{FormalParameter, Signature, TypeEnvironment, TypedParameter, bind_names, bind_typed_parameters, block_fits, body_fits, declare_typed, fits_over, bind_procedure, some_satisfies, procedure_fits, procedures_fit, section_mode, sequence_fits, typed_parameters}
 use Rattle.ob0_language_types.proofs.Agreeing.{Agree, HoldsOf, agree-then, agree-value}
-use Rattle.ob0_language_types.proofs.Constructors.{formals_constructors-relabel, procedure_constructors-relabel, types_constructors-relabel, variables_constructors-relabel}
+use Rattle.ob0_language_types.proofs.Constructors.{formals_constructor_count-relabel, procedure_constructor_count-relabel, types_constructor_count-relabel, variables_constructor_count-relabel}
 use Rattle.ob0_language_types.proofs.FitNaturality.{sequence_fits-map}
-use Rattle.ob0_language_types.proofs.TypeNaturality.{constant_value-map, constructors-map, denoted-map}
+use Rattle.ob0_language_types.proofs.TypeNaturality.{constant_value-map, constructor_count-map, denoted-map}
 use Rattle.std.proofs.lemmas.Bool.{eq-eqb, ne_eqb}
 
 -- a binding of a name, with the ordinal of its declaration
@@ -53,72 +53,72 @@ abbrev pub typed_from : {N : Type 0} → Naming N → TypeNoted N → N → Type
 typed_from naming [] x = []
 typed_from naming (b ∷ noted) x = elim (naming.same x b.name) [ true ↦ b ∷ noted | false ↦ typed_from naming noted x ]
 
-pub typed_by_name-from : {N : Type 0} (naming : Naming N) (noted : TypeNoted N) (x : N) → from_binding naming (typed_by_name noted) x ≡ typed_by_name (typed_from naming noted x)
+pub typed_by_name-from : {N : Type 0} (naming : Naming N) (noted : TypeNoted N) (x : N) → environment_from_binding naming (typed_by_name noted) x ≡ typed_by_name (typed_from naming noted x)
 typed_by_name-from naming [] x = refl
 typed_by_name-from naming (b ∷ noted) x =
-    elim (naming.same x b.name) as (λ v. (elim v [ true ↦ typed_by_name (b ∷ noted) | false ↦ from_binding naming (typed_by_name noted) x ]) ≡ typed_by_name (elim v [ true ↦ b ∷ noted | false ↦ typed_from naming noted x ]))
+    elim (naming.same x b.name) as (λ v. (elim v [ true ↦ typed_by_name (b ∷ noted) | false ↦ environment_from_binding naming (typed_by_name noted) x ]) ≡ typed_by_name (elim v [ true ↦ b ∷ noted | false ↦ typed_from naming noted x ]))
     [ true ↦ refl | false ↦ typed_by_name-from naming noted x ]
 
-pub typed_older : {N : Type 0} (naming : Naming N) (n : ℕ) (noted : TypeNoted N) (x : N) → TypedBelow n noted → same_label (as_label naming (ordinal_of naming (typed_scope noted) x) x) (declared n) ≡ false
+pub typed_older : {N : Type 0} (naming : Naming N) (n : ℕ) (noted : TypeNoted N) (x : N) → TypedBelow n noted → same_label (label_from_ordinal naming (ordinal_of naming (typed_scope noted) x) x) (declared n) ≡ false
 typed_older naming n [] x below = refl
 typed_older naming n (b ∷ noted) x below =
-    elim (naming.same x b.name) as (λ v. same_label (as_label naming (elim v [ true ↦ Some b.ordinal | false ↦ ordinal_of naming (typed_scope noted) x ]) x) (declared n) ≡ false)
+    elim (naming.same x b.name) as (λ v. same_label (label_from_ordinal naming (elim v [ true ↦ Some b.ordinal | false ↦ ordinal_of naming (typed_scope noted) x ]) x) (declared n) ≡ false)
     [ true ↦ ne_eqb b.ordinal n (λ e. omega (arith, e, below.0)) | false ↦ typed_older naming n noted x (TypedBelow-weaken b.ordinal n noted (le_of_lt below.0) below.1) ]
 
-pub typed_by_ordinal-from : {N : Type 0} (naming : Naming N) (n : ℕ) (noted : TypeNoted N) (x : N) → TypedBelow n noted → from_binding as_labels (typed_by_ordinal noted) (as_label naming (ordinal_of naming (typed_scope noted) x) x) ≡ typed_by_ordinal (typed_from naming noted x)
+pub typed_by_ordinal-from : {N : Type 0} (naming : Naming N) (n : ℕ) (noted : TypeNoted N) (x : N) → TypedBelow n noted → environment_from_binding naming_by_label (typed_by_ordinal noted) (label_from_ordinal naming (ordinal_of naming (typed_scope noted) x) x) ≡ typed_by_ordinal (typed_from naming noted x)
 typed_by_ordinal-from naming n [] x below = refl
 typed_by_ordinal-from naming n (b ∷ noted) x below =
-    elim (naming.same x b.name) as (λ v. from_binding as_labels (typed_by_ordinal (b ∷ noted)) (as_label naming (elim v [ true ↦ Some b.ordinal | false ↦ ordinal_of naming (typed_scope noted) x ]) x) ≡ typed_by_ordinal (elim v [ true ↦ b ∷ noted | false ↦ typed_from naming noted x ]))
-    [ true ↦ rw (eq-eqb b.ordinal b.ordinal refl, from_binding) refl | false ↦ rw (typed_older naming b.ordinal noted x below.1, from_binding) (typed_by_ordinal-from naming b.ordinal noted x below.1) ]
+    elim (naming.same x b.name) as (λ v. environment_from_binding naming_by_label (typed_by_ordinal (b ∷ noted)) (label_from_ordinal naming (elim v [ true ↦ Some b.ordinal | false ↦ ordinal_of naming (typed_scope noted) x ]) x) ≡ typed_by_ordinal (elim v [ true ↦ b ∷ noted | false ↦ typed_from naming noted x ]))
+    [ true ↦ rw (eq-eqb b.ordinal b.ordinal refl, environment_from_binding) refl | false ↦ rw (typed_older naming b.ordinal noted x below.1, environment_from_binding) (typed_by_ordinal-from naming b.ordinal noted x below.1) ]
 
-pub newest-same : {N : Type 0} (noted : TypeNoted N) → newest (typed_by_ordinal noted) ≡ newest (typed_by_name noted)
-newest-same [] = refl
-newest-same (b ∷ noted) = refl
+pub newest_object-same : {N : Type 0} (noted : TypeNoted N) → newest_object (typed_by_ordinal noted) ≡ newest_object (typed_by_name noted)
+newest_object-same [] = refl
+newest_object-same (b ∷ noted) = refl
 
 -- returns the label of a looked-up name
 abbrev pub typed_label : {N : Type 0} → Naming N → TypeNoted N → N → Label
-typed_label naming noted = label_of naming (as_label naming) (typed_scope noted)
+typed_label naming noted = label_of naming (label_from_ordinal naming) (typed_scope noted)
 
-pub typed_meanings-agree : {N : Type 0} (naming : Naming N) (n : ℕ) (noted : TypeNoted N) → TypedBelow n noted → (x : N) → (meanings as_labels (typed_by_ordinal noted)).object_for (typed_label naming noted x) ≡ (meanings naming (typed_by_name noted)).object_for x
+pub typed_meanings-agree : {N : Type 0} (naming : Naming N) (n : ℕ) (noted : TypeNoted N) → TypedBelow n noted → (x : N) → (meanings naming_by_label (typed_by_ordinal noted)).object_for (typed_label naming noted x) ≡ (meanings naming (typed_by_name noted)).object_for x
 typed_meanings-agree naming n noted below x =
-    ap newest (typed_by_ordinal-from naming n noted x below) ∙ (newest-same (typed_from naming noted x) ∙ sym (ap newest (typed_by_name-from naming noted x)))
+    ap newest_object (typed_by_ordinal-from naming n noted x below) ∙ (newest_object-same (typed_from naming noted x) ∙ sym (ap newest_object (typed_by_name-from naming noted x)))
 
 abbrev pub TypedWithin : {N : Type 0} → ℕ → Scope N → TypeNoted N → Type 0
 TypedWithin n scope noted = (typed_scope noted ≡ scope) × TypedBelow n noted
 
 -- Declarations and types have the same results by names and by ordinals.
 
-pub denoted-agrees : {N : Type 0} (naming : Naming N) (n : ℕ) (noted : TypeNoted N) → TypedBelow n noted → (j : ℕ) (t : Tree N written_type) → denoted (meanings as_labels (typed_by_ordinal noted)) j (relabel_uses naming (as_label naming) (typed_scope noted) t) ≡ denoted (meanings naming (typed_by_name noted)) j t
+pub denoted-agrees : {N : Type 0} (naming : Naming N) (n : ℕ) (noted : TypeNoted N) → TypedBelow n noted → (j : ℕ) (t : Tree N written_type) → denoted (meanings naming_by_label (typed_by_ordinal noted)) j (relabel_uses naming (label_from_ordinal naming) (typed_scope noted) t) ≡ denoted (meanings naming (typed_by_name noted)) j t
 denoted-agrees naming n noted below j t =
-    denoted-map (typed_label naming noted) (as_label naming None) (meanings as_labels (typed_by_ordinal noted)) (meanings naming (typed_by_name noted))
+    denoted-map (typed_label naming noted) (label_from_ordinal naming None) (meanings naming_by_label (typed_by_ordinal noted)) (meanings naming (typed_by_name noted))
     (λ x. ap constant_of (typed_meanings-agree naming n noted below x)) (λ x. ap type_of_name (typed_meanings-agree naming n noted below x)) (λ x. refl) j t
 
 pub constants_typed : {N : Type 0} (naming : Naming N) (k : ℕ) (noted : TypeNoted N) → TypedBelow k noted → (cs : Tree N (items constant))
-    → Agree typed_by_name typed_by_ordinal (TypedWithin (after_names k (constant_names cs)) (declare_names k (constant_names cs) (typed_scope noted)))
-    (declare_constants naming (typed_by_name noted) cs) (declare_constants as_labels (typed_by_ordinal noted) (relabel_constants naming (as_label naming) (typed_scope noted) k cs))
+    → Agree typed_by_name typed_by_ordinal (TypedWithin (ordinal_after_names k (constant_names cs)) (declare_names k (constant_names cs) (typed_scope noted)))
+    (declare_constants naming (typed_by_name noted) cs) (declare_constants naming_by_label (typed_by_ordinal noted) (relabel_constants naming (label_from_ordinal naming) (typed_scope noted) k cs))
 unfolding declare_constants
 constants_typed naming k noted below end = (Some noted, refl, refl, (refl, below))
 constants_typed naming k noted below (more (declares_constant x e) cs) =
-    agree-value typed_by_name typed_by_ordinal (TypedWithin (after_names (suc k) (constant_names cs)) (declare_names (suc k) (constant_names cs) ((x, k) ∷ typed_scope noted)))
+    agree-value typed_by_name typed_by_ordinal (TypedWithin (ordinal_after_names (suc k) (constant_names cs)) (declare_names (suc k) (constant_names cs) ((x, k) ∷ typed_scope noted)))
     (λ v. declare_constants naming ((x, a_constant v) ∷ typed_by_name noted) cs)
-    (λ v. declare_constants as_labels ((declared k, a_constant v) ∷ typed_by_ordinal noted) (relabel_constants naming (as_label naming) ((x, k) ∷ typed_scope noted) (suc k) cs))
-    (constant_value (meanings naming (typed_by_name noted)) e) (constant_value (meanings as_labels (typed_by_ordinal noted)) (relabel_uses naming (as_label naming) (typed_scope noted) e))
-    (constant_value-map (typed_label naming noted) (as_label naming None) (meanings as_labels (typed_by_ordinal noted)) (meanings naming (typed_by_name noted)) e (λ x. ap constant_of (typed_meanings-agree naming k noted below x)) (λ x. refl))
+    (λ v. declare_constants naming_by_label ((declared k, a_constant v) ∷ typed_by_ordinal noted) (relabel_constants naming (label_from_ordinal naming) ((x, k) ∷ typed_scope noted) (suc k) cs))
+    (constant_value (meanings naming (typed_by_name noted)) e) (constant_value (meanings naming_by_label (typed_by_ordinal noted)) (relabel_uses naming (label_from_ordinal naming) (typed_scope noted) e))
+    (constant_value-map (typed_label naming noted) (label_from_ordinal naming None) (meanings naming_by_label (typed_by_ordinal noted)) (meanings naming (typed_by_name noted)) e (λ x. ap constant_of (typed_meanings-agree naming k noted below x)) (λ x. refl))
     (λ v. constants_typed naming (suc k) (record { name = x; ordinal = k; object = a_constant v } ∷ noted) (le_refl (suc k), below) cs)
 
 pub types_typed : {N : Type 0} (naming : Naming N) (j k : ℕ) (noted : TypeNoted N) → TypedBelow k noted → (ds : Tree N (items type_name))
-    → Agree typed_by_name typed_by_ordinal (TypedWithin (after_names k (named_types ds)) (declare_names k (named_types ds) (typed_scope noted)))
-    (declare_types naming (typed_by_name noted) j ds) (declare_types as_labels (typed_by_ordinal noted) j (relabel_types naming (as_label naming) (typed_scope noted) k ds))
+    → Agree typed_by_name typed_by_ordinal (TypedWithin (ordinal_after_names k (declared_type_names ds)) (declare_names k (declared_type_names ds) (typed_scope noted)))
+    (declare_types naming (typed_by_name noted) j ds) (declare_types naming_by_label (typed_by_ordinal noted) j (relabel_types naming (label_from_ordinal naming) (typed_scope noted) k ds))
 unfolding declare_types
 types_typed naming j k noted below end = (Some noted, refl, refl, (refl, below))
 types_typed naming j k noted below (more (declares_type x u) ds) =
-    rw (constructors-map (label_of naming (as_label naming) (typed_scope noted)) (as_label naming None) u)
-    (agree-value typed_by_name typed_by_ordinal (TypedWithin (after_names (suc k) (named_types ds)) (declare_names (suc k) (named_types ds) ((x, k) ∷ typed_scope noted)))
-    (λ s. declare_types naming ((x, a_type s) ∷ typed_by_name noted) (j + constructors u) ds)
-    (λ s. declare_types as_labels ((declared k, a_type s) ∷ typed_by_ordinal noted) (j + constructors u) (relabel_types naming (as_label naming) ((x, k) ∷ typed_scope noted) (suc k) ds))
-    (denoted (meanings naming (typed_by_name noted)) j u) (denoted (meanings as_labels (typed_by_ordinal noted)) j (relabel_uses naming (as_label naming) (typed_scope noted) u))
+    rw (constructor_count-map (label_of naming (label_from_ordinal naming) (typed_scope noted)) (label_from_ordinal naming None) u)
+    (agree-value typed_by_name typed_by_ordinal (TypedWithin (ordinal_after_names (suc k) (declared_type_names ds)) (declare_names (suc k) (declared_type_names ds) ((x, k) ∷ typed_scope noted)))
+    (λ s. declare_types naming ((x, a_type s) ∷ typed_by_name noted) (j + constructor_count u) ds)
+    (λ s. declare_types naming_by_label ((declared k, a_type s) ∷ typed_by_ordinal noted) (j + constructor_count u) (relabel_types naming (label_from_ordinal naming) ((x, k) ∷ typed_scope noted) (suc k) ds))
+    (denoted (meanings naming (typed_by_name noted)) j u) (denoted (meanings naming_by_label (typed_by_ordinal noted)) j (relabel_uses naming (label_from_ordinal naming) (typed_scope noted) u))
     (denoted-agrees naming k noted below j u)
-    (λ s. types_typed naming (j + constructors u) (suc k) (record { name = x; ordinal = k; object = a_type s } ∷ noted) (le_refl (suc k), below) ds))
+    (λ s. types_typed naming (j + constructor_count u) (suc k) (record { name = x; ordinal = k; object = a_type s } ∷ noted) (le_refl (suc k), below) ds))
 
 abbrev pub noted_names : {N : Type 0} → ℕ → List N → Object Shape Signature → TypeNoted N → TypeNoted N
 noted_names k [] o noted = noted
@@ -128,42 +128,42 @@ pub bind_names-by_name : {N : Type 0} (k : ℕ) (xs : List N) (o : Object Shape 
 bind_names-by_name k [] o noted = refl
 bind_names-by_name k (x ∷ xs) o noted = bind_names-by_name (suc k) xs o (record { name = x; ordinal = k; object = o } ∷ noted)
 
-pub bind_names-by_ordinal : {N : Type 0} (naming : Naming N) (k : ℕ) (xs : List N) (o : Object Shape Signature) (noted : TypeNoted N) → bind_names (label_names (as_label naming) k xs) o (typed_by_ordinal noted) ≡ typed_by_ordinal (noted_names k xs o noted)
+pub bind_names-by_ordinal : {N : Type 0} (naming : Naming N) (k : ℕ) (xs : List N) (o : Object Shape Signature) (noted : TypeNoted N) → bind_names (label_names (label_from_ordinal naming) k xs) o (typed_by_ordinal noted) ≡ typed_by_ordinal (noted_names k xs o noted)
 bind_names-by_ordinal naming k [] o noted = refl
 bind_names-by_ordinal naming k (x ∷ xs) o noted = bind_names-by_ordinal naming (suc k) xs o (record { name = x; ordinal = k; object = o } ∷ noted)
 
-pub noted_names-within : {N : Type 0} (k : ℕ) (xs : List N) (o : Object Shape Signature) (noted : TypeNoted N) → TypedBelow k noted → TypedWithin (after_names k xs) (declare_names k xs (typed_scope noted)) (noted_names k xs o noted)
+pub noted_names-within : {N : Type 0} (k : ℕ) (xs : List N) (o : Object Shape Signature) (noted : TypeNoted N) → TypedBelow k noted → TypedWithin (ordinal_after_names k xs) (declare_names k xs (typed_scope noted)) (noted_names k xs o noted)
 noted_names-within k [] o noted below = (refl, below)
 noted_names-within k (x ∷ xs) o noted below = noted_names-within (suc k) xs o (record { name = x; ordinal = k; object = o } ∷ noted) (le_refl (suc k), below)
 
 -- Moves a fact along the scope and the environments to which names are added.
 pub typed_moved : {N : Type 0} (naming : Naming N) (Goal : Scope N → TypeEnvironment N → TypeEnvironment Label → Type 0) (k : ℕ) (xs : List N) (o : Object Shape Signature) (noted : TypeNoted N) → TypedBelow k noted
     → Goal (typed_scope (noted_names k xs o noted)) (typed_by_name (noted_names k xs o noted)) (typed_by_ordinal (noted_names k xs o noted))
-    → Goal (declare_names k xs (typed_scope noted)) (bind_names xs o (typed_by_name noted)) (bind_names (label_names (as_label naming) k xs) o (typed_by_ordinal noted))
+    → Goal (declare_names k xs (typed_scope noted)) (bind_names xs o (typed_by_name noted)) (bind_names (label_names (label_from_ordinal naming) k xs) o (typed_by_ordinal noted))
 typed_moved naming Goal k xs o noted below h =
-    subst (λ s. Goal s (bind_names xs o (typed_by_name noted)) (bind_names (label_names (as_label naming) k xs) o (typed_by_ordinal noted))) (noted_names-within k xs o noted below).0
+    subst (λ s. Goal s (bind_names xs o (typed_by_name noted)) (bind_names (label_names (label_from_ordinal naming) k xs) o (typed_by_ordinal noted))) (noted_names-within k xs o noted below).0
     (subst₂ (λ a b. Goal (typed_scope (noted_names k xs o noted)) a b) (sym (bind_names-by_name k xs o noted)) (sym (bind_names-by_ordinal naming k xs o noted)) h)
 
 pub variables_typed : {N : Type 0} (naming : Naming N) (j k : ℕ) (noted : TypeNoted N) → TypedBelow k noted → (gs : Tree N (items variable))
-    → Agree typed_by_name typed_by_ordinal (TypedWithin (after_names k (variable_names gs)) (declare_names k (variable_names gs) (typed_scope noted)))
-    (declare_typed naming j gs (typed_by_name noted)) (declare_typed as_labels j (relabel_variables naming (as_label naming) (typed_scope noted) k gs) (typed_by_ordinal noted))
+    → Agree typed_by_name typed_by_ordinal (TypedWithin (ordinal_after_names k (variable_names gs)) (declare_names k (variable_names gs) (typed_scope noted)))
+    (declare_typed naming j gs (typed_by_name noted)) (declare_typed naming_by_label j (relabel_variables naming (label_from_ordinal naming) (typed_scope noted) k gs) (typed_by_ordinal noted))
 unfolding declare_typed
 variables_typed naming j k noted below end = (Some noted, refl, refl, (refl, below))
 variables_typed naming j k noted below (more (declares_variable ns u) gs) =
-    rw (constructors-map (label_of naming (as_label naming) (typed_scope noted)) (as_label naming None) u, names-relabel (as_label naming) k ns)
-    (agree-value typed_by_name typed_by_ordinal (TypedWithin (after_names k (names_listed ns ++ variable_names gs)) (declare_names k (names_listed ns ++ variable_names gs) (typed_scope noted)))
-    (λ s. declare_typed naming (j + constructors u) gs (bind_names (names_listed ns) (a_variable s) (typed_by_name noted)))
-    (λ s. declare_typed as_labels (j + constructors u) (relabel_variables naming (as_label naming) (declare_names k (names_listed ns) (typed_scope noted)) (after_names k (names_listed ns)) gs) (bind_names (label_names (as_label naming) k (names_listed ns)) (a_variable s) (typed_by_ordinal noted)))
-    (denoted (meanings naming (typed_by_name noted)) j u) (denoted (meanings as_labels (typed_by_ordinal noted)) j (relabel_uses naming (as_label naming) (typed_scope noted) u))
+    rw (constructor_count-map (label_of naming (label_from_ordinal naming) (typed_scope noted)) (label_from_ordinal naming None) u, names-relabel (label_from_ordinal naming) k ns)
+    (agree-value typed_by_name typed_by_ordinal (TypedWithin (ordinal_after_names k (names_in_list ns ++ variable_names gs)) (declare_names k (names_in_list ns ++ variable_names gs) (typed_scope noted)))
+    (λ s. declare_typed naming (j + constructor_count u) gs (bind_names (names_in_list ns) (a_variable s) (typed_by_name noted)))
+    (λ s. declare_typed naming_by_label (j + constructor_count u) (relabel_variables naming (label_from_ordinal naming) (declare_names k (names_in_list ns) (typed_scope noted)) (ordinal_after_names k (names_in_list ns)) gs) (bind_names (label_names (label_from_ordinal naming) k (names_in_list ns)) (a_variable s) (typed_by_ordinal noted)))
+    (denoted (meanings naming (typed_by_name noted)) j u) (denoted (meanings naming_by_label (typed_by_ordinal noted)) j (relabel_uses naming (label_from_ordinal naming) (typed_scope noted) u))
     (denoted-agrees naming k noted below j u)
     (λ s. subst₂ (λ n scope. Agree typed_by_name typed_by_ordinal (TypedWithin n scope)
-    (declare_typed naming (j + constructors u) gs (bind_names (names_listed ns) (a_variable s) (typed_by_name noted)))
-    (declare_typed as_labels (j + constructors u) (relabel_variables naming (as_label naming) (declare_names k (names_listed ns) (typed_scope noted)) (after_names k (names_listed ns)) gs) (bind_names (label_names (as_label naming) k (names_listed ns)) (a_variable s) (typed_by_ordinal noted))))
-    (sym (after_names-append k (names_listed ns) (variable_names gs))) (sym (declare_names-append k (names_listed ns) (variable_names gs) (typed_scope noted)))
-    (typed_moved naming (λ scope a b. Agree typed_by_name typed_by_ordinal (TypedWithin (after_names (after_names k (names_listed ns)) (variable_names gs)) (declare_names (after_names k (names_listed ns)) (variable_names gs) scope))
-    (declare_typed naming (j + constructors u) gs a) (declare_typed as_labels (j + constructors u) (relabel_variables naming (as_label naming) scope (after_names k (names_listed ns)) gs) b))
-    k (names_listed ns) (a_variable s) noted below
-    (variables_typed naming (j + constructors u) (after_names k (names_listed ns)) (noted_names k (names_listed ns) (a_variable s) noted) (noted_names-within k (names_listed ns) (a_variable s) noted below).1 gs))))
+    (declare_typed naming (j + constructor_count u) gs (bind_names (names_in_list ns) (a_variable s) (typed_by_name noted)))
+    (declare_typed naming_by_label (j + constructor_count u) (relabel_variables naming (label_from_ordinal naming) (declare_names k (names_in_list ns) (typed_scope noted)) (ordinal_after_names k (names_in_list ns)) gs) (bind_names (label_names (label_from_ordinal naming) k (names_in_list ns)) (a_variable s) (typed_by_ordinal noted))))
+    (sym (ordinal_after_names-append k (names_in_list ns) (variable_names gs))) (sym (declare_names-append k (names_in_list ns) (variable_names gs) (typed_scope noted)))
+    (typed_moved naming (λ scope a b. Agree typed_by_name typed_by_ordinal (TypedWithin (ordinal_after_names (ordinal_after_names k (names_in_list ns)) (variable_names gs)) (declare_names (ordinal_after_names k (names_in_list ns)) (variable_names gs) scope))
+    (declare_typed naming (j + constructor_count u) gs a) (declare_typed naming_by_label (j + constructor_count u) (relabel_variables naming (label_from_ordinal naming) scope (ordinal_after_names k (names_in_list ns)) gs) b))
+    k (names_in_list ns) (a_variable s) noted below
+    (variables_typed naming (j + constructor_count u) (ordinal_after_names k (names_in_list ns)) (noted_names k (names_in_list ns) (a_variable s) noted) (noted_names-within k (names_in_list ns) (a_variable s) noted below).1 gs))))
 
 -- `typed_names` returns the names of parameters. `label_typed` returns the parameters with labels instead of names.
 
@@ -175,41 +175,41 @@ abbrev pub label_typed : {N : Type 0} → ℕ → List (TypedParameter N) → Li
 label_typed k [] = []
 label_typed k (p ∷ ps) = record { name = declared k; formal = p.formal } ∷ label_typed (suc k) ps
 
-abbrev pub typed_parameter : {N : Type 0} → Formal → N → TypedParameter N
+abbrev pub typed_parameter : {N : Type 0} → FormalParameter → N → TypedParameter N
 typed_parameter g x = record { name = x; formal = g }
 
-pub label_typed-append : {N : Type 0} (naming : Naming N) (g : Formal) (k : ℕ) (xs : List N) (ps : List (TypedParameter N)) → map (typed_parameter g) (label_names (as_label naming) k xs) ++ label_typed (after_names k xs) ps ≡ label_typed k (map (typed_parameter g) xs ++ ps)
+pub label_typed-append : {N : Type 0} (naming : Naming N) (g : FormalParameter) (k : ℕ) (xs : List N) (ps : List (TypedParameter N)) → map (typed_parameter g) (label_names (label_from_ordinal naming) k xs) ++ label_typed (ordinal_after_names k xs) ps ≡ label_typed k (map (typed_parameter g) xs ++ ps)
 label_typed-append naming g k [] ps = refl
 label_typed-append naming g k (x ∷ xs) ps = λ i. record { name = declared k; formal = g } ∷ label_typed-append naming g (suc k) xs ps i
 
-pub typed_names-append : {N : Type 0} (g : Formal) (xs : List N) (ps : List (TypedParameter N)) → typed_names (map (typed_parameter g) xs ++ ps) ≡ xs ++ typed_names ps
+pub typed_names-append : {N : Type 0} (g : FormalParameter) (xs : List N) (ps : List (TypedParameter N)) → typed_names (map (typed_parameter g) xs ++ ps) ≡ xs ++ typed_names ps
 typed_names-append g [] ps = refl
 typed_names-append g (x ∷ xs) ps = λ i. x ∷ typed_names-append g xs ps i
 
-pub section_mode-relabel : {N M : Type 0} (naming : Naming N) (label : Labels N M) (scope : Scope N) (k : ℕ) (s : Tree N section) → section_mode (relabel_section naming label scope k s) ≡ section_mode s
+pub section_mode-relabel : {N M : Type 0} (naming : Naming N) (label : Labelling N M) (scope : Scope N) (k : ℕ) (s : Tree N section) → section_mode (relabel_section naming label scope k s) ≡ section_mode s
 section_mode-relabel naming label scope k (value_section ns t) = refl
 section_mode-relabel naming label scope k (variable_section ns t) = refl
 
 pub parameters_typed : {N : Type 0} (naming : Naming N) (j k : ℕ) (noted : TypeNoted N) → TypedBelow k noted → (fs : Tree N (items further_section))
     → Agree (λ ps. ps) (label_typed k) (λ ps. typed_names ps ≡ formal_names fs)
-    (typed_parameters naming (typed_by_name noted) j fs) (typed_parameters as_labels (typed_by_ordinal noted) j (relabel_sections naming (as_label naming) (typed_scope noted) k fs))
+    (typed_parameters naming (typed_by_name noted) j fs) (typed_parameters naming_by_label (typed_by_ordinal noted) j (relabel_sections naming (label_from_ordinal naming) (typed_scope noted) k fs))
 unfolding typed_parameters
 parameters_typed naming j k noted below end = (Some [], refl, refl, refl)
 parameters_typed {N} naming j k noted below (more (then_section f) fs) =
-    rw (section_type-relabel naming (as_label naming) (typed_scope noted) k f, section_names-relabel naming (as_label naming) (typed_scope noted) k f, section_mode-relabel naming (as_label naming) (typed_scope noted) k f, constructors-map (label_of naming (as_label naming) (typed_scope noted)) (as_label naming None) (section_type f))
+    rw (section_type-relabel naming (label_from_ordinal naming) (typed_scope noted) k f, section_names-relabel naming (label_from_ordinal naming) (typed_scope noted) k f, section_mode-relabel naming (label_from_ordinal naming) (typed_scope noted) k f, constructor_count-map (label_of naming (label_from_ordinal naming) (typed_scope noted)) (label_from_ordinal naming None) (section_type f))
     (agree-value (λ ps. ps) (label_typed k) (λ ps. typed_names ps ≡ section_names f ++ formal_names fs)
-    (λ s. option_and_then (λ rest. Some (map (typed_parameter record { mode = (section_mode f); shape = s }) (section_names f) ++ rest)) (typed_parameters naming (bind_names (section_names f) (a_variable s) (typed_by_name noted)) (j + constructors (section_type f)) fs))
-    (λ s. option_and_then (λ rest. Some (map (typed_parameter record { mode = (section_mode f); shape = s }) (label_names (as_label naming) k (section_names f)) ++ rest)) (typed_parameters as_labels (bind_names (label_names (as_label naming) k (section_names f)) (a_variable s) (typed_by_ordinal noted)) (j + constructors (section_type f)) (relabel_sections naming (as_label naming) (declare_names k (section_names f) (typed_scope noted)) (after_names k (section_names f)) fs)))
-    (denoted (meanings naming (typed_by_name noted)) j (section_type f)) (denoted (meanings as_labels (typed_by_ordinal noted)) j (relabel_uses naming (as_label naming) (typed_scope noted) (section_type f)))
+    (λ s. option_and_then (λ rest. Some (map (typed_parameter record { mode = (section_mode f); shape = s }) (section_names f) ++ rest)) (typed_parameters naming (bind_names (section_names f) (a_variable s) (typed_by_name noted)) (j + constructor_count (section_type f)) fs))
+    (λ s. option_and_then (λ rest. Some (map (typed_parameter record { mode = (section_mode f); shape = s }) (label_names (label_from_ordinal naming) k (section_names f)) ++ rest)) (typed_parameters naming_by_label (bind_names (label_names (label_from_ordinal naming) k (section_names f)) (a_variable s) (typed_by_ordinal noted)) (j + constructor_count (section_type f)) (relabel_sections naming (label_from_ordinal naming) (declare_names k (section_names f) (typed_scope noted)) (ordinal_after_names k (section_names f)) fs)))
+    (denoted (meanings naming (typed_by_name noted)) j (section_type f)) (denoted (meanings naming_by_label (typed_by_ordinal noted)) j (relabel_uses naming (label_from_ordinal naming) (typed_scope noted) (section_type f)))
     (denoted-agrees naming k noted below j (section_type f))
-    (λ s. agree-then (λ ps. ps) (label_typed (after_names k (section_names f))) (λ ps. typed_names ps ≡ formal_names fs) (λ ps. ps) (label_typed k) (λ ps. typed_names ps ≡ section_names f ++ formal_names fs)
-    (λ rest. Some (map (typed_parameter record { mode = (section_mode f); shape = s }) (section_names f) ++ rest)) (λ rest. Some (map (typed_parameter record { mode = (section_mode f); shape = s }) (label_names (as_label naming) k (section_names f)) ++ rest))
-    (typed_parameters naming (bind_names (section_names f) (a_variable s) (typed_by_name noted)) (j + constructors (section_type f)) fs)
-    (typed_parameters as_labels (bind_names (label_names (as_label naming) k (section_names f)) (a_variable s) (typed_by_ordinal noted)) (j + constructors (section_type f)) (relabel_sections naming (as_label naming) (declare_names k (section_names f) (typed_scope noted)) (after_names k (section_names f)) fs))
-    (typed_moved naming (λ scope a b. Agree (λ ps. ps) (label_typed (after_names k (section_names f))) (λ ps. typed_names ps ≡ formal_names fs) (typed_parameters naming a (j + constructors (section_type f)) fs)
-    (typed_parameters as_labels b (j + constructors (section_type f)) (relabel_sections naming (as_label naming) scope (after_names k (section_names f)) fs)))
+    (λ s. agree-then (λ ps. ps) (label_typed (ordinal_after_names k (section_names f))) (λ ps. typed_names ps ≡ formal_names fs) (λ ps. ps) (label_typed k) (λ ps. typed_names ps ≡ section_names f ++ formal_names fs)
+    (λ rest. Some (map (typed_parameter record { mode = (section_mode f); shape = s }) (section_names f) ++ rest)) (λ rest. Some (map (typed_parameter record { mode = (section_mode f); shape = s }) (label_names (label_from_ordinal naming) k (section_names f)) ++ rest))
+    (typed_parameters naming (bind_names (section_names f) (a_variable s) (typed_by_name noted)) (j + constructor_count (section_type f)) fs)
+    (typed_parameters naming_by_label (bind_names (label_names (label_from_ordinal naming) k (section_names f)) (a_variable s) (typed_by_ordinal noted)) (j + constructor_count (section_type f)) (relabel_sections naming (label_from_ordinal naming) (declare_names k (section_names f) (typed_scope noted)) (ordinal_after_names k (section_names f)) fs))
+    (typed_moved naming (λ scope a b. Agree (λ ps. ps) (label_typed (ordinal_after_names k (section_names f))) (λ ps. typed_names ps ≡ formal_names fs) (typed_parameters naming a (j + constructor_count (section_type f)) fs)
+    (typed_parameters naming_by_label b (j + constructor_count (section_type f)) (relabel_sections naming (label_from_ordinal naming) scope (ordinal_after_names k (section_names f)) fs)))
     k (section_names f) (a_variable s) noted below
-    (parameters_typed naming (j + constructors (section_type f)) (after_names k (section_names f)) (noted_names k (section_names f) (a_variable s) noted) (noted_names-within k (section_names f) (a_variable s) noted below).1 fs))
+    (parameters_typed naming (j + constructor_count (section_type f)) (ordinal_after_names k (section_names f)) (noted_names k (section_names f) (a_variable s) noted) (noted_names-within k (section_names f) (a_variable s) noted below).1 fs))
     (λ rest e. (
       Some (map (typed_parameter record { mode = (section_mode f); shape = s }) (section_names f) ++ rest),
       refl,
@@ -221,15 +221,15 @@ abbrev pub noted_parameters : {N : Type 0} → ℕ → List (TypedParameter N) �
 noted_parameters k [] noted = noted
 noted_parameters k (p ∷ ps) noted = noted_parameters (suc k) ps (record { name = p.name; ordinal = k; object = a_variable p.formal.shape } ∷ noted)
 
-pub bind_typed-by_name : {N : Type 0} (k : ℕ) (ps : List (TypedParameter N)) (noted : TypeNoted N) → bind_typed ps (typed_by_name noted) ≡ typed_by_name (noted_parameters k ps noted)
-bind_typed-by_name k [] noted = refl
-bind_typed-by_name k (p ∷ ps) noted = bind_typed-by_name (suc k) ps (record { name = p.name; ordinal = k; object = a_variable p.formal.shape } ∷ noted)
+pub bind_typed_parameters-by_name : {N : Type 0} (k : ℕ) (ps : List (TypedParameter N)) (noted : TypeNoted N) → bind_typed_parameters ps (typed_by_name noted) ≡ typed_by_name (noted_parameters k ps noted)
+bind_typed_parameters-by_name k [] noted = refl
+bind_typed_parameters-by_name k (p ∷ ps) noted = bind_typed_parameters-by_name (suc k) ps (record { name = p.name; ordinal = k; object = a_variable p.formal.shape } ∷ noted)
 
-pub bind_typed-by_ordinal : {N : Type 0} (k : ℕ) (ps : List (TypedParameter N)) (noted : TypeNoted N) → bind_typed (label_typed k ps) (typed_by_ordinal noted) ≡ typed_by_ordinal (noted_parameters k ps noted)
-bind_typed-by_ordinal k [] noted = refl
-bind_typed-by_ordinal k (p ∷ ps) noted = bind_typed-by_ordinal (suc k) ps (record { name = p.name; ordinal = k; object = a_variable p.formal.shape } ∷ noted)
+pub bind_typed_parameters-by_ordinal : {N : Type 0} (k : ℕ) (ps : List (TypedParameter N)) (noted : TypeNoted N) → bind_typed_parameters (label_typed k ps) (typed_by_ordinal noted) ≡ typed_by_ordinal (noted_parameters k ps noted)
+bind_typed_parameters-by_ordinal k [] noted = refl
+bind_typed_parameters-by_ordinal k (p ∷ ps) noted = bind_typed_parameters-by_ordinal (suc k) ps (record { name = p.name; ordinal = k; object = a_variable p.formal.shape } ∷ noted)
 
-pub noted_parameters-within : {N : Type 0} (k : ℕ) (ps : List (TypedParameter N)) (noted : TypeNoted N) → TypedBelow k noted → TypedWithin (after_names k (typed_names ps)) (declare_names k (typed_names ps) (typed_scope noted)) (noted_parameters k ps noted)
+pub noted_parameters-within : {N : Type 0} (k : ℕ) (ps : List (TypedParameter N)) (noted : TypeNoted N) → TypedBelow k noted → TypedWithin (ordinal_after_names k (typed_names ps)) (declare_names k (typed_names ps) (typed_scope noted)) (noted_parameters k ps noted)
 noted_parameters-within k [] noted below = (refl, below)
 noted_parameters-within k (p ∷ ps) noted below = noted_parameters-within (suc k) ps (record { name = p.name; ordinal = k; object = a_variable p.formal.shape } ∷ noted) (le_refl (suc k), below)
 
@@ -240,110 +240,110 @@ label_typed-formals k (p ∷ ps) = λ i. p.formal ∷ label_typed-formals (suc k
 -- Two tests agree after optional values that agree.
 
 pub hold-agrees : {X Y Z : Type 0} (p : X → Y) (q : X → Z) (P : X → Type 0) (r : Option Y) (s : Option Z) (here : Y → Bool) (there : Z → Bool)
-    → Agree p q P r s → ((x : X) → P x → there (q x) ≡ here (p x)) → some_and s there ≡ some_and r here
+    → Agree p q P r s → ((x : X) → P x → there (q x) ≡ here (p x)) → some_satisfies s there ≡ some_satisfies r here
 hold-agrees p q P r s here there (a, e, e', holds) next =
-    ap (λ s. some_and s there) e' ∙ (go a holds ∙ sym (ap (λ r. some_and r here) e))
+    ap (λ s. some_satisfies s there) e' ∙ (go a holds ∙ sym (ap (λ r. some_satisfies r here) e))
   where
-    go : (a : Option _) → HoldsOf P a → some_and (option_map q a) there ≡ some_and (option_map p a) here
+    go : (a : Option _) → HoldsOf P a → some_satisfies (option_map q a) there ≡ some_satisfies (option_map p a) here
     go None holds = refl
     go (Some x) holds = next x holds
 
 pub firsts_typed : {N : Type 0} (naming : Naming N) (j k : ℕ) (noted : TypeNoted N) → TypedBelow k noted → (b : Tree N block)
-    → Agree typed_by_name typed_by_ordinal (TypedWithin (first_variable k b) (variables_scope k b (typed_scope noted)))
-    (declare_first naming (typed_by_name noted) j b) (declare_first as_labels (typed_by_ordinal noted) j (relabel_block naming (as_label naming) (typed_scope noted) k b))
+    → Agree typed_by_name typed_by_ordinal (TypedWithin (first_variable_ordinal k b) (variables_scope k b (typed_scope noted)))
+    (declare_first naming (typed_by_name noted) j b) (declare_first naming_by_label (typed_by_ordinal noted) j (relabel_block naming (label_from_ordinal naming) (typed_scope noted) k b))
 unfolding declare_first
 firsts_typed {N} naming j k noted below (has_body (declares cs ts vs ps) statements) =
     let b : Tree N block = has_body (declares cs ts vs ps) statements in
-    subst₂ (λ u v. Agree typed_by_name typed_by_ordinal (TypedWithin (first_variable k b) (variables_scope k b (typed_scope noted)))
-    (declare_first naming (typed_by_name noted) j b) (option_and_then (λ env. declare_types as_labels env j v) (declare_constants as_labels (typed_by_ordinal noted) u)))
-    (sym (constants-section naming (as_label naming) (typed_scope noted) k cs))
-    (sym (types-section naming (as_label naming) (types_scope k b (typed_scope noted)) (first_type k b) ts))
-    (agree-then typed_by_name typed_by_ordinal (TypedWithin (first_type k b) (types_scope k b (typed_scope noted))) typed_by_name typed_by_ordinal (TypedWithin (first_variable k b) (variables_scope k b (typed_scope noted)))
-    (λ env. declare_types naming env j (section_types ts)) (λ env. declare_types as_labels env j (relabel_types naming (as_label naming) (types_scope k b (typed_scope noted)) (first_type k b) (section_types ts)))
-    (declare_constants naming (typed_by_name noted) (section_constants cs)) (declare_constants as_labels (typed_by_ordinal noted) (relabel_constants naming (as_label naming) (typed_scope noted) k (section_constants cs)))
+    subst₂ (λ u v. Agree typed_by_name typed_by_ordinal (TypedWithin (first_variable_ordinal k b) (variables_scope k b (typed_scope noted)))
+    (declare_first naming (typed_by_name noted) j b) (option_and_then (λ env. declare_types naming_by_label env j v) (declare_constants naming_by_label (typed_by_ordinal noted) u)))
+    (sym (constants-section naming (label_from_ordinal naming) (typed_scope noted) k cs))
+    (sym (types-section naming (label_from_ordinal naming) (types_scope k b (typed_scope noted)) (first_type_ordinal k b) ts))
+    (agree-then typed_by_name typed_by_ordinal (TypedWithin (first_type_ordinal k b) (types_scope k b (typed_scope noted))) typed_by_name typed_by_ordinal (TypedWithin (first_variable_ordinal k b) (variables_scope k b (typed_scope noted)))
+    (λ env. declare_types naming env j (section_types ts)) (λ env. declare_types naming_by_label env j (relabel_types naming (label_from_ordinal naming) (types_scope k b (typed_scope noted)) (first_type_ordinal k b) (section_types ts)))
+    (declare_constants naming (typed_by_name noted) (section_constants cs)) (declare_constants naming_by_label (typed_by_ordinal noted) (relabel_constants naming (label_from_ordinal naming) (typed_scope noted) k (section_constants cs)))
     (constants_typed naming k noted below (section_constants cs))
-    (λ inner within. subst (λ s. Agree typed_by_name typed_by_ordinal (TypedWithin (first_variable k b) (declare_names (first_type k b) (named_types (section_types ts)) s))
-    (declare_types naming (typed_by_name inner) j (section_types ts)) (declare_types as_labels (typed_by_ordinal inner) j (relabel_types naming (as_label naming) s (first_type k b) (section_types ts))))
-    within.0 (types_typed naming j (first_type k b) inner within.1 (section_types ts))))
+    (λ inner within. subst (λ s. Agree typed_by_name typed_by_ordinal (TypedWithin (first_variable_ordinal k b) (declare_names (first_type_ordinal k b) (declared_type_names (section_types ts)) s))
+    (declare_types naming (typed_by_name inner) j (section_types ts)) (declare_types naming_by_label (typed_by_ordinal inner) j (relabel_types naming (label_from_ordinal naming) s (first_type_ordinal k b) (section_types ts))))
+    within.0 (types_typed naming j (first_type_ordinal k b) inner within.1 (section_types ts))))
 
 -- A block's constants, types and variables have the same bindings by names and by ordinals.
 pub declarations_typed : {N : Type 0} (naming : Naming N) (j k : ℕ) (noted : TypeNoted N) → TypedBelow k noted → (b : Tree N block)
-    → Agree typed_by_name typed_by_ordinal (TypedWithin (first_procedure k b) (procedures_scope k b (typed_scope noted)))
-    (option_and_then (declare_typed naming (after_types j b) (block_variables b)) (declare_first naming (typed_by_name noted) j b))
-    (option_and_then (declare_typed as_labels (after_types j (relabel_block naming (as_label naming) (typed_scope noted) k b)) (block_variables (relabel_block naming (as_label naming) (typed_scope noted) k b)))
-    (declare_first as_labels (typed_by_ordinal noted) j (relabel_block naming (as_label naming) (typed_scope noted) k b)))
+    → Agree typed_by_name typed_by_ordinal (TypedWithin (first_procedure_ordinal k b) (procedures_scope k b (typed_scope noted)))
+    (option_and_then (declare_typed naming (constructor_after_types j b) (block_variables b)) (declare_first naming (typed_by_name noted) j b))
+    (option_and_then (declare_typed naming_by_label (constructor_after_types j (relabel_block naming (label_from_ordinal naming) (typed_scope noted) k b)) (block_variables (relabel_block naming (label_from_ordinal naming) (typed_scope noted) k b)))
+    (declare_first naming_by_label (typed_by_ordinal noted) j (relabel_block naming (label_from_ordinal naming) (typed_scope noted) k b)))
 declarations_typed {N} naming j k noted below (has_body (declares cs ts vs ps) statements) =
     let b : Tree N block = has_body (declares cs ts vs ps) statements in
     let scope : Scope N = typed_scope noted in
-    subst₂ (λ n gs. Agree typed_by_name typed_by_ordinal (TypedWithin (first_procedure k b) (procedures_scope k b scope))
-    (option_and_then (declare_typed naming (after_types j b) (section_variables vs)) (declare_first naming (typed_by_name noted) j b))
-    (option_and_then (declare_typed as_labels (j + n) gs) (declare_first as_labels (typed_by_ordinal noted) j (relabel_block naming (as_label naming) scope k b))))
-    (sym (ap types_constructors (types-section naming (as_label naming) (types_scope k b scope) (first_type k b) ts) ∙ types_constructors-relabel naming (as_label naming) (types_scope k b scope) (first_type k b) (section_types ts)))
-    (sym (variables-section naming (as_label naming) (variables_scope k b scope) (first_variable k b) vs))
-    (agree-then typed_by_name typed_by_ordinal (TypedWithin (first_variable k b) (variables_scope k b scope)) typed_by_name typed_by_ordinal (TypedWithin (first_procedure k b) (procedures_scope k b scope))
-    (declare_typed naming (after_types j b) (section_variables vs)) (declare_typed as_labels (after_types j b) (relabel_variables naming (as_label naming) (variables_scope k b scope) (first_variable k b) (section_variables vs)))
-    (declare_first naming (typed_by_name noted) j b) (declare_first as_labels (typed_by_ordinal noted) j (relabel_block naming (as_label naming) scope k b))
+    subst₂ (λ n gs. Agree typed_by_name typed_by_ordinal (TypedWithin (first_procedure_ordinal k b) (procedures_scope k b scope))
+    (option_and_then (declare_typed naming (constructor_after_types j b) (section_variables vs)) (declare_first naming (typed_by_name noted) j b))
+    (option_and_then (declare_typed naming_by_label (j + n) gs) (declare_first naming_by_label (typed_by_ordinal noted) j (relabel_block naming (label_from_ordinal naming) scope k b))))
+    (sym (ap types_constructor_count (types-section naming (label_from_ordinal naming) (types_scope k b scope) (first_type_ordinal k b) ts) ∙ types_constructor_count-relabel naming (label_from_ordinal naming) (types_scope k b scope) (first_type_ordinal k b) (section_types ts)))
+    (sym (variables-section naming (label_from_ordinal naming) (variables_scope k b scope) (first_variable_ordinal k b) vs))
+    (agree-then typed_by_name typed_by_ordinal (TypedWithin (first_variable_ordinal k b) (variables_scope k b scope)) typed_by_name typed_by_ordinal (TypedWithin (first_procedure_ordinal k b) (procedures_scope k b scope))
+    (declare_typed naming (constructor_after_types j b) (section_variables vs)) (declare_typed naming_by_label (constructor_after_types j b) (relabel_variables naming (label_from_ordinal naming) (variables_scope k b scope) (first_variable_ordinal k b) (section_variables vs)))
+    (declare_first naming (typed_by_name noted) j b) (declare_first naming_by_label (typed_by_ordinal noted) j (relabel_block naming (label_from_ordinal naming) scope k b))
     (firsts_typed naming j k noted below b)
-    (λ inner within. subst (λ s. Agree typed_by_name typed_by_ordinal (TypedWithin (first_procedure k b) (declare_names (first_variable k b) (variable_names (section_variables vs)) s))
-    (declare_typed naming (after_types j b) (section_variables vs) (typed_by_name inner)) (declare_typed as_labels (after_types j b) (relabel_variables naming (as_label naming) s (first_variable k b) (section_variables vs)) (typed_by_ordinal inner)))
-    within.0 (variables_typed naming (after_types j b) (first_variable k b) inner within.1 (section_variables vs))))
+    (λ inner within. subst (λ s. Agree typed_by_name typed_by_ordinal (TypedWithin (first_procedure_ordinal k b) (declare_names (first_variable_ordinal k b) (variable_names (section_variables vs)) s))
+    (declare_typed naming (constructor_after_types j b) (section_variables vs) (typed_by_name inner)) (declare_typed naming_by_label (constructor_after_types j b) (relabel_variables naming (label_from_ordinal naming) s (first_variable_ordinal k b) (section_variables vs)) (typed_by_ordinal inner)))
+    within.0 (variables_typed naming (constructor_after_types j b) (first_variable_ordinal k b) inner within.1 (section_variables vs))))
 
-pub body_fits-agrees : {N : Type 0} (naming : Naming N) (n : ℕ) (noted : TypeNoted N) → TypedBelow n noted → (statements : Tree N (maybe body)) → body_fits as_labels (typed_by_ordinal noted) (with_names (typed_label naming noted) (as_label naming None) statements) ≡ body_fits naming (typed_by_name noted) statements
+pub body_fits-agrees : {N : Type 0} (naming : Naming N) (n : ℕ) (noted : TypeNoted N) → TypedBelow n noted → (statements : Tree N (maybe body)) → body_fits naming_by_label (typed_by_ordinal noted) (map_names (typed_label naming noted) (label_from_ordinal naming None) statements) ≡ body_fits naming (typed_by_name noted) statements
 unfolding body_fits
 body_fits-agrees naming n noted below none = refl
 body_fits-agrees naming n noted below (one (begins statements)) =
-    sequence_fits-map (typed_label naming noted) (as_label naming None) (meanings as_labels (typed_by_ordinal noted)) statements
+    sequence_fits-map (typed_label naming noted) (label_from_ordinal naming None) (meanings naming_by_label (typed_by_ordinal noted)) statements
     ∙ (λ i. sequence_fits (record { object_for = λ x. typed_meanings-agree naming n noted below x i; written = naming.written }) statements)
 
 mutual
   unfolding block_fits
 
-  pub block_fits-agrees : {N : Type 0} (naming : Naming N) (j k : ℕ) (noted : TypeNoted N) → TypedBelow k noted → (b : Tree N block) → block_fits as_labels (typed_by_ordinal noted) j (relabel_block naming (as_label naming) (typed_scope noted) k b) ≡ block_fits naming (typed_by_name noted) j b
+  pub block_fits-agrees : {N : Type 0} (naming : Naming N) (j k : ℕ) (noted : TypeNoted N) → TypedBelow k noted → (b : Tree N block) → block_fits naming_by_label (typed_by_ordinal noted) j (relabel_block naming (label_from_ordinal naming) (typed_scope noted) k b) ≡ block_fits naming (typed_by_name noted) j b
   block_fits-agrees {N} naming j k noted below (has_body (declares cs ts vs ps) statements) =
       let b : Tree N block = has_body (declares cs ts vs ps) statements in
-      hold-agrees typed_by_name typed_by_ordinal (TypedWithin (first_procedure k b) (procedures_scope k b (typed_scope noted)))
-      (option_and_then (declare_typed naming (after_types j b) (section_variables vs)) (declare_first naming (typed_by_name noted) j b))
-      (option_and_then (declare_typed as_labels (after_types j (relabel_block naming (as_label naming) (typed_scope noted) k b)) (block_variables (relabel_block naming (as_label naming) (typed_scope noted) k b)))
-      (declare_first as_labels (typed_by_ordinal noted) j (relabel_block naming (as_label naming) (typed_scope noted) k b)))
-      (λ inner. procedures_fit naming inner (after_variables j b) statements ps)
-      (λ inner. procedures_fit as_labels inner (after_variables j (relabel_block naming (as_label naming) (typed_scope noted) k b)) (relabel_uses naming (as_label naming) (body_scope k b (typed_scope noted)) statements)
-      (relabel_procedures naming (as_label naming) (procedures_scope k b (typed_scope noted)) (first_procedure k b) ps))
+      hold-agrees typed_by_name typed_by_ordinal (TypedWithin (first_procedure_ordinal k b) (procedures_scope k b (typed_scope noted)))
+      (option_and_then (declare_typed naming (constructor_after_types j b) (section_variables vs)) (declare_first naming (typed_by_name noted) j b))
+      (option_and_then (declare_typed naming_by_label (constructor_after_types j (relabel_block naming (label_from_ordinal naming) (typed_scope noted) k b)) (block_variables (relabel_block naming (label_from_ordinal naming) (typed_scope noted) k b)))
+      (declare_first naming_by_label (typed_by_ordinal noted) j (relabel_block naming (label_from_ordinal naming) (typed_scope noted) k b)))
+      (λ inner. procedures_fit naming inner (constructor_after_variables j b) statements ps)
+      (λ inner. procedures_fit naming_by_label inner (constructor_after_variables j (relabel_block naming (label_from_ordinal naming) (typed_scope noted) k b)) (relabel_uses naming (label_from_ordinal naming) (body_scope k b (typed_scope noted)) statements)
+      (relabel_procedures naming (label_from_ordinal naming) (procedures_scope k b (typed_scope noted)) (first_procedure_ordinal k b) ps))
       (declarations_typed naming j k noted below b)
-      (λ inner within. (λ i. procedures_fit as_labels (typed_by_ordinal inner)
-      (j + (ap types_constructors (types-section naming (as_label naming) (types_scope k b (typed_scope noted)) (first_type k b) ts) ∙ types_constructors-relabel naming (as_label naming) (types_scope k b (typed_scope noted)) (first_type k b) (section_types ts)) i
-      + (ap variables_constructors (variables-section naming (as_label naming) (variables_scope k b (typed_scope noted)) (first_variable k b) vs) ∙ variables_constructors-relabel naming (as_label naming) (variables_scope k b (typed_scope noted)) (first_variable k b) (section_variables vs)) i)
-      (relabel_uses naming (as_label naming) (declare_procedure_names (first_procedure k b) ps (sym within.0 i)) statements) (relabel_procedures naming (as_label naming) (sym within.0 i) (first_procedure k b) ps))
-      ∙ procedures_fit-agrees naming (after_variables j b) (first_procedure k b) inner within.1 statements ps)
+      (λ inner within. (λ i. procedures_fit naming_by_label (typed_by_ordinal inner)
+      (j + (ap types_constructor_count (types-section naming (label_from_ordinal naming) (types_scope k b (typed_scope noted)) (first_type_ordinal k b) ts) ∙ types_constructor_count-relabel naming (label_from_ordinal naming) (types_scope k b (typed_scope noted)) (first_type_ordinal k b) (section_types ts)) i
+      + (ap variables_constructor_count (variables-section naming (label_from_ordinal naming) (variables_scope k b (typed_scope noted)) (first_variable_ordinal k b) vs) ∙ variables_constructor_count-relabel naming (label_from_ordinal naming) (variables_scope k b (typed_scope noted)) (first_variable_ordinal k b) (section_variables vs)) i)
+      (relabel_uses naming (label_from_ordinal naming) (declare_procedure_names (first_procedure_ordinal k b) ps (sym within.0 i)) statements) (relabel_procedures naming (label_from_ordinal naming) (sym within.0 i) (first_procedure_ordinal k b) ps))
+      ∙ procedures_fit-agrees naming (constructor_after_variables j b) (first_procedure_ordinal k b) inner within.1 statements ps)
 
   pub procedures_fit-agrees : {N : Type 0} (naming : Naming N) (j k : ℕ) (noted : TypeNoted N) → TypedBelow k noted → (statements : Tree N (maybe body)) (ps : Tree N (items procedure))
-      → procedures_fit as_labels (typed_by_ordinal noted) j (relabel_uses naming (as_label naming) (declare_procedure_names k ps (typed_scope noted)) statements) (relabel_procedures naming (as_label naming) (typed_scope noted) k ps)
+      → procedures_fit naming_by_label (typed_by_ordinal noted) j (relabel_uses naming (label_from_ordinal naming) (declare_procedure_names k ps (typed_scope noted)) statements) (relabel_procedures naming (label_from_ordinal naming) (typed_scope noted) k ps)
       ≡ procedures_fit naming (typed_by_name noted) j statements ps
   procedures_fit-agrees naming j k noted below statements end = body_fits-agrees naming k noted below statements
   procedures_fit-agrees {N} naming j k noted below statements (more (declares_procedure x fs b closing) rest) =
       let p : Tree N (item procedure) = declares_procedure x fs b closing in
       let scope : Scope N = typed_scope noted in
-      let labelled : formal_sections (relabel_formals naming (as_label naming) scope (suc k) fs) ≡ relabel_sections naming (as_label naming) scope (suc k) (formal_sections fs) = formals-section naming (as_label naming) scope (suc k) fs in
-      ap (λ gs. some_and (typed_parameters as_labels (typed_by_ordinal noted) j gs) (λ ps. procedure_fits as_labels (bind_typed ps (heading (declared k) ps (typed_by_ordinal noted))) j (relabel_procedure naming (as_label naming) scope k p)
-      && procedures_fit as_labels (heading (declared k) ps (typed_by_ordinal noted)) (j + procedure_constructors (relabel_procedure naming (as_label naming) scope k p)) (relabel_uses naming (as_label naming) (declare_procedure_names (after_procedure (suc k) p) rest ((x, k) ∷ scope)) statements) (relabel_procedures naming (as_label naming) ((x, k) ∷ scope) (after_procedure (suc k) p) rest))) labelled
+      let labelled : formal_sections (relabel_formals naming (label_from_ordinal naming) scope (suc k) fs) ≡ relabel_sections naming (label_from_ordinal naming) scope (suc k) (formal_sections fs) = formals-section naming (label_from_ordinal naming) scope (suc k) fs in
+      ap (λ gs. some_satisfies (typed_parameters naming_by_label (typed_by_ordinal noted) j gs) (λ ps. procedure_fits naming_by_label (bind_typed_parameters ps (bind_procedure (declared k) ps (typed_by_ordinal noted))) j (relabel_procedure naming (label_from_ordinal naming) scope k p)
+      && procedures_fit naming_by_label (bind_procedure (declared k) ps (typed_by_ordinal noted)) (j + procedure_constructor_count (relabel_procedure naming (label_from_ordinal naming) scope k p)) (relabel_uses naming (label_from_ordinal naming) (declare_procedure_names (ordinal_after_procedure (suc k) p) rest ((x, k) ∷ scope)) statements) (relabel_procedures naming (label_from_ordinal naming) ((x, k) ∷ scope) (ordinal_after_procedure (suc k) p) rest))) labelled
       ∙ hold-agrees (λ ps. ps) (label_typed (suc k)) (λ ps. typed_names ps ≡ formal_names (formal_sections fs))
-      (typed_parameters naming (typed_by_name noted) j (formal_sections fs)) (typed_parameters as_labels (typed_by_ordinal noted) j (relabel_sections naming (as_label naming) scope (suc k) (formal_sections fs)))
-      (λ ps. procedure_fits naming (bind_typed ps (heading x ps (typed_by_name noted))) j p && procedures_fit naming (heading x ps (typed_by_name noted)) (j + procedure_constructors p) statements rest)
-      (λ ps. procedure_fits as_labels (bind_typed ps (heading (declared k) ps (typed_by_ordinal noted))) j (relabel_procedure naming (as_label naming) scope k p)
-      && procedures_fit as_labels (heading (declared k) ps (typed_by_ordinal noted)) (j + procedure_constructors (relabel_procedure naming (as_label naming) scope k p)) (relabel_uses naming (as_label naming) (declare_procedure_names (after_procedure (suc k) p) rest ((x, k) ∷ scope)) statements) (relabel_procedures naming (as_label naming) ((x, k) ∷ scope) (after_procedure (suc k) p) rest))
+      (typed_parameters naming (typed_by_name noted) j (formal_sections fs)) (typed_parameters naming_by_label (typed_by_ordinal noted) j (relabel_sections naming (label_from_ordinal naming) scope (suc k) (formal_sections fs)))
+      (λ ps. procedure_fits naming (bind_typed_parameters ps (bind_procedure x ps (typed_by_name noted))) j p && procedures_fit naming (bind_procedure x ps (typed_by_name noted)) (j + procedure_constructor_count p) statements rest)
+      (λ ps. procedure_fits naming_by_label (bind_typed_parameters ps (bind_procedure (declared k) ps (typed_by_ordinal noted))) j (relabel_procedure naming (label_from_ordinal naming) scope k p)
+      && procedures_fit naming_by_label (bind_procedure (declared k) ps (typed_by_ordinal noted)) (j + procedure_constructor_count (relabel_procedure naming (label_from_ordinal naming) scope k p)) (relabel_uses naming (label_from_ordinal naming) (declare_procedure_names (ordinal_after_procedure (suc k) p) rest ((x, k) ∷ scope)) statements) (relabel_procedures naming (label_from_ordinal naming) ((x, k) ∷ scope) (ordinal_after_procedure (suc k) p) rest))
       (parameters_typed naming j (suc k) noted (TypedBelow-weaken k (suc k) noted (le_of_lt (le_refl (suc k))) below) (formal_sections fs))
       (λ ps e.
       let own : TypeNoted N = record { name = x; ordinal = k; object = a_procedure (map (λ p. p.formal) ps) } ∷ noted in
-      let within : TypedWithin (after_names (suc k) (typed_names ps)) (declare_names (suc k) (typed_names ps) ((x, k) ∷ scope)) (noted_parameters (suc k) ps own) = noted_parameters-within (suc k) ps own (le_refl (suc k), below) in
-      let first : procedure_fits as_labels (bind_typed (label_typed (suc k) ps) (heading (declared k) (label_typed (suc k) ps) (typed_by_ordinal noted))) j (relabel_procedure naming (as_label naming) scope k p) ≡ procedure_fits naming (bind_typed ps (heading x ps (typed_by_name noted))) j p =
-      (λ i. block_fits as_labels ((ap (λ sig. bind_typed (label_typed (suc k) ps) ((declared k, a_procedure sig) ∷ typed_by_ordinal noted)) (label_typed-formals (suc k) ps) ∙ bind_typed-by_ordinal (suc k) ps own) i)
-      (j + (ap formals_constructors labelled ∙ formals_constructors-relabel naming (as_label naming) scope (suc k) (formal_sections fs)) i)
-      (relabel_block naming (as_label naming) ((ap (λ xs. declare_names (suc k) xs ((x, k) ∷ scope)) (sym e) ∙ sym within.0) i) (after_names (suc k) (sym e i)) b))
-      ∙ (block_fits-agrees naming (j + formals_constructors (formal_sections fs)) (after_names (suc k) (typed_names ps)) (noted_parameters (suc k) ps own) within.1 b
-      ∙ sym (ap (λ env. block_fits naming env (j + formals_constructors (formal_sections fs)) b) (bind_typed-by_name (suc k) ps own))) in
-      let second : procedures_fit as_labels (heading (declared k) (label_typed (suc k) ps) (typed_by_ordinal noted)) (j + procedure_constructors (relabel_procedure naming (as_label naming) scope k p)) (relabel_uses naming (as_label naming) (declare_procedure_names (after_procedure (suc k) p) rest ((x, k) ∷ scope)) statements) (relabel_procedures naming (as_label naming) ((x, k) ∷ scope) (after_procedure (suc k) p) rest)
-      ≡ procedures_fit naming (heading x ps (typed_by_name noted)) (j + procedure_constructors p) statements rest =
-      (λ i. procedures_fit as_labels ((declared k, a_procedure (label_typed-formals (suc k) ps i)) ∷ typed_by_ordinal noted) (j + procedure_constructors-relabel naming (as_label naming) scope k p i) (relabel_uses naming (as_label naming) (declare_procedure_names (after_procedure (suc k) p) rest ((x, k) ∷ scope)) statements) (relabel_procedures naming (as_label naming) ((x, k) ∷ scope) (after_procedure (suc k) p) rest))
-      ∙ procedures_fit-agrees naming (j + procedure_constructors p) (after_procedure (suc k) p) own (le-after_procedure (suc k) p, below) statements rest in
+      let within : TypedWithin (ordinal_after_names (suc k) (typed_names ps)) (declare_names (suc k) (typed_names ps) ((x, k) ∷ scope)) (noted_parameters (suc k) ps own) = noted_parameters-within (suc k) ps own (le_refl (suc k), below) in
+      let first : procedure_fits naming_by_label (bind_typed_parameters (label_typed (suc k) ps) (bind_procedure (declared k) (label_typed (suc k) ps) (typed_by_ordinal noted))) j (relabel_procedure naming (label_from_ordinal naming) scope k p) ≡ procedure_fits naming (bind_typed_parameters ps (bind_procedure x ps (typed_by_name noted))) j p =
+      (λ i. block_fits naming_by_label ((ap (λ sig. bind_typed_parameters (label_typed (suc k) ps) ((declared k, a_procedure sig) ∷ typed_by_ordinal noted)) (label_typed-formals (suc k) ps) ∙ bind_typed_parameters-by_ordinal (suc k) ps own) i)
+      (j + (ap formals_constructor_count labelled ∙ formals_constructor_count-relabel naming (label_from_ordinal naming) scope (suc k) (formal_sections fs)) i)
+      (relabel_block naming (label_from_ordinal naming) ((ap (λ xs. declare_names (suc k) xs ((x, k) ∷ scope)) (sym e) ∙ sym within.0) i) (ordinal_after_names (suc k) (sym e i)) b))
+      ∙ (block_fits-agrees naming (j + formals_constructor_count (formal_sections fs)) (ordinal_after_names (suc k) (typed_names ps)) (noted_parameters (suc k) ps own) within.1 b
+      ∙ sym (ap (λ env. block_fits naming env (j + formals_constructor_count (formal_sections fs)) b) (bind_typed_parameters-by_name (suc k) ps own))) in
+      let second : procedures_fit naming_by_label (bind_procedure (declared k) (label_typed (suc k) ps) (typed_by_ordinal noted)) (j + procedure_constructor_count (relabel_procedure naming (label_from_ordinal naming) scope k p)) (relabel_uses naming (label_from_ordinal naming) (declare_procedure_names (ordinal_after_procedure (suc k) p) rest ((x, k) ∷ scope)) statements) (relabel_procedures naming (label_from_ordinal naming) ((x, k) ∷ scope) (ordinal_after_procedure (suc k) p) rest)
+      ≡ procedures_fit naming (bind_procedure x ps (typed_by_name noted)) (j + procedure_constructor_count p) statements rest =
+      (λ i. procedures_fit naming_by_label ((declared k, a_procedure (label_typed-formals (suc k) ps i)) ∷ typed_by_ordinal noted) (j + procedure_constructor_count-relabel naming (label_from_ordinal naming) scope k p i) (relabel_uses naming (label_from_ordinal naming) (declare_procedure_names (ordinal_after_procedure (suc k) p) rest ((x, k) ∷ scope)) statements) (relabel_procedures naming (label_from_ordinal naming) ((x, k) ∷ scope) (ordinal_after_procedure (suc k) p) rest))
+      ∙ procedures_fit-agrees naming (j + procedure_constructor_count p) (ordinal_after_procedure (suc k) p) own (le-ordinal_after_procedure (suc k) p, below) statements rest in
       λ i. first i && second i)
 
 abbrev pub typed_outermost : {N : Type 0} → Naming N → TypeNoted N
@@ -352,7 +352,7 @@ typed_outermost naming =
     ∷ record { name = naming.predeclared 3; ordinal = 3; object = a_constant (truth false) } ∷ record { name = naming.predeclared 2; ordinal = 2; object = a_constant (truth true) }
     ∷ record { name = naming.predeclared 1; ordinal = 1; object = a_type boolean_shape } ∷ record { name = naming.predeclared 0; ordinal = 0; object = a_type integer_shape } ∷ []
 
-pub fits-relabel : {N : Type 0} (naming : Naming N) (m : Tree N module_text) → fits_over as_labels (relabelled naming (as_label naming) m) ≡ fits_over naming m
+pub fits-relabel : {N : Type 0} (naming : Naming N) (m : Tree N module_text) → fits_over naming_by_label (relabel_module naming (label_from_ordinal naming) m) ≡ fits_over naming m
 unfolding fits_over
 fits-relabel naming (is_module x b closing) =
     block_fits-agrees naming 0 7 (typed_outermost naming) (lit< tt, (lit< tt, (lit< tt, (lit< tt, (lit< tt, (lit< tt, (lit< tt, tt))))))) b

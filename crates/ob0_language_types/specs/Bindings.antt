@@ -3,25 +3,25 @@
 -- Rule: docs/LANGUAGE.md, Scopes 2 to 4.
 use Rattle.std.specs.Prelude.{ℕ, ◌+◌, ◌-◌, List, [], ◌++◌, length, take, Some, None, Option}
 use Rattle.ob0_tree.specs.Tree.{Tree, block, declares, declares_procedure, end, has_body, item, items, module_text, more, procedure}
-use Rattle.ob0_language_names.specs.Names.{Label, Name, Naming, as_labels, declared}
+use Rattle.ob0_language_names.specs.Names.{Label, Name, Naming, naming_by_label, declared}
 use Rattle.ob0_language_names.specs.Parts.{formal_sections, module_block}
 use Rattle.ob0_language_names.specs.Scopes.{numbered}
 use Rattle.ob0_language_types.specs.Declaring.{declare_block, declare_procedure}
-use Rattle.ob0_language_types.specs.Declarations.{after_variables, formals_constructors, procedure_constructors}
-use Rattle.ob0_language_types.specs.Environments.{from_binding, newest, outermost}
+use Rattle.ob0_language_types.specs.Declarations.{constructor_after_variables, formals_constructor_count, procedure_constructor_count}
+use Rattle.ob0_language_types.specs.Environments.{environment_from_binding, newest_object, outermost}
 use Rattle.ob0_language_types.specs.Expressions.{Object, a_variable}
-use Rattle.ob0_language_types.specs.WellTyped.{Signature, TypeEnvironment, bind_typed, heading, typed_parameters}
+use Rattle.ob0_language_types.specs.WellTyped.{Signature, TypeEnvironment, bind_typed_parameters, bind_procedure, typed_parameters}
 use Rattle.ob0_language_values.specs.Values.{Shape}
 
 -- Returns the bindings that the environment `now` has in addition to the earlier environment
 -- `before`. These are its first ones, because the newest come first.
-abbrev pub since : {A : Type 0} → List A → List A → List A
-since before now = take (length now - length before) now
+abbrev pub bindings_since : {A : Type 0} → List A → List A → List A
+bindings_since before now = take (length now - length before) now
 
 -- returns the list that a function makes from an optional value; empty for None
-abbrev pub for_some : {A B : Type 0} → Option A → (A → List B) → List B
-for_some None list = []
-for_some (Some a) list = list a
+abbrev pub list_if_some : {A B : Type 0} → Option A → (A → List B) → List B
+list_if_some None list = []
+list_if_some (Some a) list = list a
 
 -- Returns the bindings of a block: its constants, types, variables and procedures.
 unfoldable mutual
@@ -35,10 +35,10 @@ unfoldable mutual
       → Tree N block
       → TypeEnvironment N
   block_bindings naming env k (has_body (declares cs ts vs ps) statements) =
-      for_some (declare_block naming env k (has_body (declares cs ts vs ps) statements))
+      list_if_some (declare_block naming env k (has_body (declares cs ts vs ps) statements))
       (λ inner. procedures_bindings naming inner
-      (after_variables k (has_body (declares cs ts vs ps) statements)) ps
-      ++ since env inner)
+      (constructor_after_variables k (has_body (declares cs ts vs ps) statements)) ps
+      ++ bindings_since env inner)
 
   -- returns the bindings of procedures, beginning with the bindings of the last procedure; `k` is
   -- the ordinal of their first ARRAY or RECORD
@@ -50,8 +50,8 @@ unfoldable mutual
       → TypeEnvironment N
   procedures_bindings naming env k end = []
   procedures_bindings naming env k (more p rest) =
-      for_some (declare_procedure naming env k p) (λ later. procedures_bindings naming later
-      (k + procedure_constructors p) rest
+      list_if_some (declare_procedure naming env k p) (λ later. procedures_bindings naming later
+      (k + procedure_constructor_count p) rest
       ++ procedure_bindings naming env k p)
 
   -- returns the bindings of a procedure: its block's bindings, its parameters and its name; `k` is
@@ -63,10 +63,10 @@ unfoldable mutual
       → Tree N (item procedure)
       → TypeEnvironment N
   procedure_bindings naming env k (declares_procedure x fs b closing) =
-      for_some (typed_parameters naming env k (formal_sections fs))
-      (λ ps. block_bindings naming (bind_typed ps (heading x ps env))
-      (k + formals_constructors (formal_sections fs)) b
-      ++ bind_typed ps (heading x ps []))
+      list_if_some (typed_parameters naming env k (formal_sections fs))
+      (λ ps. block_bindings naming (bind_typed_parameters ps (bind_procedure x ps env))
+      (k + formals_constructor_count (formal_sections fs)) b
+      ++ bind_typed_parameters ps (bind_procedure x ps []))
 
 -- returns the bindings of the predeclared names and of a whole module
 abbrev pub module_bindings : {N : Type 0} → Naming N → Tree N module_text → TypeEnvironment N
@@ -74,15 +74,15 @@ module_bindings naming m =
     block_bindings naming (outermost naming) 0 (module_block m) ++ outermost naming
 
 -- returns the object in the newest binding of an ordinal; None if the ordinal isn't bound
-abbrev pub object_bound : TypeEnvironment Label → ℕ → Option (Object Shape Signature)
-object_bound bindings k = newest (from_binding as_labels bindings (declared k))
+abbrev pub bound_object : TypeEnvironment Label → ℕ → Option (Object Shape Signature)
+bound_object bindings k = newest_object (environment_from_binding naming_by_label bindings (declared k))
 
 -- Returns the object that the declaration with ordinal `k` makes. It is found in the bindings of the numbered tree, in
 -- which each name is its ordinal.
 abbrev pub declared_object : Tree Name module_text → ℕ → Option (Object Shape Signature)
-declared_object m k = object_bound (module_bindings as_labels (numbered m)) k
+declared_object m k = bound_object (module_bindings naming_by_label (numbered m)) k
 
 -- returns the type of a variable or parameter; None for any other object
-abbrev pub variable_of : {P : Type 0} → Option (Object Shape P) → Option Shape
-variable_of (Some (a_variable s)) = Some s
-variable_of _ = None
+abbrev pub variable_shape : {P : Type 0} → Option (Object Shape P) → Option Shape
+variable_shape (Some (a_variable s)) = Some s
+variable_shape _ = None

@@ -2,15 +2,15 @@
 -- Rule: docs/LANGUAGE.md, Scopes 2.
 use Rattle.std.specs.Prelude.{◌≡◌, ℕ, ◌+◌, List, [], ◌∷◌, ◌++◌, Some, All}
 use Rattle.ob0_tree.specs.Tree.{Tree, block, body, declares, declares_procedure, end, has_body, item, items, maybe, module_text, more, procedure}
-use Rattle.ob0_language_names.specs.Names.{Label, Name, Naming, as_labels}
+use Rattle.ob0_language_names.specs.Names.{Label, Name, Naming, naming_by_label}
 use Rattle.ob0_language_names.specs.Parts.{formal_sections, module_block, procedure_formals, procedure_name}
 use Rattle.ob0_language_names.specs.Scopes.{numbered}
-use Rattle.ob0_language_types.specs.Bindings.{declared_object, for_some, object_bound}
+use Rattle.ob0_language_types.specs.Bindings.{declared_object, list_if_some, bound_object}
 use Rattle.ob0_language_types.specs.Declaring.{declare_block}
-use Rattle.ob0_language_types.specs.Declarations.{after_variables, formals_constructors, procedure_constructors}
+use Rattle.ob0_language_types.specs.Declarations.{constructor_after_variables, formals_constructor_count, procedure_constructor_count}
 use Rattle.ob0_language_types.specs.Environments.{outermost}
 use Rattle.ob0_language_types.specs.Expressions.{Object}
-use Rattle.ob0_language_types.specs.WellTyped.{Signature, TypeEnvironment, TypedParameter, WellTyped, bind_typed, heading, typed_parameters}
+use Rattle.ob0_language_types.specs.WellTyped.{Signature, TypeEnvironment, TypedParameter, WellTyped, bind_typed_parameters, bind_procedure, typed_parameters}
 use Rattle.ob0_language_values.specs.Values.{Shape}
 
 -- the statements of a body, with the environment in which they are checked
@@ -31,9 +31,9 @@ unfoldable mutual
       → Tree N block
       → List (BodyAt N)
   block_bodies naming env k (has_body (declares cs ts vs ps) statements) =
-      for_some (declare_block naming env k (has_body (declares cs ts vs ps) statements))
+      list_if_some (declare_block naming env k (has_body (declares cs ts vs ps) statements))
       (λ inner. procedures_bodies naming inner
-      (after_variables k (has_body (declares cs ts vs ps) statements)) statements ps)
+      (constructor_after_variables k (has_body (declares cs ts vs ps) statements)) statements ps)
 
   -- returns the bodies of procedures in text order, and then the body of their block, whose
   -- statements are given; `k` is the ordinal of their first ARRAY or RECORD
@@ -47,10 +47,10 @@ unfoldable mutual
   procedures_bodies naming env k statements end =
       record { environment = env; statements = statements } ∷ []
   procedures_bodies naming env k statements (more p rest) =
-      for_some (typed_parameters naming env k (procedure_formals p))
-      (λ ps. procedure_bodies naming (bind_typed ps (heading (procedure_name p) ps env)) k p
-      ++ procedures_bodies naming (heading (procedure_name p) ps env)
-      (k + procedure_constructors p) statements rest)
+      list_if_some (typed_parameters naming env k (procedure_formals p))
+      (λ ps. procedure_bodies naming (bind_typed_parameters ps (bind_procedure (procedure_name p) ps env)) k p
+      ++ procedures_bodies naming (bind_procedure (procedure_name p) ps env)
+      (k + procedure_constructor_count p) statements rest)
 
   -- returns the bodies of a procedure's block, in an environment with the procedure's name and
   -- parameters; `k` is the ordinal of its first ARRAY or RECORD
@@ -61,7 +61,7 @@ unfoldable mutual
       → Tree N (item procedure)
       → List (BodyAt N)
   procedure_bodies naming env k (declares_procedure x fs b closing) =
-      block_bodies naming env (k + formals_constructors (formal_sections fs)) b
+      block_bodies naming env (k + formals_constructor_count (formal_sections fs)) b
 
 -- returns the bodies of a module, each with its environment
 abbrev pub module_bodies : {N : Type 0} → Naming N → Tree N module_text → List (BodyAt N)
@@ -79,9 +79,9 @@ abbrev mutual
       → Type 0
   BlockHas Q env k (has_body (declares cs ts vs ps) statements) =
       (inner : TypeEnvironment Label)
-      → declare_block as_labels env k (has_body (declares cs ts vs ps) statements) ≡ Some inner
+      → declare_block naming_by_label env k (has_body (declares cs ts vs ps) statements) ≡ Some inner
       → Q inner
-      × ProceduresHave Q inner (after_variables k (has_body (declares cs ts vs ps) statements)) ps
+      × ProceduresHave Q inner (constructor_after_variables k (has_body (declares cs ts vs ps) statements)) ps
 
   -- holds for procedures if `Q` holds within each one, after the earlier ones, and after all of
   -- them; `k` is the ordinal of their first ARRAY or RECORD
@@ -93,10 +93,10 @@ abbrev mutual
   ProceduresHave Q env k end = Q env
   ProceduresHave Q env k (more p rest) =
       (ps : List (TypedParameter Label))
-      → typed_parameters as_labels env k (procedure_formals p) ≡ Some ps
-      → Q (bind_typed ps (heading (procedure_name p) ps env))
-      × ProcedureHas Q (bind_typed ps (heading (procedure_name p) ps env)) k p
-      × ProceduresHave Q (heading (procedure_name p) ps env) (k + procedure_constructors p) rest
+      → typed_parameters naming_by_label env k (procedure_formals p) ≡ Some ps
+      → Q (bind_typed_parameters ps (bind_procedure (procedure_name p) ps env))
+      × ProcedureHas Q (bind_typed_parameters ps (bind_procedure (procedure_name p) ps env)) k p
+      × ProceduresHave Q (bind_procedure (procedure_name p) ps env) (k + procedure_constructor_count p) rest
 
   -- holds for a procedure if `Q` holds in its block; `k` is the ordinal of its first ARRAY or
   -- RECORD
@@ -106,12 +106,12 @@ abbrev mutual
       → Tree Label (item procedure)
       → Type 0
   ProcedureHas Q env k (declares_procedure x fs b closing) =
-      BlockHas Q env (k + formals_constructors (formal_sections fs)) b
+      BlockHas Q env (k + formals_constructor_count (formal_sections fs)) b
 
 -- If the statements of a well-typed module bind a name, they bind it to the object of its declaration.
-abbrev pub NamesAreDeclared : Type 0
-NamesAreDeclared =
+abbrev pub BindingsMatchDeclarations : Type 0
+BindingsMatchDeclarations =
     (m : Tree Name module_text) → WellTyped m
     → All (λ place. (k : ℕ) (o : Object Shape Signature)
-    → object_bound place.environment k ≡ Some o
-    → declared_object m k ≡ Some o) (module_bodies as_labels (numbered m))
+    → bound_object place.environment k ≡ Some o
+    → declared_object m k ≡ Some o) (module_bodies naming_by_label (numbered m))

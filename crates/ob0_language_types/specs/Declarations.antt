@@ -7,7 +7,7 @@ use Rattle.ob0_language_names.specs.Names.{Naming}
 use Rattle.ob0_language_names.specs.Parts.{block_constants, block_types, block_variables, formal_sections, procedure_formals, section_type, section_types, section_variables}
 use Rattle.ob0_language_types.specs.Environments.{Environment, meanings}
 use Rattle.ob0_language_types.specs.Expressions.{a_constant, a_type}
-use Rattle.ob0_language_types.specs.Typing.{constant_value, constructors, denoted, ◌>>=◌}
+use Rattle.ob0_language_types.specs.Typing.{constant_value, constructor_count, denoted, ◌>>=◌}
 
 -- Returns the environment with constants added, each after its right side. Returns None if a right
 -- side isn't a constant expression with a value.
@@ -34,7 +34,7 @@ unfolding denoted
 declare_types naming env k end = Some env
 declare_types naming env k (more (declares_type x u) ds) = do
   s ← denoted (meanings naming env) k u
-  declare_types naming ((x, a_type s) ∷ env) (k + constructors u) ds
+  declare_types naming ((x, a_type s) ∷ env) (k + constructor_count u) ds
 
 -- Returns the environment with a block's constants and then its types added. `k` is the ordinal of
 -- the block's first ARRAY or RECORD. Returns None if one of them has an error.
@@ -50,51 +50,51 @@ declare_first naming env k b = do
   declare_types naming with_constants k (block_types b)
 
 -- returns the number of words ARRAY and RECORD in declarations of types
-abbrev pub types_constructors : {N : Type 0} → Tree N (items type_name) → ℕ
-types_constructors end = 0
-types_constructors (more (declares_type x u) ds) = constructors u + types_constructors ds
+abbrev pub types_constructor_count : {N : Type 0} → Tree N (items type_name) → ℕ
+types_constructor_count end = 0
+types_constructor_count (more (declares_type x u) ds) = constructor_count u + types_constructor_count ds
 
 -- returns the number of words ARRAY and RECORD in declarations of variables
-abbrev pub variables_constructors : {N : Type 0} → Tree N (items variable) → ℕ
-variables_constructors end = 0
-variables_constructors (more (declares_variable ns u) gs) =
-    constructors u + variables_constructors gs
+abbrev pub variables_constructor_count : {N : Type 0} → Tree N (items variable) → ℕ
+variables_constructor_count end = 0
+variables_constructor_count (more (declares_variable ns u) gs) =
+    constructor_count u + variables_constructor_count gs
 
 -- returns the number of words ARRAY and RECORD in formal parameters
-abbrev pub formals_constructors : {N : Type 0} → Tree N (items further_section) → ℕ
-formals_constructors end = 0
-formals_constructors (more (then_section f) fs) =
-    constructors (section_type f) + formals_constructors fs
+abbrev pub formals_constructor_count : {N : Type 0} → Tree N (items further_section) → ℕ
+formals_constructor_count end = 0
+formals_constructor_count (more (then_section f) fs) =
+    constructor_count (section_type f) + formals_constructor_count fs
 
 -- Returns the number of words ARRAY and RECORD in a block, including its procedures.
 abbrev mutual
   -- returns the number of words ARRAY and RECORD in a block: in its types, variables and procedures
-  pub block_constructors : {N : Type 0} → Tree N block → ℕ
-  block_constructors (has_body (declares cs ts vs ps) statements) =
-      types_constructors (section_types ts)
-      + (variables_constructors (section_variables vs) + procedures_constructors ps)
+  pub block_constructor_count : {N : Type 0} → Tree N block → ℕ
+  block_constructor_count (has_body (declares cs ts vs ps) statements) =
+      types_constructor_count (section_types ts)
+      + (variables_constructor_count (section_variables vs) + procedures_constructor_count ps)
 
   -- returns the number of words ARRAY and RECORD in procedures
-  pub procedures_constructors : {N : Type 0} → Tree N (items procedure) → ℕ
-  procedures_constructors end = 0
-  procedures_constructors (more p rest) = procedure_constructors p + procedures_constructors rest
+  pub procedures_constructor_count : {N : Type 0} → Tree N (items procedure) → ℕ
+  procedures_constructor_count end = 0
+  procedures_constructor_count (more p rest) = procedure_constructor_count p + procedures_constructor_count rest
 
   -- returns the number of words ARRAY and RECORD in a procedure: in its parameters and its block
-  pub procedure_constructors : {N : Type 0} → Tree N (item procedure) → ℕ
-  procedure_constructors (declares_procedure x fs b closing) =
-      formals_constructors (formal_sections fs) + block_constructors b
+  pub procedure_constructor_count : {N : Type 0} → Tree N (item procedure) → ℕ
+  procedure_constructor_count (declares_procedure x fs b closing) =
+      formals_constructor_count (formal_sections fs) + block_constructor_count b
 
 -- returns the ordinal of the first ARRAY or RECORD after a block's types; `k` is the ordinal of the
 -- block's first ARRAY or RECORD
-abbrev pub after_types : {N : Type 0} → ℕ → Tree N block → ℕ
-after_types k b = k + types_constructors (block_types b)
+abbrev pub constructor_after_types : {N : Type 0} → ℕ → Tree N block → ℕ
+constructor_after_types k b = k + types_constructor_count (block_types b)
 
 -- returns the ordinal of the first ARRAY or RECORD after a block's variables; `k` is the ordinal of
 -- the block's first ARRAY or RECORD
-abbrev pub after_variables : {N : Type 0} → ℕ → Tree N block → ℕ
-after_variables k b = after_types k b + variables_constructors (block_variables b)
+abbrev pub constructor_after_variables : {N : Type 0} → ℕ → Tree N block → ℕ
+constructor_after_variables k b = constructor_after_types k b + variables_constructor_count (block_variables b)
 
 -- returns the ordinal of the first ARRAY or RECORD after a procedure's formal parameters; `k` is the
 -- ordinal of the procedure's first ARRAY or RECORD
-abbrev pub after_formals : {N : Type 0} → ℕ → Tree N (item procedure) → ℕ
-after_formals k p = k + formals_constructors (procedure_formals p)
+abbrev pub constructor_after_formals : {N : Type 0} → ℕ → Tree N (item procedure) → ℕ
+constructor_after_formals k p = k + formals_constructor_count (procedure_formals p)

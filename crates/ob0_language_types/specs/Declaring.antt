@@ -4,9 +4,9 @@ use Rattle.std.specs.Prelude.{ℕ, if◌then◌else◌, Some, None, Option}
 use Rattle.ob0_tree.specs.Tree.{Tree, block, item, procedure}
 use Rattle.ob0_language_names.specs.Names.{Naming}
 use Rattle.ob0_language_names.specs.Parts.{block_variables, procedure_formals, procedure_name}
-use Rattle.ob0_language_types.specs.Declarations.{after_types, declare_first}
+use Rattle.ob0_language_types.specs.Declarations.{constructor_after_types, declare_first}
 use Rattle.ob0_language_types.specs.Typing.{◌>>=◌}
-use Rattle.ob0_language_types.specs.WellTyped.{TypeEnvironment, bind_typed, declare_typed, heading, procedure_fits, typed_parameters}
+use Rattle.ob0_language_types.specs.WellTyped.{TypeEnvironment, bind_typed_parameters, declare_typed, bind_procedure, procedure_fits, typed_parameters}
 
 -- Returns the environment after a procedure, which binds the procedure's name, or None if the
 -- procedure isn't well-typed. `k` is the ordinal of its first ARRAY or RECORD.
@@ -19,8 +19,8 @@ unfoldable pub declare_procedure : {N : Type 0}
 unfolding typed_parameters procedure_fits
 declare_procedure naming env k p = do
   ps ← typed_parameters naming env k (procedure_formals p)
-  if procedure_fits naming (bind_typed ps (heading (procedure_name p) ps env)) k p
-      then Some (heading (procedure_name p) ps env)
+  if procedure_fits naming (bind_typed_parameters ps (bind_procedure (procedure_name p) ps env)) k p
+      then Some (bind_procedure (procedure_name p) ps env)
       else None
 
 -- Returns the environment after a block's constants, types and variables, or None if one of them
@@ -32,4 +32,4 @@ abbrev pub declare_block : {N : Type 0}
     → Tree N block
     → Option (TypeEnvironment N)
 declare_block naming env k b =
-    declare_first naming env k b >>= declare_typed naming (after_types k b) (block_variables b)
+    declare_first naming env k b >>= declare_typed naming (constructor_after_types k b) (block_variables b)

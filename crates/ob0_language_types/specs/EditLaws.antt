@@ -2,20 +2,20 @@
 -- Rule: none; laws of edits and types.
 use Rattle.std.specs.Prelude.{All, IsTrue, Some, codes, false, true, ℕ, ◌≡◌, ◌≢◌}
 use Rattle.ob0_tree.specs.Tree.{Tree, factor, module_text}
-use Rattle.ob0_language_names.specs.Elsewhere.{names_elsewhere}
-use Rattle.ob0_language_names.specs.Inlining.{Uses, inlined, inlined_everywhere, module_without}
+use Rattle.ob0_language_names.specs.NonFactorNames.{non_factor_names}
+use Rattle.ob0_language_names.specs.Inlining.{OccurrenceSet, inlined, inlined_everywhere, module_without}
 use Rattle.ob0_language_names.specs.Names.{Name, declared}
 use Rattle.ob0_language_names.specs.Occurrences.{Free, binds}
 use Rattle.ob0_language_names.specs.Scopes.{numbered, renamed}
-use Rattle.ob0_language_names.specs.SeenNames.{sees}
+use Rattle.ob0_language_names.specs.OccurrenceLookup.{resolve_at_occurrence}
 use Rattle.ob0_language_values.specs.Values.{Value, elements, fits, members, number, truth}
 use Rattle.ob0_language_types.specs.ConstantValues.{value_of_constant}
 use Rattle.ob0_language_types.specs.WellTyped.{WellTyped}
-use Rattle.ob0_language_types.specs.Written.{written_value}
+use Rattle.ob0_language_types.specs.Written.{value_literal}
 
 -- A well-typed module remains well-typed if a declaration is renamed to a free name.
-abbrev pub FreeKeepsWellTyped : Type 0
-FreeKeepsWellTyped =
+abbrev pub FreeRenamingKeepsWellTyped : Type 0
+FreeRenamingKeepsWellTyped =
     (m : Tree Name module_text) (d : ℕ) (new : Name)
     → Free m d new
     → WellTyped m
@@ -30,10 +30,10 @@ IsScalar (members k ms) = ⊥
 
 -- Holds if the word of a truth value, TRUE or FALSE, would mean the predeclared constant in place
 -- of an occurrence. Always holds for any other value.
-abbrev pub IsPredeclaredTruth : Tree Name module_text → ℕ → Value → Type 0
-IsPredeclaredTruth m occurrence (truth true) = sees m occurrence (codes "TRUE") ≡ Some 2
-IsPredeclaredTruth m occurrence (truth false) = sees m occurrence (codes "FALSE") ≡ Some 3
-IsPredeclaredTruth m occurrence _ = Unit {0}
+abbrev pub MeansPredeclaredTruth : Tree Name module_text → ℕ → Value → Type 0
+MeansPredeclaredTruth m occurrence (truth true) = resolve_at_occurrence m occurrence (codes "TRUE") ≡ Some 2
+MeansPredeclaredTruth m occurrence (truth false) = resolve_at_occurrence m occurrence (codes "FALSE") ≡ Some 3
+MeansPredeclaredTruth m occurrence _ = Unit {0}
 
 -- holds if `d` is the ordinal of a constant in a CONST section, `w` is its value, and the factor
 -- `v` writes this value
@@ -41,24 +41,24 @@ pub record IsConstantWritten
     (m : Tree Name module_text) (d : ℕ) (w : Value) (v : Tree Name factor) : Type 0 where
   pub value : value_of_constant m d ≡ Some w
   pub scalar : IsScalar w
-  pub literal : written_value w ≡ Some v
+  pub literal : value_literal w ≡ Some v
 
 -- Holds if each use is bound to the constant `d`. If `w` is a truth value, its word must also mean
 -- the predeclared constant in place of each use.
-pub record AreUsesOf (m : Tree Name module_text) (d : ℕ) (w : Value) (uses : Uses) : Type 0 where
+pub record AreUsesOf (m : Tree Name module_text) (d : ℕ) (w : Value) (uses : OccurrenceSet) : Type 0 where
   pub bound : (k : ℕ) → uses k ≡ true → binds m k ≡ Some d
-  pub seen : (k : ℕ) → uses k ≡ true → IsPredeclaredTruth m k w
+  pub seen : (k : ℕ) → uses k ≡ true → MeansPredeclaredTruth m k w
 
 -- A well-typed module remains well-typed if uses of a constant are replaced by its literal. The literal must have the
 -- constant's value at each of these uses.
 abbrev pub InliningKeepsWellTyped : Type 0
 InliningKeepsWellTyped =
-    (m : Tree Name module_text) (d : ℕ) (w : Value) (v : Tree Name factor) (uses : Uses)
+    (m : Tree Name module_text) (d : ℕ) (w : Value) (v : Tree Name factor) (uses : OccurrenceSet)
     → IsConstantWritten m d w v → AreUsesOf m d w uses → WellTyped m → WellTyped (inlined m uses v)
 
 -- A well-typed module remains well-typed without the declaration of a constant that no occurrence is bound to.
-abbrev pub LeavingOutKeepsWellTyped : Type 0
-LeavingOutKeepsWellTyped =
+abbrev pub RemovingUnusedKeepsWellTyped : Type 0
+RemovingUnusedKeepsWellTyped =
     (m : Tree Name module_text) (d : ℕ) (w : Value) (v : Tree Name factor)
     → IsConstantWritten m d w v
     → ((k : ℕ) → binds m k ≢ Some d)
@@ -71,15 +71,15 @@ abbrev pub InliningEverywhereKeepsWellTyped : Type 0
 InliningEverywhereKeepsWellTyped =
     (m : Tree Name module_text) (d : ℕ) (w : Value) (v : Tree Name factor)
     → IsConstantWritten m d w v
-    → ((k : ℕ) → binds m k ≡ Some d → IsPredeclaredTruth m k w)
+    → ((k : ℕ) → binds m k ≡ Some d → MeansPredeclaredTruth m k w)
     → WellTyped m
     → WellTyped (inlined_everywhere m d v)
 
 -- In a well-typed module each use of a constant is a whole factor. It isn't the name of a type, a
 -- called procedure or the target of an assignment, and it has no selectors.
-abbrev pub ConstantsAreAlone : Type 0
-ConstantsAreAlone =
+abbrev pub ConstantUsesAreFactors : Type 0
+ConstantUsesAreFactors =
     (m : Tree Name module_text) (d : ℕ) (w : Value) (v : Tree Name factor)
     → IsConstantWritten m d w v
     → WellTyped m
-    → All (λ l. l ≢ declared d) (names_elsewhere (numbered m))
+    → All (λ l. l ≢ declared d) (non_factor_names (numbered m))

@@ -3,11 +3,11 @@
 use Rattle.std.specs.Prelude.{true, false, List, [], ◌∷◌, ◌++◌, pos, negsuc, if◌then◌else◌, nat_lt, Some, Option}
 use Rattle.ob0_tree.specs.Tree.{Tree, addend, adds, compares, designator, end, expression, factor, field, index, integer, items, more, multiplier, multiplies, negation, none, one, parenthesised, product, relates, selector, simple, sum, term}
 use Rattle.ob0_language_names.specs.Names.{Name}
-use Rattle.ob0_language_values.specs.Values.{Index, Outcome, Place, Shape, Step, Store, Stuck, Value, add, add_is_settled, at_field, at_index, at_path, count_values, elements, ends, gives, multiply, multiply_is_settled, negate, number, or_stuck, part, read_place, relate, apply_sign, ◌>>=◌}
+use Rattle.ob0_language_values.specs.Values.{Index, Outcome, Place, Shape, Step, Store, Stuck, Value, add, add_short_circuits, at_field, at_index, value_at_path, count_values, elements, ends, gives, multiply, multiply_short_circuits, negate, number, or_stuck, part, read_place, relate, apply_sign, ◌>>=◌}
 
 -- the standard procedures
-pub data Standard : Type 0 where
-  reads writes writes_line : Standard
+pub data StandardProcedure : Type 0 where
+  reads writes writes_line : StandardProcedure
 
 -- the object that a name means; `V` is the type of the facts about a variable, and `P` the type of
 -- the facts about a procedure
@@ -16,7 +16,7 @@ pub data Object (V P : Type 0) : Type 0 where
   a_constant : Value → Object V P
   a_variable : V → Object V P
   a_procedure : P → Object V P
-  a_standard : Standard → Object V P
+  a_standard : StandardProcedure → Object V P
 
 -- the meanings of names at a place (None for an unbound name), and the spelling of fields
 pub record Meanings (N V P : Type 0) : Type 0 where
@@ -69,7 +69,7 @@ unfoldable mutual
       → Outcome Value
   evaluate_addends meaning store x end = gives x
   evaluate_addends meaning store x (more (adds o t) rest) = do
-    y ← elim (add_is_settled o x)
+    y ← elim (add_short_circuits o x)
         [ true ↦ gives x | false ↦ evaluate_term meaning store t >>= add o x ]
     evaluate_addends meaning store y rest
 
@@ -89,7 +89,7 @@ unfoldable mutual
       → Outcome Value
   evaluate_multipliers meaning store x end = gives x
   evaluate_multipliers meaning store x (more (multiplies o f) rest) = do
-    y ← elim (multiply_is_settled o x)
+    y ← elim (multiply_short_circuits o x)
         [ true ↦ gives x | false ↦ evaluate_factor meaning store f >>= multiply o x ]
     evaluate_multipliers meaning store y rest
 
@@ -98,7 +98,7 @@ unfoldable mutual
   evaluate_factor meaning store (designator x path) = do
     v ← object_value store (meaning.object_for x)
     steps ← follow meaning store v path
-    or_stuck (at_path steps v)
+    or_stuck (value_at_path steps v)
   evaluate_factor meaning store (integer n) = gives (number (pos n))
   evaluate_factor meaning store (parenthesised e) = evaluate meaning store e
   evaluate_factor meaning store (negation f) = evaluate_factor meaning store f >>= negate

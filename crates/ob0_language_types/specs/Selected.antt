@@ -11,5 +11,5 @@ selectors_in d = items_of selector_of (out-Designator d).selectors.items
 
 -- returns the result of an operation with two optional operands; None if an operand is missing or
 -- the operation has no result
-abbrev pub both : {A B C : Type 0} → (A → B → Option C) → Option A → Option B → Option C
-both operation a b = option_and_then (λ x. option_and_then (operation x) b) a
+abbrev pub apply_to_both : {A B C : Type 0} → (A → B → Option C) → Option A → Option B → Option C
+apply_to_both operation a b = option_and_then (λ x. option_and_then (operation x) b) a

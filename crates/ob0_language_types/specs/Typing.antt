@@ -11,7 +11,7 @@ use Rattle.ob0_tree.specs.declared.tree.MultiplyOperator.{MultiplyOperator}
 use Rattle.ob0_tree.specs.declared.tree.MultiplyOperator.TheVariants as multiply_operator
 use Rattle.ob0_tree.specs.Tree.{Tree, addend, adds, array_type, compares, designator, end, expression, factor, field, fields, further_fields, index, integer, items, more, multiplier, multiplies, named_type, negation, no_fields, none, one, parenthesised, product, record_type, relates, selector, simple, some_fields, sum, term, then_fields, written_type}
 use Rattle.ob0_language_names.specs.Names.{Name, same_name}
-use Rattle.ob0_language_names.specs.Parts.{names_listed}
+use Rattle.ob0_language_names.specs.Parts.{names_in_list}
 use Rattle.ob0_language_types.specs.Expressions.{Meanings, Object, a_constant, a_type, a_variable, evaluate}
 use Rattle.ob0_language_values.specs.Values.{FieldShapes, Outcome, Shape, Value, array_shape, boolean_shape, ends, gives, integer_shape, next_field_shape, no_field_shape, number, record_shape, truth}
 
@@ -24,20 +24,20 @@ abbrev pub ◌>>=◌ : {A B : Type 0} → Option A → (A → Option B) → Opti
 
 -- returns the type of a sum, a difference or an OR of operands with these types; None unless both
 -- are INTEGER, or BOOLEAN for OR
-abbrev pub add_type : AddOperator → Shape → Shape → Option Shape
-add_type add_operator.Add integer_shape integer_shape = Some integer_shape
-add_type add_operator.Subtract integer_shape integer_shape = Some integer_shape
-add_type add_operator.Or boolean_shape boolean_shape = Some boolean_shape
-add_type _ _ _ = None
+abbrev pub addition_type : AddOperator → Shape → Shape → Option Shape
+addition_type add_operator.Add integer_shape integer_shape = Some integer_shape
+addition_type add_operator.Subtract integer_shape integer_shape = Some integer_shape
+addition_type add_operator.Or boolean_shape boolean_shape = Some boolean_shape
+addition_type _ _ _ = None
 
 -- returns the type of a `*`, DIV, MOD or `&` of operands with these types; None unless both are
 -- INTEGER, or BOOLEAN for `&`
-abbrev pub multiply_type : MultiplyOperator → Shape → Shape → Option Shape
-multiply_type multiply_operator.Multiply integer_shape integer_shape = Some integer_shape
-multiply_type multiply_operator.Divide integer_shape integer_shape = Some integer_shape
-multiply_type multiply_operator.Modulo integer_shape integer_shape = Some integer_shape
-multiply_type multiply_operator.And boolean_shape boolean_shape = Some boolean_shape
-multiply_type _ _ _ = None
+abbrev pub multiplication_type : MultiplyOperator → Shape → Shape → Option Shape
+multiplication_type multiply_operator.Multiply integer_shape integer_shape = Some integer_shape
+multiplication_type multiply_operator.Divide integer_shape integer_shape = Some integer_shape
+multiplication_type multiply_operator.Modulo integer_shape integer_shape = Some integer_shape
+multiplication_type multiply_operator.And boolean_shape boolean_shape = Some boolean_shape
+multiplication_type _ _ _ = None
 
 -- Returns the type of a relation of operands with these types, which is BOOLEAN. `=` and `#`
 -- compare two INTEGER or two BOOLEAN, the other relations two INTEGER. Returns None for other
@@ -57,9 +57,9 @@ sign_type (Some sign.Minus) integer_shape = Some integer_shape
 sign_type _ _ = None
 
 -- returns the type of `~` before an operand of this type; None unless the operand is BOOLEAN
-abbrev pub complement_type : Shape → Option Shape
-complement_type boolean_shape = Some boolean_shape
-complement_type _ = None
+abbrev pub negation_type : Shape → Option Shape
+negation_type boolean_shape = Some boolean_shape
+negation_type _ = None
 
 -- returns the type of a scalar value, INTEGER or BOOLEAN (rule 7); None for an array or record
 abbrev pub value_type : Value → Option Shape
@@ -116,7 +116,7 @@ unfoldable mutual
   type_of_addends meaning x end = Some x
   type_of_addends meaning x (more (adds o t) rest) = do
     y ← type_of_term meaning t
-    z ← add_type o x y
+    z ← addition_type o x y
     type_of_addends meaning z rest
 
   -- returns the type of a term: its first factor, then the further factors
@@ -134,7 +134,7 @@ unfoldable mutual
   type_of_multipliers meaning x end = Some x
   type_of_multipliers meaning x (more (multiplies o f) rest) = do
     y ← type_of_factor meaning f
-    z ← multiply_type o x y
+    z ← multiplication_type o x y
     type_of_multipliers meaning z rest
 
   -- returns the type of a factor: a designator, an integer, an expression in parentheses or a negation
@@ -144,7 +144,7 @@ unfoldable mutual
     type_at meaning s path
   type_of_factor meaning (integer n) = Some integer_shape
   type_of_factor meaning (parenthesised e) = type_of meaning e
-  type_of_factor meaning (negation f) = type_of_factor meaning f >>= complement_type
+  type_of_factor meaning (negation f) = type_of_factor meaning f >>= negation_type
 
   -- returns the type of the part that selectors select from a value of type `s`
   pub type_at : {N P : Type 0} → Meanings N Shape P → Shape → Tree N (items selector) → Option Shape
@@ -164,8 +164,8 @@ constant_of _ = None
 
 -- returns the meanings of names in constant expressions, in which only constants have a meaning
 -- (rule 6)
-abbrev pub constants_only : {N V P W Q : Type 0} → Meanings N V P → Meanings N W Q
-constants_only meaning =
+abbrev pub constant_meanings : {N V P W Q : Type 0} → Meanings N V P → Meanings N W Q
+constant_meanings meaning =
     record {
       object_for
           = λ x. option_map a_constant (constant_of (meaning.object_for x));
@@ -173,17 +173,17 @@ constants_only meaning =
     }
 
 -- returns the value that an evaluation gives, or None if it ends the run
-abbrev pub given_value : Outcome Value → Option Value
-given_value (gives v) = Some v
-given_value (ends e) = None
+abbrev pub outcome_value : Outcome Value → Option Value
+outcome_value (gives v) = Some v
+outcome_value (ends e) = None
 
 -- Returns the value of a constant expression. The expression must have a type, and its evaluation, in which only
 -- constants have meanings, must not end with a fault. Otherwise returns None.
 unfoldable pub constant_value : {N V P : Type 0} → Meanings N V P → Tree N expression → Option Value
 unfolding type_of evaluate
 constant_value meaning e = do
-  s ← type_of {P = Unit {0}} (constants_only meaning) e
-  given_value (evaluate {P = Unit {0}} (constants_only meaning) [] e)
+  s ← type_of {P = Unit {0}} (constant_meanings meaning) e
+  outcome_value (evaluate {P = Unit {0}} (constant_meanings meaning) [] e)
 
 -- the greatest number of scalars in a type, which is also the greatest number of elements in an array
 abbrev pub max_scalars : ℕ
@@ -231,27 +231,27 @@ abbrev mutual
 
 -- returns the type if it has at most 65,536 scalars and its arrays and records are nested at most
 -- 100 deep, otherwise None
-abbrev pub within_limits : Shape → Option Shape
-within_limits s =
+abbrev pub check_limits : Shape → Option Shape
+check_limits s =
     if nat_le (scalars s) max_scalars && nat_le (depth s) max_depth then Some s else None
 
 -- Returns the number of words ARRAY and RECORD in a type's text.
 abbrev mutual
   -- returns the number of words ARRAY and RECORD in a type; a name counts 0, even if it means an array or a record
-  pub constructors : {N : Type 0} → Tree N written_type → ℕ
-  constructors (named_type x) = 0
-  constructors (array_type e t) = suc (constructors t)
-  constructors (record_type g rest) = suc (group_constructors g + groups_constructors rest)
+  pub constructor_count : {N : Type 0} → Tree N written_type → ℕ
+  constructor_count (named_type x) = 0
+  constructor_count (array_type e t) = suc (constructor_count t)
+  constructor_count (record_type g rest) = suc (group_constructor_count g + groups_constructor_count rest)
 
   -- returns the number of words ARRAY and RECORD in a group of fields, whose type is written once for all its names
-  pub group_constructors : {N : Type 0} → Tree N fields → ℕ
-  group_constructors no_fields = 0
-  group_constructors (some_fields ns t) = constructors t
+  pub group_constructor_count : {N : Type 0} → Tree N fields → ℕ
+  group_constructor_count no_fields = 0
+  group_constructor_count (some_fields ns t) = constructor_count t
 
   -- returns the number of words ARRAY and RECORD in further groups of fields
-  pub groups_constructors : {N : Type 0} → Tree N (items further_fields) → ℕ
-  groups_constructors end = 0
-  groups_constructors (more (then_fields g) rest) = group_constructors g + groups_constructors rest
+  pub groups_constructor_count : {N : Type 0} → Tree N (items further_fields) → ℕ
+  groups_constructor_count end = 0
+  groups_constructor_count (more (then_fields g) rest) = group_constructor_count g + groups_constructor_count rest
 
 -- returns the type that a type's name means; None for any other object
 abbrev pub type_of_name : {V P : Type 0} → Option (Object V P) → Option Shape
@@ -260,9 +260,9 @@ type_of_name _ = None
 
 -- returns the fields `rest` with fields of one type `s` put before them, one for each of these
 -- names
-abbrev pub with_fields : List Name → Shape → FieldShapes → FieldShapes
-with_fields [] s rest = rest
-with_fields (x ∷ xs) s rest = next_field_shape x s (with_fields xs s rest)
+abbrev pub prepend_fields : List Name → Shape → FieldShapes → FieldShapes
+prepend_fields [] s rest = rest
+prepend_fields (x ∷ xs) s rest = next_field_shape x s (prepend_fields xs s rest)
 
 -- Returns the type that a type's text denotes. Each word ARRAY and RECORD makes a new type, and `k` is the ordinal of
 -- the first one.
@@ -277,11 +277,11 @@ unfoldable mutual
     v ← constant_value meaning e
     n ← array_length v
     s ← denoted meaning (suc k) t
-    within_limits (array_shape k n s)
+    check_limits (array_shape k n s)
   denoted meaning k (record_type g rest) = do
-    later ← denoted_groups meaning (suc k + group_constructors g) rest
+    later ← denoted_groups meaning (suc k + group_constructor_count g) rest
     fs ← denoted_group meaning (suc k) later g
-    within_limits (record_shape k fs)
+    check_limits (record_shape k fs)
 
   -- returns the fields of a group, followed by the fields `later`; `k` is the ordinal of the first
   -- ARRAY or RECORD in the group
@@ -294,7 +294,7 @@ unfoldable mutual
   denoted_group meaning k later no_fields = Some later
   denoted_group meaning k later (some_fields ns t) = do
     s ← denoted meaning k t
-    Some (with_fields (map meaning.written (names_listed ns)) s later)
+    Some (prepend_fields (map meaning.written (names_in_list ns)) s later)
 
   -- returns the fields of further groups, in text order; `k` is the ordinal of their first ARRAY or
   -- RECORD
@@ -305,7 +305,7 @@ unfoldable mutual
       → Option FieldShapes
   denoted_groups meaning k end = Some no_field_shape
   denoted_groups meaning k (more (then_fields g) rest) = do
-    later ← denoted_groups meaning (k + group_constructors g) rest
+    later ← denoted_groups meaning (k + group_constructor_count g) rest
     denoted_group meaning k later g
 
 -- returns the designator of an expression that is only a designator, without sign or parentheses; otherwise None
@@ -314,8 +314,8 @@ lone_designator (compares (sum None (product (designator x path) end) end) none)
 lone_designator _ = None
 
 -- returns the type of a type's name, a variable, a parameter or a constant; None for a procedure
-abbrev pub type_declared : {P : Type 0} → Option (Object Shape P) → Option Shape
-type_declared (Some (a_type s)) = Some s
-type_declared (Some (a_variable s)) = Some s
-type_declared (Some (a_constant v)) = value_type v
-type_declared _ = None
+abbrev pub type_of_declaration : {P : Type 0} → Option (Object Shape P) → Option Shape
+type_of_declaration (Some (a_type s)) = Some s
+type_of_declaration (Some (a_variable s)) = Some s
+type_of_declaration (Some (a_constant v)) = value_type v
+type_of_declaration _ = None

@@ -10,9 +10,9 @@ use Rattle.ob0_language_values.specs.Values.{Value, number, truth}
 
 -- Returns a number as a factor: its digits, or an expression in parentheses if it is negative. The
 -- least number is written as `-2147483647 - 1`, because its digits are too large for a literal.
-abbrev pub written_number : ℤ → Tree Name factor
-written_number (pos n) = integer n
-written_number (negsuc n) =
+abbrev pub number_literal : ℤ → Tree Name factor
+number_literal (pos n) = integer n
+number_literal (negsuc n) =
     if nat_lt n max_integer
     then parenthesised
     (compares (sum (Some sign.Minus) (product (integer (suc n)) end) end) none)
@@ -20,8 +20,8 @@ written_number (negsuc n) =
     (more (adds add_operator.Subtract (product (integer 1) end)) end)) none)
 
 -- returns a constant's value as a factor; None if it is neither a number nor a truth value
-abbrev pub written_value : Value → Option (Tree Name factor)
-written_value (number n) = Some (written_number n)
-written_value (truth true) = Some (designator (codes "TRUE") end)
-written_value (truth false) = Some (designator (codes "FALSE") end)
-written_value _ = None
+abbrev pub value_literal : Value → Option (Tree Name factor)
+value_literal (number n) = Some (number_literal n)
+value_literal (truth true) = Some (designator (codes "TRUE") end)
+value_literal (truth false) = Some (designator (codes "FALSE") end)
+value_literal _ = None

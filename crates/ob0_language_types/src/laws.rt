@@ -1,23 +1,23 @@
 //! The laws of types and edits. Each function does nothing; its contract is the law.
 
-ghost use Rattle.ob0_language_types.specs.Laws.{FitsByOrdinal, WellTypedByShape, ConstantsEvaluate, InliningKeepsEvaluation, InliningKeepsTypes};
-ghost use Rattle.ob0_language_types.specs.EditLaws.{FreeKeepsWellTyped, InliningKeepsWellTyped, LeavingOutKeepsWellTyped, InliningEverywhereKeepsWellTyped, ConstantsAreAlone};
+ghost use Rattle.ob0_language_types.specs.Laws.{NumberingKeepsTypeCheck, NumberedTreeDecidesTyping, ConstantValuesAgree, InliningKeepsEvaluation, InliningKeepsTypes};
+ghost use Rattle.ob0_language_types.specs.EditLaws.{FreeRenamingKeepsWellTyped, InliningKeepsWellTyped, RemovingUnusedKeepsWellTyped, InliningEverywhereKeepsWellTyped, ConstantUsesAreFactors};
 
 /// Proves that the type check by names accepts a module exactly if the check by ordinals accepts its numbered tree.
-pub fn fits_by_ordinal()
-    ensures { FitsByOrdinal }
+pub fn numbering_keeps_type_check()
+    ensures { NumberingKeepsTypeCheck }
 {}
 
 /// Proves that two modules with the same numbered tree are both well-typed or neither is. Each of them must declare no
 /// name twice in a block or record, and have the right closing names.
-pub fn well_typed_by_shape()
-    ensures { WellTypedByShape }
+pub fn numbered_tree_decides_typing()
+    ensures { NumberedTreeDecidesTyping }
 {}
 
 /// Proves that a constant expression has the same value in a run as in the checker, if its names mean the same
 /// constants in both.
-pub fn constants_evaluate()
-    ensures { ConstantsEvaluate }
+pub fn constant_values_agree()
+    ensures { ConstantValuesAgree }
 {}
 
 /// Proves that replacing uses of a constant by a factor with the constant's value leaves an expression's evaluation
@@ -32,8 +32,8 @@ pub fn inlining_keeps_types()
 {}
 
 /// Proves that a well-typed module remains well-typed if a declaration is renamed to a free name.
-pub fn free_keeps_well_typed()
-    ensures { FreeKeepsWellTyped }
+pub fn free_renaming_keeps_well_typed()
+    ensures { FreeRenamingKeepsWellTyped }
 {}
 
 /// Proves that a well-typed module remains well-typed if uses of a constant are replaced by its literal. The literal
@@ -44,8 +44,8 @@ pub fn inlining_keeps_well_typed()
 
 /// Proves that a well-typed module remains well-typed without the declaration of a constant that no occurrence is bound
 /// to.
-pub fn leaving_out_keeps_well_typed()
-    ensures { LeavingOutKeepsWellTyped }
+pub fn removing_unused_keeps_well_typed()
+    ensures { RemovingUnusedKeepsWellTyped }
 {}
 
 /// Proves that a well-typed module remains well-typed if all uses of a constant are replaced by its literal and its
@@ -55,6 +55,6 @@ pub fn inlining_everywhere_keeps_well_typed()
 {}
 
 /// Proves that each use of a constant in a well-typed module is a whole factor.
-pub fn constants_are_alone()
-    ensures { ConstantsAreAlone }
+pub fn constant_uses_are_factors()
+    ensures { ConstantUsesAreFactors }
 {}

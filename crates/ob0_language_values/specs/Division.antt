@@ -14,7 +14,7 @@ remainder (negsuc a) b = pos (b - suc (a % b))
 
 -- returns a quotient or remainder, computed by the function `result`; None if the divisor is below
 -- 1
-abbrev pub divided : (ℤ → ℕ → ℤ) → ℤ → ℤ → Option ℤ
-divided result a (pos zero) = None
-divided result a (pos (suc b)) = Some (result a (suc b))
-divided result a (negsuc b) = None
+abbrev pub checked_division : (ℤ → ℕ → ℤ) → ℤ → ℤ → Option ℤ
+checked_division result a (pos zero) = None
+checked_division result a (pos (suc b)) = Some (result a (suc b))
+checked_division result a (negsuc b) = None

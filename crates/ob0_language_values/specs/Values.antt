@@ -10,7 +10,7 @@ use Rattle.ob0_tree.specs.declared.tree.AddOperator.TheVariants as add_operator
 use Rattle.ob0_tree.specs.declared.tree.MultiplyOperator.{MultiplyOperator}
 use Rattle.ob0_tree.specs.declared.tree.MultiplyOperator.TheVariants as multiply_operator
 use Rattle.ob0_language_names.specs.Names.{Name, same_name}
-pub use Rattle.ob0_language_values.specs.Division.{divided, quotient, remainder}
+pub use Rattle.ob0_language_values.specs.Division.{checked_division, quotient, remainder}
 
 infixl 20 ◌>>=◌
 -- The type of a variable or value. `k` is the ordinal, in the text, of the word ARRAY or RECORD that made the type. So
@@ -74,42 +74,42 @@ fits (pos n) = nat_lt n (2 ^ 31)
 fits (negsuc n) = nat_lt n (2 ^ 31)
 
 -- returns the number if it fits in 32 bits, otherwise the end Overflow (rule 3)
-abbrev pub in_range : ℤ → Outcome Value
-in_range n = if fits n then gives (number n) else ends Overflow
+abbrev pub checked_number : ℤ → Outcome Value
+checked_number n = if fits n then gives (number n) else ends Overflow
 
 -- returns the outcome of a division: its number, Overflow if that doesn't fit in 32 bits, or
 -- Divisor for None
-abbrev pub divided_by : Option ℤ → Outcome Value
-divided_by None = ends Divisor
-divided_by (Some n) = in_range n
+abbrev pub division_outcome : Option ℤ → Outcome Value
+division_outcome None = ends Divisor
+division_outcome (Some n) = checked_number n
 
 -- returns the result of `+`, `-` or OR; Stuck for operands for which the operator isn't defined
 abbrev pub add : AddOperator → Value → Value → Outcome Value
-add add_operator.Add (number a) (number b) = in_range (a +ℤ b)
-add add_operator.Subtract (number a) (number b) = in_range (a -ℤ b)
+add add_operator.Add (number a) (number b) = checked_number (a +ℤ b)
+add add_operator.Subtract (number a) (number b) = checked_number (a -ℤ b)
 add add_operator.Or (truth a) (truth b) = gives (truth (a || b))
 add _ _ _ = ends Stuck
 
 -- returns the result of `*`, DIV, MOD or `&`; Stuck for operands for which the operator isn't
 -- defined
 abbrev pub multiply : MultiplyOperator → Value → Value → Outcome Value
-multiply multiply_operator.Multiply (number a) (number b) = in_range (a *ℤ b)
-multiply multiply_operator.Divide (number a) (number b) = divided_by (divided quotient a b)
-multiply multiply_operator.Modulo (number a) (number b) = divided_by (divided remainder a b)
+multiply multiply_operator.Multiply (number a) (number b) = checked_number (a *ℤ b)
+multiply multiply_operator.Divide (number a) (number b) = division_outcome (checked_division quotient a b)
+multiply multiply_operator.Modulo (number a) (number b) = division_outcome (checked_division remainder a b)
 multiply multiply_operator.And (truth a) (truth b) = gives (truth (a && b))
 multiply _ _ _ = ends Stuck
 
 -- returns true if the operator is OR and the left operand is TRUE, so that the right operand isn't
 -- evaluated
-abbrev pub add_is_settled : AddOperator → Value → Bool
-add_is_settled add_operator.Or (truth true) = true
-add_is_settled _ _ = false
+abbrev pub add_short_circuits : AddOperator → Value → Bool
+add_short_circuits add_operator.Or (truth true) = true
+add_short_circuits _ _ = false
 
 -- returns true if the operator is `&` and the left operand is FALSE, so that the right operand
 -- isn't evaluated
-abbrev pub multiply_is_settled : MultiplyOperator → Value → Bool
-multiply_is_settled multiply_operator.And (truth false) = true
-multiply_is_settled _ _ = false
+abbrev pub multiply_short_circuits : MultiplyOperator → Value → Bool
+multiply_short_circuits multiply_operator.And (truth false) = true
+multiply_short_circuits _ _ = false
 
 -- returns true if two truth values are equal
 abbrev pub same_truth : Bool → Bool → Bool
@@ -136,8 +136,8 @@ relate _ _ _ = ends Stuck
 -- returns the value with an optional sign applied; Stuck for a sign before anything but a number
 abbrev pub apply_sign : Option Sign → Value → Outcome Value
 apply_sign None v = gives v
-apply_sign (Some sign.Plus) (number a) = in_range a
-apply_sign (Some sign.Minus) (number a) = in_range (neg_ℤ a)
+apply_sign (Some sign.Plus) (number a) = checked_number a
+apply_sign (Some sign.Minus) (number a) = checked_number (neg_ℤ a)
 apply_sign _ _ = ends Stuck
 
 -- returns the result of `~`; Stuck for any value that isn't a truth value
@@ -198,25 +198,25 @@ with_part (members k ms) (at_field x) new = members k (with_named_member ms x ne
 with_part v _ new = v
 
 -- returns the part of a value that a path selects; None if there is no such part
-abbrev pub at_path : List Step → Value → Option Value
-at_path [] v = Some v
-at_path (s ∷ path) v = option_and_then (at_path path) (part v s)
+abbrev pub value_at_path : List Step → Value → Option Value
+value_at_path [] v = Some v
+value_at_path (s ∷ path) v = option_and_then (value_at_path path) (part v s)
 
 -- returns the value `v` with the part that a path selects replaced by `new`; None if there is no
 -- such part
-abbrev pub with_at_path : List Step → Value → Value → Option Value
-with_at_path [] new v = Some new
-with_at_path (s ∷ path) new v =
-    option_and_then (λ old. option_map (with_part v s) (with_at_path path new old)) (part v s)
+abbrev pub with_value_at_path : List Step → Value → Value → Option Value
+with_value_at_path [] new v = Some new
+with_value_at_path (s ∷ path) new v =
+    option_and_then (λ old. option_map (with_part v s) (with_value_at_path path new old)) (part v s)
 
 -- returns the value at a place; None if there is no such place
 abbrev pub read_place : Store → Place → Option Value
-read_place store p = option_and_then (at_path p.path) (slice_get store p.variable)
+read_place store p = option_and_then (value_at_path p.path) (slice_get store p.variable)
 
 -- returns the store in which the value at a place is replaced (rule 5); None if there is no such place
 abbrev pub write_place : Store → Place → Value → Option Store
 write_place store p new =
-    option_and_then (λ old. option_map (slice_set store p.variable) (with_at_path p.path new old))
+    option_and_then (λ old. option_map (slice_set store p.variable) (with_value_at_path p.path new old))
     (slice_get store p.variable)
 
 -- returns the number of elements of an array

@@ -3,7 +3,7 @@
 #![tactic(auto)]
 
 ghost use Rattle.std.specs.Prelude.{◌≡◌};
-ghost use Rattle.ob0_language_values.specs.Division.{divided, quotient, remainder};
+ghost use Rattle.ob0_language_values.specs.Division.{checked_division, quotient, remainder};
 
 pub mod scalar;
 
@@ -12,7 +12,7 @@ pub use scalar::{OperatorFault, Scalar};
 /// Returns `left DIV right`, rounded down. Returns None if the divisor `right` is below 1.
 #[inline(always)]
 pub fn divide(left: i32, right: i32) -> Option<i32>
-    ensures { result ≡ divided quotient left right }
+    ensures { result ≡ checked_division quotient left right }
 {
     if right < 1 {
         return None;
@@ -23,7 +23,7 @@ pub fn divide(left: i32, right: i32) -> Option<i32>
 /// Returns `left MOD right`, which is never negative. Returns None if the divisor `right` is below 1.
 #[inline(always)]
 pub fn modulo(left: i32, right: i32) -> Option<i32>
-    ensures { result ≡ divided remainder left right }
+    ensures { result ≡ checked_division remainder left right }
 {
     if right < 1 {
         return None;

@@ -1,7 +1,7 @@
 //! Numbers and truth values, and the operators on them (Wirth, Compiler Construction, Oberon-0).
 
 ghost use Rattle.std.specs.Prelude.{◌≡◌};
-ghost use Rattle.ob0_language_values.specs.Values.{add, add_is_settled, compare_numbers, divided_by, in_range, multiply, multiply_is_settled, negate, number, relate, apply_sign, truth};
+ghost use Rattle.ob0_language_values.specs.Values.{add, add_short_circuits, compare_numbers, division_outcome, checked_number, multiply, multiply_short_circuits, negate, number, relate, apply_sign, truth};
 ghost use Rattle.ob0_language_values.specs.Scalars.{number_outcome, scalar_outcome, scalar_value};
 ghost use Rattle.ob0_tree.specs.declared.tree.MultiplyOperator.TheVariants.{Divide, Modulo};
 
@@ -27,7 +27,7 @@ pub enum OperatorFault {
 }
 
 /// Returns the number as a scalar, or `Overflow` for None, which means that the number doesn't fit in 32 bits.
-fn in_range(number: Option<i32>) -> Result<Scalar, OperatorFault>
+fn checked_number(number: Option<i32>) -> Result<Scalar, OperatorFault>
     ensures { scalar_outcome result ≡ number_outcome number }
 {
     match number {
@@ -37,8 +37,8 @@ fn in_range(number: Option<i32>) -> Result<Scalar, OperatorFault>
 }
 
 /// Returns the result of a division as a scalar, or `Divisor` for None, which means that the divisor is below 1.
-fn of_division(number: Option<i32>) -> Result<Scalar, OperatorFault>
-    ensures { scalar_outcome result ≡ divided_by number }
+fn division_result(number: Option<i32>) -> Result<Scalar, OperatorFault>
+    ensures { scalar_outcome result ≡ division_outcome number }
 {
     match number {
         Some(number) => Ok(Scalar::Number(number)),
@@ -50,14 +50,14 @@ fn of_division(number: Option<i32>) -> Result<Scalar, OperatorFault>
 fn divide(left: i32, right: i32) -> Result<Scalar, OperatorFault>
     ensures { scalar_outcome result ≡ multiply Divide (number left) (number right) }
 {
-    of_division(crate::divide(left, right))
+    division_result(crate::divide(left, right))
 }
 
 /// Returns `left MOD right`, which is never negative. Returns `Divisor` if the divisor `right` is below 1.
 fn modulo(left: i32, right: i32) -> Result<Scalar, OperatorFault>
     ensures { scalar_outcome result ≡ multiply Modulo (number left) (number right) }
 {
-    of_division(crate::modulo(left, right))
+    division_result(crate::modulo(left, right))
 }
 
 /// Returns `left + right`, `left - right` or `left OR right`.
@@ -86,8 +86,8 @@ fn add_numbers(operator: AddOperator, a: i32, b: i32) -> Result<Scalar, Operator
     ensures { scalar_outcome result ≡ add operator (number a) (number b) }
 {
     match operator {
-        AddOperator::Add => in_range(a.checked_add(b)),
-        AddOperator::Subtract => in_range(a.checked_sub(b)),
+        AddOperator::Add => checked_number(a.checked_add(b)),
+        AddOperator::Subtract => checked_number(a.checked_sub(b)),
         AddOperator::Or => Err(OperatorFault::Operand),
     }
 }
@@ -134,7 +134,7 @@ fn multiply_numbers(operator: MultiplyOperator, a: i32, b: i32) -> Result<Scalar
     ensures { scalar_outcome result ≡ multiply operator (number a) (number b) }
 {
     match operator {
-        MultiplyOperator::Multiply => in_range(a.checked_mul(b)),
+        MultiplyOperator::Multiply => checked_number(a.checked_mul(b)),
         MultiplyOperator::Divide => divide(a, b),
         MultiplyOperator::Modulo => modulo(a, b),
         MultiplyOperator::And => Err(OperatorFault::Operand),
@@ -154,8 +154,8 @@ fn multiply_truths(operator: MultiplyOperator, a: bool, b: bool) -> Result<Scala
 }
 
 /// Returns true if the operator is OR and the left operand is TRUE, so that the right operand isn't evaluated.
-pub fn add_is_settled(operator: AddOperator, left: Scalar) -> bool
-    ensures { result ≡ add_is_settled operator (scalar_value left) }
+pub fn add_short_circuits(operator: AddOperator, left: Scalar) -> bool
+    ensures { result ≡ add_short_circuits operator (scalar_value left) }
 {
     match operator {
         AddOperator::Add => false,
@@ -168,8 +168,8 @@ pub fn add_is_settled(operator: AddOperator, left: Scalar) -> bool
 }
 
 /// Returns true if the operator is `&` and the left operand is FALSE, so that the right operand isn't evaluated.
-pub fn multiply_is_settled(operator: MultiplyOperator, left: Scalar) -> bool
-    ensures { result ≡ multiply_is_settled operator (scalar_value left) }
+pub fn multiply_short_circuits(operator: MultiplyOperator, left: Scalar) -> bool
+    ensures { result ≡ multiply_short_circuits operator (scalar_value left) }
 {
     match operator {
         MultiplyOperator::Multiply => false,
@@ -244,7 +244,7 @@ pub fn apply_sign(sign: Option<Sign>, operand: Scalar) -> Result<Scalar, Operato
         Some(sign) => match operand {
             Scalar::Number(a) => match sign {
                 Sign::Plus => Ok(Scalar::Number(a)),
-                Sign::Minus => in_range(a.checked_neg()),
+                Sign::Minus => checked_number(a.checked_neg()),
             },
             Scalar::Truth(_) => Err(OperatorFault::Operand),
         },

@@ -17,18 +17,18 @@ use Rattle.ob0_scan.specs.declared.lexeme.LexemeKind.TheVariants as lexeme
 use Rattle.ob0_scan.specs.declared.lexeme.Span.{Span}
 use Rattle.ob0_scan.specs.declared.lexeme.Token.{Token}
 use Rattle.ob0_scan.specs.Lexed.{Lexeme, joined}
-use Rattle.ob0_scan.specs.Scanned.{Scanned, IsScan, span_from, token_at, comment_at, tokens_from, comments_from}
+use Rattle.ob0_scan.specs.TextWithTokens.{TextWithTokens, IsScan, span_from, token_at, comment_at, tokens_from, comments_from}
 use Rattle.ob0_scan.proofs.Cuts.{nonempty}
 use Rattle.ob0_scan.proofs.Spans.{LexemesFrom, next_from}
 use Rattle.ob0_layout.specs.declared.gap.Gap.{Gap}
 use Rattle.ob0_layout.specs.declared.sites.GapSite.{GapSite}
 use Rattle.ob0_layout.specs.declared.sites.NextLexeme.{NextLexeme}
 use Rattle.ob0_layout.specs.declared.sites.NextLexeme.TheVariants as next
-use Rattle.ob0_layout.specs.declared.sites.Solid.{Solid}
+use Rattle.ob0_layout.specs.declared.sites.KindAndRole.{KindAndRole}
 use Rattle.ob0_layout.specs.declared.line_role.LineRole.{LineRole}
-use Rattle.ob0_layout.specs.Cuts.{changed_sites, gap_before, gap_cut, last_gap, next_of}
+use Rattle.ob0_layout.specs.Cuts.{changed_sites, gap_before, gap_cut, last_gap, next_lexeme}
 use Rattle.ob0_layout.specs.Gaps.{all_gaps, changed_gaps, gaps, gaps_after, is_changed}
-use Rattle.ob0_layout.specs.Layout.{PlacedLexeme, placed, next_line, next_role, has_break, comment_role, gap, indentation}
+use Rattle.ob0_layout.specs.Layout.{PlacedLexeme, placed_lexemes, next_line_level, next_role, has_break, comment_role, gap, indentation}
 use Rattle.ob0_layout.proofs.Apart.{IsSolid}
 use Rattle.ob0_layout.proofs.InText.{from_start}
 
@@ -51,9 +51,9 @@ first_token_kind (lexeme.Token k) at size ls t ts more e = let same : record { k
 first_token_kind _ at size ls t ts more e = omega (arith, more e)
 
 -- The tokens of a suffix begin at its start or later.
-first_token : (at : ℕ) (ls : List Lexeme) (t : Token) (ts : List Token) → tokens_from at ls ≡ t ∷ ts → at ≤ t.span.start
-first_token at [] t ts e = absurd (cc)
-first_token at (l ∷ ls) t ts e = first_token_kind l.kind at (length l.text) ls t ts (first_token (at + length l.text) ls t ts) e
+first_bound_token : (at : ℕ) (ls : List Lexeme) (t : Token) (ts : List Token) → tokens_from at ls ≡ t ∷ ts → at ≤ t.span.start
+first_bound_token at [] t ts e = absurd (cc)
+first_bound_token at (l ∷ ls) t ts e = first_token_kind l.kind at (length l.text) ls t ts (first_bound_token (at + length l.text) ls t ts) e
 
 first_comment_kind : (k : LexemeKind) (at size : ℕ) (ls : List Lexeme) (c : Span) (cs : List Span) → (comments_from (at + size) ls ≡ c ∷ cs → at + size ≤ c.start)
     → comment_at k (span_from at size) ++ comments_from (at + size) ls ≡ c ∷ cs → at ≤ c.start
@@ -71,22 +71,22 @@ first_of lexeme.Comment span = Some (next.Comment span)
 first_of (lexeme.Token k) span = Some (next.Token (record { kind = k; span = span }))
 
 comes_first : (k : LexemeKind) (at : ℕ) (t : List ℕ) (ls : List Lexeme) → IsSolid k → 0 < length t
-    → next_of (tokens_from at (record { kind = k; text = t } ∷ ls)) (comments_from at (record { kind = k; text = t } ∷ ls)) ≡ first_of k (span_from at (length t))
-comes_first lexeme.Space at t ls solid some = absurd solid
-comes_first lexeme.Comment at t ls solid some = by_tokens (tokens_from (at + length t) ls) refl
+    → next_lexeme (tokens_from at (record { kind = k; text = t } ∷ ls)) (comments_from at (record { kind = k; text = t } ∷ ls)) ≡ first_of k (span_from at (length t))
+comes_first lexeme.Space at t ls without_white_space some = absurd without_white_space
+comes_first lexeme.Comment at t ls without_white_space some = by_tokens (tokens_from (at + length t) ls) refl
   where
-    by_tokens : (ts : List Token) → tokens_from (at + length t) ls ≡ ts → next_of ts (span_from at (length t) ∷ comments_from (at + length t) ls) ≡ Some (next.Comment (span_from at (length t)))
+    by_tokens : (ts : List Token) → tokens_from (at + length t) ls ≡ ts → next_lexeme ts (span_from at (length t) ∷ comments_from (at + length t) ls) ≡ Some (next.Comment (span_from at (length t)))
     by_tokens [] e = refl
     by_tokens (u ∷ ts) e =
-        let later = first_token (at + length t) ls u ts e in
+        let later = first_bound_token (at + length t) ls u ts e in
         let test : nat_lt at u.span.start ≡ true = grind (arith, nat_tests) in
         ap (λ b. if b then Some (next.Comment (span_from at (length t))) else Some (next.Token u)) test
-comes_first (lexeme.Token k) at t ls solid some = by_comments (comments_from (at + length t) ls) refl
+comes_first (lexeme.Token k) at t ls without_white_space some = by_comments (comments_from (at + length t) ls) refl
   where
     token : Token
     token = record { kind = k; span = span_from at (length t) }
 
-    by_comments : (cs : List Span) → comments_from (at + length t) ls ≡ cs → next_of (token ∷ tokens_from (at + length t) ls) cs ≡ Some (next.Token token)
+    by_comments : (cs : List Span) → comments_from (at + length t) ls ≡ cs → next_lexeme (token ∷ tokens_from (at + length t) ls) cs ≡ Some (next.Token token)
     by_comments [] e = refl
     by_comments (c ∷ cs) e =
         let later = first_comment (at + length t) ls c cs e in
@@ -99,7 +99,7 @@ module _ (text : List ℕ) where
     pub up : at ≤ length text
     pub tokens : tokens_from at rest ≡ []
     pub comments : comments_from at rest ≡ []
-    pub none : (level : ℕ) (broken : Bool) (ss : List LineRole) → placed at level broken ss rest ≡ []
+    pub none : (level : ℕ) (broken : Bool) (ss : List LineRole) → placed_lexemes at level broken ss rest ≡ []
 
   -- states that a token or comment comes next, after white space
   pub record Found (at : ℕ) (rest : List Lexeme) : Type 0 where
@@ -107,13 +107,13 @@ module _ (text : List ℕ) where
     pub kind : LexemeKind
     pub t : List ℕ
     pub ls : List Lexeme
-    pub solid : IsSolid kind
+    pub without_white_space : IsSolid kind
     pub up : at ≤ place
-    pub lexemes_from : LexemesFrom text place (record { kind = kind; text = t } ∷ ls) []
+    pub index_terminals_from : LexemesFrom text place (record { kind = kind; text = t } ∷ ls) []
     pub tokens : tokens_from at rest ≡ tokens_from place (record { kind = kind; text = t } ∷ ls)
     pub comments : comments_from at rest ≡ comments_from place (record { kind = kind; text = t } ∷ ls)
     pub found : (level : ℕ) (broken : Bool) (ss : List LineRole)
-        → placed at level broken ss rest ≡ placed place level (broken || has_break (slice_range text at place)) ss (record { kind = kind; text = t } ∷ ls)
+        → placed_lexemes at level broken ss rest ≡ placed_lexemes place level (broken || has_break (slice_range text at place)) ss (record { kind = kind; text = t } ∷ ls)
 
   over_space : (at : ℕ) (t : List ℕ) (ls : List Lexeme) → drop at text ≡ t ++ joined ls → drop (at + length t) text ≡ joined ls
       → NoMore (at + length t) ls ⊎ Found (at + length t) ls → NoMore at (record { kind = lexeme.Space; text = t } ∷ ls) ⊎ Found at (record { kind = lexeme.Space; text = t } ∷ ls)
@@ -129,16 +129,16 @@ module _ (text : List ℕ) where
         kind = n.kind;
         t = n.t;
         ls = n.ls;
-        solid = n.solid;
+        without_white_space = n.without_white_space;
         up = omega (arith, n.up);
-        lexemes_from = n.lexemes_from;
+        index_terminals_from = n.index_terminals_from;
         tokens = n.tokens;
         comments = n.comments;
-        found = λ level broken ss. n.found level (broken || has_break t) ss ∙ ap (λ b. placed n.place level b ss (record { kind = n.kind; text = n.t } ∷ n.ls)) (same broken);
+        found = λ level broken ss. n.found level (broken || has_break t) ss ∙ ap (λ b. placed_lexemes n.place level b ss (record { kind = n.kind; text = n.t } ∷ n.ls)) (same broken);
       })
 
   found_here : (k : LexemeKind) (at : ℕ) (t : List ℕ) (ls : List Lexeme) → IsSolid k → LexemesFrom text at (record { kind = k; text = t } ∷ ls) [] → Found at (record { kind = k; text = t } ∷ ls)
-  found_here k at t ls solid s =
+  found_here k at t ls without_white_space s =
       let zero : at - at ≡ 0 = omega arith in
       let nothing : slice_range text at at ≡ [] = ap (λ n. take n (drop at text)) zero in
       record {
@@ -146,12 +146,12 @@ module _ (text : List ℕ) where
         kind = k;
         t = t;
         ls = ls;
-        solid = solid;
+        without_white_space = without_white_space;
         up = omega arith;
-        lexemes_from = s;
+        index_terminals_from = s;
         tokens = refl;
         comments = refl;
-        found = λ level broken ss. ap (λ b. placed at level b ss (record { kind = k; text = t } ∷ ls)) (sym (ap (λ g. broken || has_break g) nothing ∙ or-false broken));
+        found = λ level broken ss. ap (λ b. placed_lexemes at level b ss (record { kind = k; text = t } ∷ ls)) (sym (ap (λ g. broken || has_break g) nothing ∙ or-false broken));
       }
 
   over_kind : (k : LexemeKind) (at : ℕ) (t : List ℕ) (ls : List Lexeme) → LexemesFrom text at (record { kind = k; text = t } ∷ ls) []
@@ -169,7 +169,7 @@ module _ (text : List ℕ) where
 abbrev pub make_site : ℕ → ℕ → Gap → GapSite
 make_site start end gap = record { start = start; end = end; gap = gap }
 
-abbrev pub make_solid : LexemeKind → LineRole → Solid
+abbrev pub make_solid : LexemeKind → LineRole → KindAndRole
 make_solid kind role = record { kind = kind; role = role }
 
 no_indent : (indent : Indent) → indentation indent 0 ≡ []
@@ -179,7 +179,7 @@ no_indent (indent_by.Spaces n) = let none : 0 * n ≡ 0 = omega arith in ap (λ 
 module _ (indent : Indent) (text : List ℕ) where
   -- returns the gaps after offset `start`, which is the text's start or the end of a token or
   -- comment
-  abbrev gaps_left : Option Solid → ℕ → List PlacedLexeme → List Cut
+  abbrev gaps_left : Option KindAndRole → ℕ → List PlacedLexeme → List Cut
   gaps_left None start [] = record { from = start; to = length text; new = [] } ∷ []
   gaps_left None start (b ∷ bs) = record { from = start; to = b.span.start; new = [] } ∷ gaps_after indent (length text) b bs
   gaps_left (Some a) start bs = gaps_after indent (length text) (record { lexeme = record { kind = a.kind; text = [] }; span = record { start = start; end = start }; role = a.role }) bs
@@ -194,13 +194,13 @@ module _ (indent : Indent) (text : List ℕ) where
   same_after b [] = refl
   same_after b (c ∷ cs) = refl
 
-  one_gap : (before : Option Solid) (start : ℕ) (b : PlacedLexeme) (bs : List PlacedLexeme)
+  one_gap : (before : Option KindAndRole) (start : ℕ) (b : PlacedLexeme) (bs : List PlacedLexeme)
       → gap_cut indent (make_site start b.span.start (gap_before before b.lexeme.kind b.role)) ∷ gaps_left (Some (make_solid b.lexeme.kind b.role)) b.span.end bs ≡ gaps_left before start (b ∷ bs)
   unfolding gap
   one_gap None start b bs = ap (λ cs. record { from = start; to = b.span.start; new = [] } ∷ cs) (sym (same_after b bs))
   one_gap (Some a) start b bs = ap (λ cs. gap_cut indent (make_site start b.span.start (gap_before (Some a) b.lexeme.kind b.role)) ∷ cs) (sym (same_after b bs))
 
-  final_gap : (before : Option Solid) (start : ℕ) → gap_cut indent (make_site start (length text) (last_gap before)) ∷ [] ≡ gaps_left before start []
+  final_gap : (before : Option KindAndRole) (start : ℕ) → gap_cut indent (make_site start (length text) (last_gap before)) ∷ [] ≡ gaps_left before start []
   final_gap None start = refl
   final_gap (Some a) start = ap (λ xs. record { from = start; to = length text; new = 10 ∷ xs } ∷ []) (no_indent indent)
 
@@ -218,36 +218,36 @@ module _ (indent : Indent) (text : List ℕ) where
 
   -- states that the gaps found so far and the gaps of the remaining lexemes together are all gaps
   -- that change
-  pub record Passing (whole : List Cut) (left : List Token) (comments : List Span) (ss : List LineRole) (before : Option Solid) (level start : ℕ) (out : List GapSite) : Type 0 where
+  pub record Passing (whole : List Cut) (left : List Token) (comments : List Span) (ss : List LineRole) (before : Option KindAndRole) (level start : ℕ) (out : List GapSite) : Type 0 where
     pub rest : List Lexeme
-    pub lexemes_from : LexemesFrom text start rest []
+    pub index_terminals_from : LexemesFrom text start rest []
     pub left_is : left ≡ tokens_from start rest
     pub comments_is : comments ≡ comments_from start rest
-    pub same : map (gap_cut indent) out ++ changed_gaps text (gaps_left before start (placed start level (is_none before) ss rest)) ≡ changed_gaps text whole
+    pub same : map (gap_cut indent) out ++ changed_gaps text (gaps_left before start (placed_lexemes start level (is_none before) ss rest)) ≡ changed_gaps text whole
 
-  pub passing_at_start : (s : Scanned) (scan : IsScan s) (ss : List LineRole) (left : List Token) (comments : List Span) (out : List GapSite) → text ≡ s.text → left ≡ s.tokens → comments ≡ s.comments → out ≡ []
+  pub passing_at_start : (s : TextWithTokens) (scan : IsScan s) (ss : List LineRole) (left : List Token) (comments : List Span) (out : List GapSite) → text ≡ s.text → left ≡ s.tokens → comments ≡ s.comments → out ≡ []
       → Passing (all_gaps indent text ss scan.lexemes) left comments ss None 0 0 out
   passing_at_start s scan ss left comments out text_is left_is comments_is out_is = record {
     rest = scan.lexemes;
-    lexemes_from = subst (λ t. LexemesFrom t 0 scan.lexemes []) (sym text_is) (from_start s scan);
+    index_terminals_from = subst (λ t. LexemesFrom t 0 scan.lexemes []) (sym text_is) (from_start s scan);
     left_is = left_is ∙ scan.tokens;
     comments_is = comments_is ∙ scan.comments;
-    same = λ i. map (gap_cut indent) (out_is i) ++ changed_gaps text (at_start (placed 0 0 true ss scan.lexemes) i);
+    same = λ i. map (gap_cut indent) (out_is i) ++ changed_gaps text (at_start (placed_lexemes 0 0 true ss scan.lexemes) i);
   }
 
   -- The invariant of the pass holds of equal parts.
-  pub passing_moved : {whole : List Cut} {left left' : List Token} {comments comments' : List Span} {ss ss' : List LineRole} {before before' : Option Solid} {level level' start : ℕ} {out out' : List GapSite}
+  pub passing_moved : {whole : List Cut} {left left' : List Token} {comments comments' : List Span} {ss ss' : List LineRole} {before before' : Option KindAndRole} {level level' start : ℕ} {out out' : List GapSite}
       → Passing whole left comments ss before level start out → left' ≡ left → comments' ≡ comments → ss' ≡ ss → before' ≡ before → level' ≡ level → out' ≡ out
       → Passing whole left' comments' ss' before' level' start out'
   passing_moved {whole = whole} {start = start} h a b c d e f = record {
     rest = h.rest;
-    lexemes_from = h.lexemes_from;
+    index_terminals_from = h.index_terminals_from;
     left_is = a ∙ h.left_is;
     comments_is = b ∙ h.comments_is;
-    same = (λ i. map (gap_cut indent) (f i) ++ changed_gaps text (gaps_left (d i) start (placed start (e i) (is_none (d i)) (c i) h.rest))) ∙ h.same;
+    same = (λ i. map (gap_cut indent) (f i) ++ changed_gaps text (gaps_left (d i) start (placed_lexemes start (e i) (is_none (d i)) (c i) h.rest))) ∙ h.same;
   }
 
-  module _ (whole : List Cut) (left : List Token) (comments : List Span) (ss : List LineRole) (before : Option Solid) (level start : ℕ) (out : List GapSite) where
+  module _ (whole : List Cut) (left : List Token) (comments : List Span) (ss : List LineRole) (before : Option KindAndRole) (level start : ℕ) (out : List GapSite) where
     abbrev with_gap : ℕ → Gap → List GapSite
     with_gap end g = out ++ changed_sites indent text (make_site start end g ∷ [])
 
@@ -259,12 +259,12 @@ module _ (indent : Indent) (text : List ℕ) where
       pub after : Passing whole left' comments' ss' (Some (make_solid kind role)) level' span.end (with_gap span.start (gap_before before kind role))
 
     abbrev role_at : Span → LineRole
-    role_at span = comment_role (is_none before || has_break (slice_range text start span.start)) (next_line level ss)
+    role_at span = comment_role (is_none before || has_break (slice_range text start span.start)) (next_line_level level ss)
 
     abbrev Goes : Option NextLexeme → Type 0
     Goes None = (start ≤ length text) × (map (gap_cut indent) (with_gap (length text) (last_gap before)) ≡ changed_gaps text whole)
     Goes (Some (next.Comment span)) = Passes lexeme.Comment span (role_at span) left (drop 1 comments) ss level
-    Goes (Some (next.Token token)) = Passes (lexeme.Token token.kind) token.span (next_role ss) (drop 1 left) comments (drop 1 ss) (next_line level ss)
+    Goes (Some (next.Token token)) = Passes (lexeme.Token token.kind) token.span (next_role ss) (drop 1 left) comments (drop 1 ss) (next_line_level level ss)
 
     module _ (h : Passing whole left comments ss before level start out) where
       ends : NoMore text start h.rest → Goes None
@@ -278,19 +278,19 @@ module _ (indent : Indent) (text : List ℕ) where
       passes : (kind : LexemeKind) (place : ℕ) (t : List ℕ) (ls : List Lexeme) (role : LineRole) (left' : List Token) (comments' : List Span) (ss' : List LineRole) (level' : ℕ)
           → start ≤ place → LexemesFrom text place (record { kind = kind; text = t } ∷ ls) []
           → left' ≡ tokens_from (place + length t) ls → comments' ≡ comments_from (place + length t) ls
-          → placed start level (is_none before) ss h.rest ≡ record { lexeme = record { kind = kind; text = t }; span = span_from place (length t); role = role } ∷ placed (place + length t) level' false ss' ls
+          → placed_lexemes start level (is_none before) ss h.rest ≡ record { lexeme = record { kind = kind; text = t }; span = span_from place (length t); role = role } ∷ placed_lexemes (place + length t) level' false ss' ls
           → Passes kind (span_from place (length t)) role left' comments' ss' level'
       passes kind place t ls role left' comments' ss' level' up s tokens others found =
           let s' = next_from text place (record { kind = kind; text = t }) ls [] s in
           let b : PlacedLexeme = record { lexeme = record { kind = kind; text = t }; span = span_from place (length t); role = role } in
-          let bs : List PlacedLexeme = placed (place + length t) level' false ss' ls in
+          let bs : List PlacedLexeme = placed_lexemes (place + length t) level' false ss' ls in
           record {
             up = up;
             ordered = omega arith;
             within = s'.place.0;
             after = record {
               rest = ls;
-              lexemes_from = s';
+              index_terminals_from = s';
               left_is = tokens;
               comments_is = others;
               same = one_more out (make_site start place (gap_before before kind role)) (gaps_left (Some (make_solid kind role)) (place + length t) bs)
@@ -300,28 +300,28 @@ module _ (indent : Indent) (text : List ℕ) where
 
       passes_kind : (kind : LexemeKind) (place : ℕ) (t : List ℕ) (ls : List Lexeme) → IsSolid kind → start ≤ place → LexemesFrom text place (record { kind = kind; text = t } ∷ ls) []
           → left ≡ tokens_from place (record { kind = kind; text = t } ∷ ls) → comments ≡ comments_from place (record { kind = kind; text = t } ∷ ls)
-          → placed start level (is_none before) ss h.rest ≡ placed place level (is_none before || has_break (slice_range text start place)) ss (record { kind = kind; text = t } ∷ ls)
+          → placed_lexemes start level (is_none before) ss h.rest ≡ placed_lexemes place level (is_none before || has_break (slice_range text start place)) ss (record { kind = kind; text = t } ∷ ls)
           → Goes (first_of kind (span_from place (length t)))
-      passes_kind lexeme.Space place t ls solid up s tokens others found = absurd solid
-      passes_kind lexeme.Comment place t ls solid up s tokens others found =
+      passes_kind lexeme.Space place t ls without_white_space up s tokens others found = absurd without_white_space
+      passes_kind lexeme.Comment place t ls without_white_space up s tokens others found =
           passes lexeme.Comment place t ls (role_at (span_from place (length t))) left (drop 1 comments) ss level up s tokens (ap (drop 1) others) found
-      passes_kind (lexeme.Token k) place t ls solid up s tokens others found =
-          passes (lexeme.Token k) place t ls (next_role ss) (drop 1 left) comments (drop 1 ss) (next_line level ss) up s (ap (drop 1) tokens) others found
+      passes_kind (lexeme.Token k) place t ls without_white_space up s tokens others found =
+          passes (lexeme.Token k) place t ls (next_role ss) (drop 1 left) comments (drop 1 ss) (next_line_level level ss) up s (ap (drop 1) tokens) others found
 
-      goes : Goes (next_of left comments)
-      goes = elim (ahead text start h.rest h.lexemes_from) [
-        | inl n ↦ subst Goes (sym (λ i. next_of ((h.left_is ∙ n.tokens) i) ((h.comments_is ∙ n.comments) i))) (ends n)
+      goes : Goes (next_lexeme left comments)
+      goes = elim (ahead text start h.rest h.index_terminals_from) [
+        | inl n ↦ subst Goes (sym (λ i. next_lexeme ((h.left_is ∙ n.tokens) i) ((h.comments_is ∙ n.comments) i))) (ends n)
         | inr n ↦
-            let some = nonempty n.kind n.t n.lexemes_from.each.0.belongs in
-            let first = (λ i. next_of ((h.left_is ∙ n.tokens) i) ((h.comments_is ∙ n.comments) i)) ∙ comes_first n.kind n.place n.t n.ls n.solid some in
-            subst Goes (sym first) (passes_kind n.kind n.place n.t n.ls n.solid n.up n.lexemes_from (h.left_is ∙ n.tokens) (h.comments_is ∙ n.comments) (n.found level (is_none before) ss))
+            let some = nonempty n.kind n.t n.index_terminals_from.each.0.belongs in
+            let first = (λ i. next_lexeme ((h.left_is ∙ n.tokens) i) ((h.comments_is ∙ n.comments) i)) ∙ comes_first n.kind n.place n.t n.ls n.without_white_space some in
+            subst Goes (sym first) (passes_kind n.kind n.place n.t n.ls n.without_white_space n.up n.index_terminals_from (h.left_is ∙ n.tokens) (h.comments_is ∙ n.comments) (n.found level (is_none before) ss))
       ]
 
-      pub at_comment : (span : Span) → next_of left comments ≡ Some (next.Comment span) → Passes lexeme.Comment span (role_at span) left (drop 1 comments) ss level
+      pub at_comment : (span : Span) → next_lexeme left comments ≡ Some (next.Comment span) → Passes lexeme.Comment span (role_at span) left (drop 1 comments) ss level
       at_comment span e = subst Goes e goes
 
-      pub at_token : (token : Token) → next_of left comments ≡ Some (next.Token token) → Passes (lexeme.Token token.kind) token.span (next_role ss) (drop 1 left) comments (drop 1 ss) (next_line level ss)
+      pub at_token : (token : Token) → next_lexeme left comments ≡ Some (next.Token token) → Passes (lexeme.Token token.kind) token.span (next_role ss) (drop 1 left) comments (drop 1 ss) (next_line_level level ss)
       at_token token e = subst Goes e goes
 
-      pub at_end : next_of left comments ≡ None → (start ≤ length text) × (map (gap_cut indent) (with_gap (length text) (last_gap before)) ≡ changed_gaps text whole)
+      pub at_end : next_lexeme left comments ≡ None → (start ≤ length text) × (map (gap_cut indent) (with_gap (length text) (last_gap before)) ≡ changed_gaps text whole)
       at_end e = subst Goes e goes

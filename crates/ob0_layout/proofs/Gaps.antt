@@ -11,7 +11,7 @@ use Rattle.std.specs.Str.{bytes_eq}
 use Rattle.std.proofs.lemmas.Slice.Eq.{bytes_eq-Decides}
 use Rattle.ob0_scan.specs.Classes.{is_space}
 use Rattle.ob0_scan.specs.Lexed.{Lexeme, joined}
-use Rattle.ob0_scan.specs.Scanned.{Scanned, IsScan}
+use Rattle.ob0_scan.specs.TextWithTokens.{TextWithTokens, IsScan}
 use Rattle.ob0_text.specs.declared.edits.Indent.{Indent}
 use Rattle.ob0_text.specs.Patches.{Cut, pieced}
 use Rattle.ob0_edits_tokens.proofs.TextCuts.{Chain}
@@ -20,8 +20,8 @@ use Rattle.ob0_layout.specs.declared.gap.Gap.TheVariants.{Nothing, Space, Line}
 use Rattle.ob0_layout.specs.declared.line_role.LineRole.{LineRole}
 use Rattle.ob0_layout.specs.declared.sites.GapSite.{GapSite}
 use Rattle.ob0_layout.specs.Cuts.{LiesIn, gap_cut}
-use Rattle.ob0_layout.specs.Gaps.{IsWhite, all_gaps, changed_gaps, gaps, gaps_after, is_changed, laid_len}
-use Rattle.ob0_layout.specs.Layout.{PlacedLexeme, placed, indentation, gap, gap_text, spaced, laid_after, laid}
+use Rattle.ob0_layout.specs.Gaps.{IsWhiteSpace, all_gaps, changed_gaps, gaps, gaps_after, is_changed, formatted_len_from}
+use Rattle.ob0_layout.specs.Layout.{PlacedLexeme, placed_lexemes, indentation, gap, gap_text, white_space_lexeme, with_formatted_gaps_after, with_formatted_gaps}
 use Rattle.ob0_layout.proofs.Apart.{indented}
 use Rattle.ob0_layout.proofs.InText.{AreIn, IsAt, IsSpaced, White, all_in, no_white}
 use Rattle.ob0_layout.proofs.Pieced.{pieced_here, pieced_later, two_parts}
@@ -47,7 +47,7 @@ gap_white : (indent : Indent) (a b : PlacedLexeme) → White (gap indent a b)
 unfolding gap
 gap_white indent a b = laid_white indent _
 
-joined_spaced : (g : List ℕ) (ls : List Lexeme) → joined (spaced g ++ ls) ≡ g ++ joined ls
+joined_spaced : (g : List ℕ) (ls : List Lexeme) → joined (white_space_lexeme g ++ ls) ≡ g ++ joined ls
 joined_spaced [] ls = refl
 joined_spaced (b ∷ bs) ls = refl
 
@@ -62,10 +62,10 @@ module _ (text : List ℕ) where
   chain at [] are = tt
   chain at (c ∷ cs) are = (are.0.up, are.0.old.ordered, chain c.to cs are.1)
 
-  all_white : (at : ℕ) (cs : List Cut) → AreGaps text at cs → All (IsWhite text) cs
+  all_white : (at : ℕ) (cs : List Cut) → AreGaps text at cs → All (IsWhiteSpace text) cs
   unfolding AreGaps
-  all_white at [] are = All-nil (IsWhite text)
-  all_white at (c ∷ cs) are = All-cons (IsWhite text) c cs are.0.old.white (all_white c.to cs are.1)
+  all_white at [] are = All-nil (IsWhiteSpace text)
+  all_white at (c ∷ cs) are = All-cons (IsWhiteSpace text) c cs are.0.old.white (all_white c.to cs are.1)
 
   new_white : (at : ℕ) (cs : List Cut) → AreGaps text at cs → All (λ (c : Cut). White c.new) cs
   unfolding AreGaps
@@ -104,7 +104,7 @@ module _ (text : List ℕ) where
           ap (λ b. pieced text at (cond (not b) (c ∷ changed_gaps text cs) (changed_gaps text cs))) e
           ∙ ap (λ xs. take (c.from - at) (drop at text) ++ (c.new ++ xs)) more
 
-  made_length : (at : ℕ) (cs : List Cut) → AreGaps text at cs → length (pieced text at cs) ≡ laid_len (length text) at cs
+  made_length : (at : ℕ) (cs : List Cut) → AreGaps text at cs → length (pieced text at cs) ≡ formatted_len_from (length text) at cs
   unfolding pieced AreGaps
   made_length at [] are = length-drop at text
   made_length at (c ∷ cs) are =
@@ -135,47 +135,47 @@ module _ (text : List ℕ) where
 
     -- A token or comment and the gaps after it give the token or comment and the formatted lexemes
     -- after it.
-    over : (b : PlacedLexeme) (bs : List PlacedLexeme) → IsAt text b → AreIn text b.span.end bs → pieced text b.span.end (gaps_after indent (length text) b bs) ≡ joined (laid_after indent b bs)
-        → pieced text b.span.start (gaps_after indent (length text) b bs) ≡ joined (b.lexeme ∷ laid_after indent b bs)
+    over : (b : PlacedLexeme) (bs : List PlacedLexeme) → IsAt text b → AreIn text b.span.end bs → pieced text b.span.end (gaps_after indent (length text) b bs) ≡ joined (with_formatted_gaps_after indent b bs)
+        → pieced text b.span.start (gaps_after indent (length text) b bs) ≡ joined (b.lexeme ∷ with_formatted_gaps_after indent b bs)
     over b bs is h more =
         pieced_later text b.span.start b.span.end (gaps_after indent (length text) b bs) is.ordered (chain b.span.end (gaps_after indent (length text) b bs) (after_are b bs h))
         ∙ ap₂ (λ xs ys. xs ++ ys) is.here more
 
-    after_made : (a : PlacedLexeme) (bs : List PlacedLexeme) → AreIn text a.span.end bs → pieced text a.span.end (gaps_after indent (length text) a bs) ≡ joined (laid_after indent a bs)
+    after_made : (a : PlacedLexeme) (bs : List PlacedLexeme) → AreIn text a.span.end bs → pieced text a.span.end (gaps_after indent (length text) a bs) ≡ joined (with_formatted_gaps_after indent a bs)
     unfolding AreIn
     after_made a [] h = pieced_here text a.span.end (length text) (10 ∷ []) [] ∙ ap (λ xs. 10 ∷ xs) nothing_after
     after_made a (b ∷ bs) h =
         pieced_here text a.span.end b.span.start (gap indent a b) (gaps_after indent (length text) b bs)
         ∙ ap (λ xs. gap indent a b ++ xs) (over b bs h.1 h.2 (after_made b bs h.2))
-        ∙ sym (joined_spaced (gap indent a b) (b.lexeme ∷ laid_after indent b bs))
+        ∙ sym (joined_spaced (gap indent a b) (b.lexeme ∷ with_formatted_gaps_after indent b bs))
 
-    gaps_made : (bs : List PlacedLexeme) → AreIn text 0 bs → pieced text 0 (gaps indent (length text) bs) ≡ joined (laid indent bs)
+    gaps_made : (bs : List PlacedLexeme) → AreIn text 0 bs → pieced text 0 (gaps indent (length text) bs) ≡ joined (with_formatted_gaps indent bs)
     unfolding AreIn
     gaps_made [] h = pieced_here text 0 (length text) [] [] ∙ nothing_after
     gaps_made (b ∷ bs) h = pieced_here text 0 b.span.start [] (gaps_after indent (length text) b bs) ∙ over b bs h.1 h.2 (after_made b bs h.2)
 
 -- the gaps of a scanned text
-module _ (indent : Indent) (s : Scanned) (scan : IsScan s) (ss : List LineRole) where
+module _ (indent : Indent) (s : TextWithTokens) (scan : IsScan s) (ss : List LineRole) where
   pub all_are : AreGaps s.text 0 (all_gaps indent s.text ss scan.lexemes)
-  all_are = gaps_are s.text indent (placed 0 0 true ss scan.lexemes) (all_in s scan ss)
+  all_are = gaps_are s.text indent (placed_lexemes 0 0 true ss scan.lexemes) (all_in s scan ss)
 
   pub all_changed_are : AreGaps s.text 0 (changed_gaps s.text (all_gaps indent s.text ss scan.lexemes))
   all_changed_are = changed_are s.text 0 (all_gaps indent s.text ss scan.lexemes) all_are
 
-  pub old_is_white : All (IsWhite s.text) (all_gaps indent s.text ss scan.lexemes)
+  pub old_is_white : All (IsWhiteSpace s.text) (all_gaps indent s.text ss scan.lexemes)
   old_is_white = all_white s.text 0 (all_gaps indent s.text ss scan.lexemes) all_are
 
   pub new_is_white : All (λ (c : Cut). White c.new) (all_gaps indent s.text ss scan.lexemes)
   new_is_white = new_white s.text 0 (all_gaps indent s.text ss scan.lexemes) all_are
 
-  pub all_made : pieced s.text 0 (all_gaps indent s.text ss scan.lexemes) ≡ joined (laid indent (placed 0 0 true ss scan.lexemes))
-  all_made = gaps_made s.text indent (placed 0 0 true ss scan.lexemes) (all_in s scan ss)
+  pub all_made : pieced s.text 0 (all_gaps indent s.text ss scan.lexemes) ≡ joined (with_formatted_gaps indent (placed_lexemes 0 0 true ss scan.lexemes))
+  all_made = gaps_made s.text indent (placed_lexemes 0 0 true ss scan.lexemes) (all_in s scan ss)
 
-  pub changed_made : pieced s.text 0 (changed_gaps s.text (all_gaps indent s.text ss scan.lexemes)) ≡ joined (laid indent (placed 0 0 true ss scan.lexemes))
+  pub changed_made : pieced s.text 0 (changed_gaps s.text (all_gaps indent s.text ss scan.lexemes)) ≡ joined (with_formatted_gaps indent (placed_lexemes 0 0 true ss scan.lexemes))
   changed_made = kept_or_changed s.text 0 (all_gaps indent s.text ss scan.lexemes) all_are ∙ all_made
 
-  pub all_length : laid_len (length s.text) 0 (all_gaps indent s.text ss scan.lexemes) ≡ length (joined (laid indent (placed 0 0 true ss scan.lexemes)))
+  pub all_length : formatted_len_from (length s.text) 0 (all_gaps indent s.text ss scan.lexemes) ≡ length (joined (with_formatted_gaps indent (placed_lexemes 0 0 true ss scan.lexemes)))
   all_length = sym (made_length s.text 0 (all_gaps indent s.text ss scan.lexemes) all_are) ∙ ap length all_made
 
-  pub changed_length : laid_len (length s.text) 0 (changed_gaps s.text (all_gaps indent s.text ss scan.lexemes)) ≡ length (joined (laid indent (placed 0 0 true ss scan.lexemes)))
+  pub changed_length : formatted_len_from (length s.text) 0 (changed_gaps s.text (all_gaps indent s.text ss scan.lexemes)) ≡ length (joined (with_formatted_gaps indent (placed_lexemes 0 0 true ss scan.lexemes)))
   changed_length = sym (made_length s.text 0 (changed_gaps s.text (all_gaps indent s.text ss scan.lexemes)) all_changed_are) ∙ ap length changed_made

@@ -11,12 +11,12 @@ use Rattle.ob0_scan.specs.Classes.{is_space}
 use Rattle.ob0_scan.specs.declared.lexeme.LexemeKind.{LexemeKind}
 use Rattle.ob0_scan.specs.declared.lexeme.LexemeKind.TheVariants as lexeme
 use Rattle.ob0_scan.specs.Lexed.{Lexeme, joined}
-use Rattle.ob0_scan.specs.Scanned.{Scanned, IsScan, spanned, span_from}
+use Rattle.ob0_scan.specs.TextWithTokens.{TextWithTokens, IsScan, text_in_span, span_from}
 use Rattle.ob0_scan.proofs.Cuts.{nonempty}
 use Rattle.ob0_edits_tokens.proofs.TextCuts.{IsBorder}
 use Rattle.ob0_scan.proofs.Spans.{LexemesFrom, next_from, lexeme_spanned}
 use Rattle.ob0_layout.specs.declared.line_role.LineRole.{LineRole}
-use Rattle.ob0_layout.specs.Layout.{PlacedLexeme, placed, next_line, next_role, has_break, comment_role}
+use Rattle.ob0_layout.specs.Layout.{PlacedLexeme, placed_lexemes, next_line_level, next_role, has_break, comment_role}
 use Rattle.ob0_layout.proofs.Apart.{IsSolid, solid_first}
 use Rattle.ob0_layout.proofs.LastBytes.{last_byte, last_at, solid_last}
 use Rattle.ob0_layout.proofs.Pieced.{none_taken, two_parts}
@@ -38,7 +38,7 @@ pub record IsSpaced (text : List ℕ) (from to : ℕ) : Type 0 where
 -- states that a token or comment is at its place in a text
 pub record IsAt (text : List ℕ) (a : PlacedLexeme) : Type 0 where
   pub ordered : a.span.start ≤ a.span.end
-  pub here : spanned text a.span ≡ a.lexeme.text
+  pub here : text_in_span text a.span ≡ a.lexeme.text
 
 -- holds if the text from this place has these tokens and comments, and otherwise only white space
 unfoldable pub AreIn : List ℕ → ℕ → List PlacedLexeme → Type 0
@@ -50,23 +50,23 @@ module _ (text : List ℕ) where
   byte_at at n xs e = sym (get_or-drop at text n 0) ∙ ap (λ ys. get_or ys n 0) e
 
   before_solid : (k : LexemeKind) (at : ℕ) (t : List ℕ) (ls : List Lexeme) → IsSolid k → LexemesFrom text at (record { kind = k; text = t } ∷ ls) [] → IsBorder text at
-  before_solid k at t ls solid s = record {
+  before_solid k at t ls without_white_space s = record {
     place = s.place;
     clear = λ ending.
         let here : get_or text (at + 0) 0 ≡ get_or t 0 0 = byte_at at 0 (t ++ (joined ls ++ [])) (s.rest ∙ append_assoc t (joined ls) []) ∙ get_or_append_left t (joined ls ++ []) 0 0 (nonempty k t s.each.0.belongs) in
         let lf : get_or t 0 0 ≡ 10 = sym here ∙ ap (λ n. get_or text n 0) (omega arith) ∙ ending.lf in
-        let first = solid_first k t solid s.each.0.belongs in
+        let first = solid_first k t without_white_space s.each.0.belongs in
         let never : true ≡ false = sym (ap is_space lf) ∙ first in absurd (cc);
   }
 
   following_solid : (k : LexemeKind) (at : ℕ) (t : List ℕ) (ls : List Lexeme) → IsSolid k → LexemesFrom text at (record { kind = k; text = t } ∷ ls) [] → IsBorder text (at + length t)
-  following_solid k at t ls solid s =
+  following_solid k at t ls without_white_space s =
       let some = nonempty k t s.each.0.belongs in record {
         place = (next_from text at (record { kind = k; text = t }) ls [] s).place;
         clear = λ ending.
             let here : get_or text (at + (length t - 1)) 0 ≡ get_or t (length t - 1) 0 = byte_at at (length t - 1) (t ++ (joined ls ++ [])) (s.rest ∙ append_assoc t (joined ls) []) ∙ get_or_append_left t (joined ls ++ []) 0 (length t - 1) (omega arith) in
             let cr : last_byte t ≡ 13 = sym (last_at t) ∙ sym here ∙ ap (λ n. get_or text n 0) (omega arith) ∙ ending.cr in
-            solid_last k t solid s.each.0.belongs cr;
+            solid_last k t without_white_space s.each.0.belongs cr;
       }
 
   at_end : (at : ℕ) → LexemesFrom text at [] [] → (at ≡ length text) × IsBorder text at
@@ -93,23 +93,23 @@ module _ (text : List ℕ) where
   -- holds if the lexemes placed after a border are in the text, provided that only white space
   -- precedes them
   abbrev Placed : ℕ → List Lexeme → Type 0
-  Placed at rest = (from level : ℕ) (broken : Bool) (ss : List LineRole) → from ≤ at → IsBorder text from → White (slice_range text from at) → AreIn text from (placed at level broken ss rest)
+  Placed at rest = (from level : ℕ) (broken : Bool) (ss : List LineRole) → from ≤ at → IsBorder text from → White (slice_range text from at) → AreIn text from (placed_lexemes at level broken ss rest)
 
   placed_solid : (k : LexemeKind) (at : ℕ) (t : List ℕ) (ls : List Lexeme) → IsSolid k → LexemesFrom text at (record { kind = k; text = t } ∷ ls) [] → Placed (at + length t) ls
       → (role : LineRole) (from level : ℕ) (ss : List LineRole) → from ≤ at → IsBorder text from → White (slice_range text from at)
-      → AreIn text from (record { lexeme = record { kind = k; text = t }; span = span_from at (length t); role = role } ∷ placed (at + length t) level false ss ls)
+      → AreIn text from (record { lexeme = record { kind = k; text = t }; span = span_from at (length t); role = role } ∷ placed_lexemes (at + length t) level false ss ls)
   unfolding AreIn
-  placed_solid k at t ls solid s more role from level ss up start white = (
-    record { ordered = up; within = s.place.0; white = white; start = start; end = before_solid k at t ls solid s },
+  placed_solid k at t ls without_white_space s more role from level ss up start white = (
+    record { ordered = up; within = s.place.0; white = white; start = start; end = before_solid k at t ls without_white_space s },
     record { ordered = omega arith; here = lexeme_spanned text at (record { kind = k; text = t }) ls [] s },
-    more (at + length t) level false ss (omega arith) (following_solid k at t ls solid s) (empty (at + length t)),
+    more (at + length t) level false ss (omega arith) (following_solid k at t ls without_white_space s) (empty (at + length t)),
   )
 
   placed_kind : (k : LexemeKind) (at : ℕ) (t : List ℕ) (ls : List Lexeme) → LexemesFrom text at (record { kind = k; text = t } ∷ ls) [] → Placed (at + length t) ls → Placed at (record { kind = k; text = t } ∷ ls)
   placed_kind lexeme.Space at t ls s more = λ from level broken ss up start white.
       more from level (broken || has_break t) ss (omega (arith, up)) start (longer from at t (joined ls) up (s.rest ∙ append-nil (t ++ joined ls)) white s.each.0.belongs.all)
-  placed_kind lexeme.Comment at t ls s more = λ from level broken ss. placed_solid lexeme.Comment at t ls tt s more (comment_role broken (next_line level ss)) from level ss
-  placed_kind (lexeme.Token k) at t ls s more = λ from level broken ss. placed_solid (lexeme.Token k) at t ls tt s more (next_role ss) from (next_line level ss) (drop 1 ss)
+  placed_kind lexeme.Comment at t ls s more = λ from level broken ss. placed_solid lexeme.Comment at t ls tt s more (comment_role broken (next_line_level level ss)) from level ss
+  placed_kind (lexeme.Token k) at t ls s more = λ from level broken ss. placed_solid (lexeme.Token k) at t ls tt s more (next_role ss) from (next_line_level level ss) (drop 1 ss)
 
   placed_from : (rest : List Lexeme) (at : ℕ) → LexemesFrom text at rest [] → Placed at rest
   unfolding AreIn
@@ -118,11 +118,11 @@ module _ (text : List ℕ) where
       subst (IsSpaced text from) end.0 (record { ordered = up; within = s.place.0; white = white; start = start; end = end.1 })
   placed_from (l ∷ ls) at s = placed_kind l.kind at l.text ls s (placed_from ls (at + length l.text) (next_from text at l ls [] s))
 
-pub from_start : (s : Scanned) (scan : IsScan s) → LexemesFrom s.text 0 scan.lexemes []
+pub from_start : (s : TextWithTokens) (scan : IsScan s) → LexemesFrom s.text 0 scan.lexemes []
 from_start s scan = record { utf8 = scan.utf8; place = IsCharBoundary-start s.text scan.utf8; each = scan.lexed.each; rest = sym (append-nil (joined scan.lexemes) ∙ scan.lexed.whole) }
 
 -- A scanned text has its tokens and comments.
-pub all_in : (s : Scanned) (scan : IsScan s) (ss : List LineRole) → AreIn s.text 0 (placed 0 0 true ss scan.lexemes)
+pub all_in : (s : TextWithTokens) (scan : IsScan s) (ss : List LineRole) → AreIn s.text 0 (placed_lexemes 0 0 true ss scan.lexemes)
 all_in s scan ss =
     let border : IsBorder s.text 0 = record { place = IsCharBoundary-start s.text scan.utf8; clear = λ ending. omega (arith, ending.cr, ending.lf, ap (λ n. get_or s.text n 0) zero_less) } in
     placed_from s.text scan.lexemes 0 (from_start s scan) 0 0 true ss (omega arith) border (empty s.text 0)

@@ -4,14 +4,14 @@ use Rattle.std.specs.List.{AllPass}
 use Rattle.std.specs.Char.{is_ascii_alphanumeric, is_ascii_digit}
 use Rattle.std.proofs.lemmas.Bool.{cases_Bool, and_parts}
 use Rattle.std.proofs.lemmas.List.Elements.{All-get_or}
-use Rattle.ob0_scan.specs.declared.lexeme.Reserved.{Reserved}
-use Rattle.ob0_scan.specs.declared.lexeme.Reserved.TheVariants as reserved
+use Rattle.ob0_scan.specs.declared.lexeme.ReservedWord.{ReservedWord}
+use Rattle.ob0_scan.specs.declared.lexeme.ReservedWord.TheVariants as reserved
 use Rattle.ob0_scan.specs.declared.lexeme.Symbol.{Symbol}
 use Rattle.ob0_scan.specs.declared.lexeme.Symbol.TheVariants as symbol
 use Rattle.ob0_scan.specs.declared.lexeme.TokenKind.TheVariants as token
 use Rattle.ob0_scan.specs.declared.lexeme.LexemeKind.{LexemeKind}
 use Rattle.ob0_scan.specs.declared.lexeme.LexemeKind.TheVariants as lexeme
-use Rattle.ob0_scan.specs.Classes.{Belongs, reserved_text, symbol_text}
+use Rattle.ob0_scan.specs.Classes.{IsLexemeOfKind, reserved_text, symbol_text}
 use Rattle.ob0_scan.specs.Comments.{Closes, is_opening_pair, is_closing_pair, marks, IsComment}
 use Rattle.ob0_scan.proofs.Closings.{Ends, ends_from_comment, counts_other, after_opens, after_closes, after_other, marks_opening, marks_closing, marks_other}
 use Rattle.ob0_scan.proofs.Cuts.{nonempty}
@@ -38,7 +38,7 @@ symbol_last : (s : Symbol) → last_byte (symbol_text s) ≡ 13 → ⊥
 symbol_last symbol.And e = omega (arith, e)
 symbol_last _ e = omega (arith, e)
 
-reserved_last : (r : Reserved) → last_byte (reserved_text r) ≡ 13 → ⊥
+reserved_last : (r : ReservedWord) → last_byte (reserved_text r) ≡ 13 → ⊥
 reserved_last reserved.Module e = omega (arith, e)
 reserved_last _ e = omega (arith, e)
 
@@ -94,10 +94,10 @@ comment_last (a ∷ b ∷ w) c e =
     let end = over_some a b w (closed_last 1 w (omega arith) (ends_from_comment w whole)) in
     omega (arith, e, end)
 
-pub solid_last : (k : LexemeKind) (t : List ℕ) → IsSolid k → Belongs k t → last_byte t ≡ 13 → ⊥
-solid_last lexeme.Space t solid b e = solid
-solid_last lexeme.Comment t solid b e = comment_last t b e
-solid_last (lexeme.Token token.Identifier) t solid b e = passing_last is_ascii_alphanumeric t (nonempty (lexeme.Token token.Identifier) t b) b.word.all refl e
-solid_last (lexeme.Token (token.Reserved r)) t solid b e = reserved_last r (sym (ap last_byte b) ∙ e)
-solid_last (lexeme.Token (token.Integer n)) t solid b e = passing_last is_ascii_digit t b.digits.nonempty b.digits.all refl e
-solid_last (lexeme.Token (token.Symbol s)) t solid b e = symbol_last s (sym (ap last_byte b) ∙ e)
+pub solid_last : (k : LexemeKind) (t : List ℕ) → IsSolid k → IsLexemeOfKind k t → last_byte t ≡ 13 → ⊥
+solid_last lexeme.Space t without_white_space b e = without_white_space
+solid_last lexeme.Comment t without_white_space b e = comment_last t b e
+solid_last (lexeme.Token token.Identifier) t without_white_space b e = passing_last is_ascii_alphanumeric t (nonempty (lexeme.Token token.Identifier) t b) b.word.all refl e
+solid_last (lexeme.Token (token.ReservedWord r)) t without_white_space b e = reserved_last r (sym (ap last_byte b) ∙ e)
+solid_last (lexeme.Token (token.Integer n)) t without_white_space b e = passing_last is_ascii_digit t b.digits.nonempty b.digits.all refl e
+solid_last (lexeme.Token (token.Symbol s)) t without_white_space b e = symbol_last s (sym (ap last_byte b) ∙ e)

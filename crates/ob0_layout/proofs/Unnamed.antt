@@ -2,7 +2,7 @@
 use Rattle.std.proofs.Common.{◌≡◌, ℕ, [], ◌∷◌, ◌++◌, refl}
 use Rattle.ob0_tree.specs.Tree.{Sort, Tree, one, more, compares, relates, sum, adds, product, multiplies, designator, parenthesised, negation, index, assigns, calls, branches, while_loop, repeat_loop, some_arguments, then_argument, runs, then_statement, elsif_branch, else_branch, listed, array_type, record_type, some_fields, then_fields, some_formals, value_section, variable_section, then_section, declares_constant, declares_constants, declares_type, declares_types, declares_variable, declares_variables, declares_procedure, declares, begins, has_body, is_module, mapped}
 use Rattle.ob0_layout.specs.declared.line_role.LineRole.TheVariants.{Begins, Opening, Plain}
-use Rattle.ob0_layout.specs.LineRoles.{line_roles, deeper, in_line, sign_role}
+use Rattle.ob0_layout.specs.LineRoles.{line_roles, deeper, with_line_start, sign_role}
 
 pub roles_mapped : {N M : Type 0} {s : Sort} (u : N → M) (v : ℕ → ℕ) (k : ℕ) (t : Tree N s) → line_roles k (mapped u v t) ≡ line_roles k t
 roles_mapped u v k (one t) = λ j. roles_mapped u v k t j
@@ -41,7 +41,7 @@ roles_mapped u v k (declares_constant name e) = λ j. Begins (deeper k) ∷ Plai
 roles_mapped u v k (declares_constants cs) = λ j. Begins k ∷ roles_mapped u v k cs j
 roles_mapped u v k (declares_type name t) = λ j. Begins (deeper k) ∷ Plain ∷ (roles_mapped u v 0 t j ++ (Plain ∷ []))
 roles_mapped u v k (declares_types ts) = λ j. Begins k ∷ roles_mapped u v k ts j
-roles_mapped u v k (declares_variable ns t) = λ j. in_line (deeper k) (roles_mapped u v 0 ns j) ++ (Plain ∷ (roles_mapped u v 0 t j ++ (Plain ∷ [])))
+roles_mapped u v k (declares_variable ns t) = λ j. with_line_start (deeper k) (roles_mapped u v 0 ns j) ++ (Plain ∷ (roles_mapped u v 0 t j ++ (Plain ∷ [])))
 roles_mapped u v k (declares_variables vs) = λ j. Begins k ∷ roles_mapped u v k vs j
 roles_mapped u v k (declares_procedure name fs b closing) = λ j. Begins (deeper k) ∷ Plain ∷ (roles_mapped u v 0 fs j ++ (Plain ∷ (roles_mapped u v (deeper k) b j ++ (Begins (deeper k) ∷ Plain ∷ Plain ∷ []))))
 roles_mapped u v k (declares cs ts vs ps) = λ j. roles_mapped u v k cs j ++ (roles_mapped u v k ts j ++ (roles_mapped u v k vs j ++ roles_mapped u v k ps j))

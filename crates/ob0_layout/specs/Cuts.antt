@@ -12,27 +12,27 @@ use Rattle.ob0_layout.specs.declared.line_role.LineRole.{LineRole}
 use Rattle.ob0_layout.specs.declared.sites.GapSite.{GapSite}
 use Rattle.ob0_layout.specs.declared.sites.NextLexeme.{NextLexeme}
 use Rattle.ob0_layout.specs.declared.sites.NextLexeme.TheVariants as next
-use Rattle.ob0_layout.specs.declared.sites.Solid.{Solid}
+use Rattle.ob0_layout.specs.declared.sites.KindAndRole.{KindAndRole}
 use Rattle.ob0_layout.specs.Gaps.{is_changed}
 use Rattle.ob0_layout.specs.Layout.{gap_between, gap_text}
 
 -- Returns the first of the remaining tokens and comments, or None if none remains.
-abbrev pub next_of : List Token → List Span → Option NextLexeme
-next_of [] [] = None
-next_of [] (c ∷ cs) = Some (next.Comment c)
-next_of (t ∷ ts) [] = Some (next.Token t)
-next_of (t ∷ ts) (c ∷ cs) =
+abbrev pub next_lexeme : List Token → List Span → Option NextLexeme
+next_lexeme [] [] = None
+next_lexeme [] (c ∷ cs) = Some (next.Comment c)
+next_lexeme (t ∷ ts) [] = Some (next.Token t)
+next_lexeme (t ∷ ts) (c ∷ cs) =
     if nat_lt c.start t.span.start then Some (next.Comment c) else Some (next.Token t)
 
 -- Returns the gap between a token or comment and the next one, which has this kind and role. At the
 -- start of the text (None) the gap is empty.
-abbrev pub gap_before : Option Solid → LexemeKind → LineRole → Gap
+abbrev pub gap_before : Option KindAndRole → LexemeKind → LineRole → Gap
 gap_before None kind role = Nothing
 gap_before (Some b) kind role = gap_between b.kind b.role kind role
 
 -- Returns the gap after the last token or comment: a line feed, or nothing if the text has no token
 -- or comment (None).
-abbrev pub last_gap : Option Solid → Gap
+abbrev pub last_gap : Option KindAndRole → Gap
 last_gap None = Nothing
 last_gap (Some b) = Line 0
 
@@ -50,6 +50,6 @@ pub record LiesIn (len : ℕ) (g : GapSite) : Type 0 where
   pub within : g.end ≤ len
 
 -- returns true if each of these bytes is `b`
-abbrev pub all_are : ℕ → List ℕ → Bool
-all_are b [] = true
-all_are b (c ∷ cs) = (c == b) && all_are b cs
+abbrev pub all_equal_to : ℕ → List ℕ → Bool
+all_equal_to b [] = true
+all_equal_to b (c ∷ cs) = (c == b) && all_equal_to b cs

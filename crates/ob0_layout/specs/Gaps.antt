@@ -10,7 +10,7 @@ use Rattle.ob0_text.specs.declared.position_types.Range.{Range}
 use Rattle.ob0_text.specs.Patches.{Cut}
 use Rattle.ob0_text.specs.Texts.{position_of}
 use Rattle.ob0_layout.specs.declared.line_role.LineRole.{LineRole}
-use Rattle.ob0_layout.specs.Layout.{PlacedLexeme, placed, gap}
+use Rattle.ob0_layout.specs.Layout.{PlacedLexeme, placed_lexemes, gap}
 
 -- Returns the gaps after the token or comment `a`, each as a cut that replaces it by its text after
 -- formatting. The list has the tokens and comments after `a`, and `len` is the length of the text
@@ -32,7 +32,7 @@ gaps indent len (a ∷ bs) =
 -- Returns all gaps of a text, which consists of these lexemes, as cuts. `ss` are the roles of its
 -- tokens.
 abbrev pub all_gaps : Indent → List ℕ → List LineRole → List Lexeme → List Cut
-all_gaps indent text ss lexemes = gaps indent (length text) (placed 0 0 true ss lexemes)
+all_gaps indent text ss lexemes = gaps indent (length text) (placed_lexemes 0 0 true ss lexemes)
 
 -- returns true if formatting changes the text of a gap
 abbrev pub is_changed : List ℕ → Cut → Bool
@@ -43,13 +43,13 @@ abbrev pub changed_gaps : List ℕ → List Cut → List Cut
 changed_gaps text cs = filter (is_changed text) cs
 
 -- The content of an edit: the range that it replaces, and its new text in bytes.
-pub record EditText : Type 0 where
+pub record EditContent : Type 0 where
   pub range : Range
   pub text : List ℕ
 
 -- Returns the edit that replaces a whole gap of the text `content`. `width` gives the number of
 -- units of a character.
-abbrev pub edit_of : (ℕ → ℕ) → List ℕ → Cut → EditText
+abbrev pub edit_of : (ℕ → ℕ) → List ℕ → Cut → EditContent
 edit_of width content c = record {
   range =
       record { start = position_of width content c.from; end = position_of width content c.to };
@@ -57,15 +57,15 @@ edit_of width content c = record {
 }
 
 -- Returns the content of an edit of the code.
-abbrev pub edit_text : Edit → EditText
-edit_text e = record { range = e.range; text = string_bytes e.text }
+abbrev pub edit_content : Edit → EditContent
+edit_content e = record { range = e.range; text = string_bytes e.text }
 
 -- Returns the length in bytes of a part of the formatted text: the text from the offset `at` to its
 -- end, after these gaps are formatted. `len` is the length of the text before formatting.
-abbrev pub laid_len : ℕ → ℕ → List Cut → ℕ
-laid_len len at [] = len - at
-laid_len len at (c ∷ cs) = (c.from - at) + (length c.new + laid_len len c.to cs)
+abbrev pub formatted_len_from : ℕ → ℕ → List Cut → ℕ
+formatted_len_from len at [] = len - at
+formatted_len_from len at (c ∷ cs) = (c.from - at) + (length c.new + formatted_len_from len c.to cs)
 
 -- holds if a gap of a text contains only white space
-abbrev pub IsWhite : List ℕ → Cut → Type 0
-IsWhite text c = AllPass is_space (slice_range text c.from c.to)
+abbrev pub IsWhiteSpace : List ℕ → Cut → Type 0
+IsWhiteSpace text c = AllPass is_space (slice_range text c.from c.to)

@@ -12,9 +12,9 @@ deeper k = min (k + 1) 4294967295
 
 -- Returns the roles of some tokens after the first one is changed: the first token begins a line of
 -- this level.
-abbrev pub in_line : ℕ → List LineRole → List LineRole
-in_line level [] = []
-in_line level (s ∷ ss) = Begins level ∷ ss
+abbrev pub with_line_start : ℕ → List LineRole → List LineRole
+with_line_start level [] = []
+with_line_start level (s ∷ ss) = Begins level ∷ ss
 
 -- Returns the role of a sign, after which no space comes, as a list. Without a sign the list is
 -- empty.
@@ -24,9 +24,9 @@ sign_role (Some s) = Joining ∷ []
 
 -- Returns the role of the separator before an item of a list, as a list. If the item is the first
 -- one (true), there is no separator.
-abbrev pub separated : Bool → List LineRole
-separated true = []
-separated false = Plain ∷ []
+abbrev pub separator_role : Bool → List LineRole
+separator_role true = []
+separator_role false = Plain ∷ []
 
 -- Returns the roles of a tree's tokens, in text order. The level is the block's, or in a sequence
 -- the level of its statements. The module has level 0, and a procedure one level more than the
@@ -93,7 +93,7 @@ line_roles k (declares_constants cs) = Begins k ∷ line_roles k cs
 line_roles k (declares_type name t) = Begins (deeper k) ∷ Plain ∷ (line_roles 0 t ++ (Plain ∷ []))
 line_roles k (declares_types ts) = Begins k ∷ line_roles k ts
 line_roles k (declares_variable ns t) =
-    in_line (deeper k) (line_roles 0 ns) ++ (Plain ∷ (line_roles 0 t ++ (Plain ∷ [])))
+    with_line_start (deeper k) (line_roles 0 ns) ++ (Plain ∷ (line_roles 0 t ++ (Plain ∷ [])))
 line_roles k (declares_variables vs) = Begins k ∷ line_roles k vs
 line_roles k (declares_procedure name fs b closing) =
     Begins (deeper k)

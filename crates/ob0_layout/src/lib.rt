@@ -2,12 +2,12 @@
 //! text.
 #![tactic(auto)]
 
-mod formatting;
+mod formatting_edits;
 mod gap;
 pub mod laws;
 mod line_role;
 mod sites;
 mod walk;
 
-pub use formatting::format;
+pub use formatting_edits::format;
 pub use line_role::LineRole;

@@ -4,10 +4,10 @@
 //! building their texts.
 
 ghost use Rattle.std.specs.Prelude.{◌≡◌, ◌||◌, ◌==◌, ◌++◌, ◌∷◌, [], IfOk, OnOk, is_none, drop, length, map};
-ghost use Rattle.ob0_scan.specs.Scanned.{IsScan};
-ghost use Rattle.ob0_layout.specs.Cuts.{changed_sites, gap_cut, next_of, gap_before, last_gap, LiesIn};
+ghost use Rattle.ob0_scan.specs.TextWithTokens.{IsScan};
+ghost use Rattle.ob0_layout.specs.Cuts.{changed_sites, gap_cut, next_lexeme, gap_before, last_gap, LiesIn};
 ghost use Rattle.ob0_layout.specs.Gaps.{all_gaps, changed_gaps, is_changed};
-ghost use Rattle.ob0_layout.specs.Layout.{next_line, next_role, comment_role, has_break};
+ghost use Rattle.ob0_layout.specs.Layout.{next_line_level, next_role, comment_role, has_break};
 
 use crate::LineRole;
 use crate::gap::{Gap, gap_between};
@@ -25,7 +25,7 @@ pub struct GapSite {
 
 /// The kind of a token or comment, and its role in its line.
 #[derive(Clone, Copy)]
-pub struct Solid {
+pub struct KindAndRole {
     pub kind: LexemeKind,
     pub role: LineRole,
 }
@@ -54,44 +54,44 @@ pub fn changed_sites(
     let mut comments = tokens.comments();
     let mut roles = roles;
     let mut sites = Vec::new(alloc);
-    let mut before: Option<Solid> = None;
+    let mut before: Option<KindAndRole> = None;
     let mut level = 0;
     let mut start = 0;
-    while let Some(next) = next_of(left, comments) {
+    while let Some(next) = next_lexeme(left, comments) {
         match next {
             NextLexeme::Comment(span) => {
                 let broken = begins_line(before, &text[start..span.start as usize]);
-                let role = comment_role(broken, next_line(level, roles));
+                let role = comment_role(broken, next_line_level(level, roles));
                 let kind = LexemeKind::Comment;
                 let gap = gap_before(before, kind, role);
                 let end = span.start as usize;
-                add(&mut sites, text, GapSite { start, end, gap }, indent)?;
-                before = Some(Solid { kind, role });
+                add_if_changed(&mut sites, text, GapSite { start, end, gap }, indent)?;
+                before = Some(KindAndRole { kind, role });
                 start = span.end as usize;
-                comments = after_first(comments);
+                comments = without_first_item(comments);
             }
             NextLexeme::Token(token) => {
                 let role = next_role(roles);
                 let kind = LexemeKind::Token(token.kind);
                 let gap = gap_before(before, kind, role);
                 let end = token.span.start as usize;
-                add(&mut sites, text, GapSite { start, end, gap }, indent)?;
-                before = Some(Solid { kind, role });
-                level = next_line(level, roles);
-                roles = after_first(roles);
+                add_if_changed(&mut sites, text, GapSite { start, end, gap }, indent)?;
+                before = Some(KindAndRole { kind, role });
+                level = next_line_level(level, roles);
+                roles = without_first_item(roles);
                 start = token.span.end as usize;
-                left = after_first(left);
+                left = without_first_item(left);
             }
         }
     }
     let end = text.len();
     let gap = last_gap(before);
-    add(&mut sites, text, GapSite { start, end, gap }, indent)?;
+    add_if_changed(&mut sites, text, GapSite { start, end, gap }, indent)?;
     Ok(sites)
 }
 
 /// Adds a gap to the list if formatting changes it.
-fn add(
+fn add_if_changed(
     sites: &mut Vec<GapSite>,
     text: &[u8],
     site: GapSite,
@@ -116,8 +116,8 @@ fn is_changed(text: &[u8], site: GapSite, indent: Indent) -> bool
 }
 
 /// Returns the first of the remaining tokens and comments, or None if none remains.
-fn next_of(left: &[Token], comments: &[Span]) -> Option<NextLexeme>
-    ensures { result ≡ next_of left.now comments.now }
+fn next_lexeme(left: &[Token], comments: &[Span]) -> Option<NextLexeme>
+    ensures { result ≡ next_lexeme left.now comments.now }
 {
     if left.is_empty() {
         if comments.is_empty() {
@@ -137,7 +137,7 @@ fn next_of(left: &[Token], comments: &[Span]) -> Option<NextLexeme>
 
 /// Returns the gap between `before` and the next token or comment, which has this kind and role. At
 /// the start of the text (`before` is None) the gap is empty.
-fn gap_before(before: Option<Solid>, kind: LexemeKind, role: LineRole) -> Gap
+fn gap_before(before: Option<KindAndRole>, kind: LexemeKind, role: LineRole) -> Gap
     ensures { result ≡ gap_before before kind role }
 {
     match before {
@@ -148,7 +148,7 @@ fn gap_before(before: Option<Solid>, kind: LexemeKind, role: LineRole) -> Gap
 
 /// Returns the gap after `before`, the last token or comment: a line feed. If the text has no token
 /// or comment, `before` is None and the gap is empty.
-fn last_gap(before: Option<Solid>) -> Gap
+fn last_gap(before: Option<KindAndRole>) -> Gap
     ensures { result ≡ last_gap before }
 {
     match before {
@@ -159,8 +159,8 @@ fn last_gap(before: Option<Solid>) -> Gap
 
 /// Returns the level of the next token's line, or 0 if no token follows. `level` is the level of
 /// the current line.
-fn next_line(level: u32, roles: &[LineRole]) -> u32
-    ensures { result ≡ next_line level roles.now }
+fn next_line_level(level: u32, roles: &[LineRole]) -> u32
+    ensures { result ≡ next_line_level level roles.now }
 {
     if roles.is_empty() {
         return 0;
@@ -184,7 +184,7 @@ fn next_role(roles: &[LineRole]) -> LineRole
 }
 
 /// Returns a list without its first item.
-fn after_first<T>(items: &[T]) -> &[T]
+fn without_first_item<T>(items: &[T]) -> &[T]
     ensures { result.now ≡ drop 1 items.now }
 {
     if items.is_empty() {
@@ -207,7 +207,7 @@ fn comment_role(broken: bool, level: u32) -> LineRole
 
 /// Returns true if the token or comment after a gap begins a line: the gap has a line break, or is
 /// at the start of the text (`before` is None).
-fn begins_line(before: Option<Solid>, gap: &[u8]) -> bool
+fn begins_line(before: Option<KindAndRole>, gap: &[u8]) -> bool
     ensures { result ≡ (is_none before || has_break gap.now) }
 {
     before.is_none() || has_break(gap)

@@ -2,16 +2,16 @@
 
 ghost use Rattle.std.specs.Prelude.{◌≡◌, ◌++◌, ◌∷◌, [], IfOk};
 ghost use Rattle.ob0_layout.specs.declared.line_role.LineRole.TheVariants.{Begins, Plain};
-ghost use Rattle.ob0_layout.specs.LineRoles.{line_roles, deeper, sign_role, separated};
-ghost use Rattle.ob0_tree.specs.Parsed.{tree_of};
+ghost use Rattle.ob0_layout.specs.LineRoles.{line_roles, deeper, sign_role, separator_role};
+ghost use Rattle.ob0_tree.specs.ParsedModule.{tree_of};
 ghost use Rattle.ob0_tree.specs.Tree.{then_name};
-ghost use Rattle.ob0_tree.specs.View.{items_of, expression_of, compound_of, simple_of, term_of, factor_of, selector_of, designator_of, assignment_of, arguments_in, call_of, statement_of, if_of, elsifs_in, sequence_in, type_of, record_in, fields_of, section_of, formals_of, constants_of, types_of, variables_of, body_of, procedure_of, block_of};
+ghost use Rattle.ob0_tree.specs.View.{items_of, expression_of, compound_of, simple_of, term_of, factor_of, selector_of, designator_of, assignment_of, arguments_of_vec, call_of, statement_of, if_of, elsifs_of_vec, sequence_of_vec, type_of, record_type_of, fields_of, section_of, formals_of, constants_of, types_of, variables_of, body_of, procedure_of, block_of};
 
 use crate::line_role::LineRole;
 use ob0_tree::{
-    Assignment, Block, Call, Compound, Constant, Designator, Elsif, Expression, Factor, Fields, If,
-    Module, Names, Procedure, RecordType, Section, Selector, Sign, Simple, Statement, Term,
-    TypeDeclaration, Variables, WrittenType,
+    Assignment, Block, Call, CompoundExpression, Constant, Designator, Elsif, Expression, Factor,
+    Fields, If, Module, Names, ParameterSection, Procedure, RecordType, Selector, Sign,
+    SimpleExpression, Statement, Term, TypeDeclaration, VariableDeclaration, WrittenType,
 };
 use std::alloc::{AllocError, Global};
 
@@ -21,12 +21,12 @@ pub(crate) fn line_roles(alloc: Global, module: &Module) -> Result<Vec<LineRole>
 {
     let mut out = Vec::with_capacity(alloc, module.tokens().tokens().len())?;
     out.push(LineRole::Begins(0))?;
-    plain(&mut out)?;
-    plain(&mut out)?;
-    block(&mut out, 0, module.block())?;
+    add_plain_role(&mut out)?;
+    add_plain_role(&mut out)?;
+    add_block_roles(&mut out, 0, module.block())?;
     out.push(LineRole::Begins(0))?;
-    plain(&mut out)?;
-    plain(&mut out)?;
+    add_plain_role(&mut out)?;
+    add_plain_role(&mut out)?;
     Ok(out)
 }
 
@@ -38,7 +38,7 @@ fn deeper(level: u32) -> u32
 }
 
 /// Appends the role `Plain`, of a token whose gaps depend only on its kind.
-fn plain(out: &mut Vec<LineRole>) -> Result<(), AllocError>
+fn add_plain_role(out: &mut Vec<LineRole>) -> Result<(), AllocError>
     ensures { IfOk result (λ _. out.new.items ≡ out.old.items ++ (Plain ∷ [])) }
 {
     out.push(LineRole::Plain)?;
@@ -47,31 +47,31 @@ fn plain(out: &mut Vec<LineRole>) -> Result<(), AllocError>
 
 /// Appends the roles of an expression's tokens.
 #[cycle(expressions)]
-fn expression(out: &mut Vec<LineRole>, e: &Expression) -> Result<(), AllocError>
+fn add_expression_roles(out: &mut Vec<LineRole>, e: &Expression) -> Result<(), AllocError>
     ensures { IfOk result
         (λ _. out.new.items ≡ out.old.items ++ line_roles 0 (expression_of e.now)) }
 {
     match e {
-        Expression::Factor(f) => factor(out, f),
-        Expression::Compound(c) => compound(out, c),
+        Expression::Factor(f) => add_factor_roles(out, f),
+        Expression::CompoundExpression(c) => add_compound_roles(out, c),
     }
 }
 
 /// Appends the roles of the tokens of an expression that isn't a single factor.
 #[cycle(expressions)]
-fn compound(out: &mut Vec<LineRole>, c: &Compound) -> Result<(), AllocError>
+fn add_compound_roles(out: &mut Vec<LineRole>, c: &CompoundExpression) -> Result<(), AllocError>
     ensures { IfOk result (λ _. out.new.items ≡ out.old.items ++ line_roles 0 (compound_of c.now)) }
 {
-    simple(out, &c.left)?;
+    add_simple_roles(out, &c.left)?;
     if let Some(compared) = &c.compared {
-        plain(out)?;
-        simple(out, &compared.right)?;
+        add_plain_role(out)?;
+        add_simple_roles(out, &compared.right)?;
     }
     Ok(())
 }
 
 /// Appends the role of a sign, if there is one.
-fn sign(out: &mut Vec<LineRole>, sign: Option<Sign>) -> Result<(), AllocError>
+fn add_sign_role(out: &mut Vec<LineRole>, sign: Option<Sign>) -> Result<(), AllocError>
     ensures { IfOk result (λ _. out.new.items ≡ out.old.items ++ sign_role sign) }
 {
     if sign.is_some() {
@@ -82,106 +82,106 @@ fn sign(out: &mut Vec<LineRole>, sign: Option<Sign>) -> Result<(), AllocError>
 
 /// Appends the roles of a simple expression's tokens.
 #[cycle(expressions)]
-fn simple(out: &mut Vec<LineRole>, s: &Simple) -> Result<(), AllocError>
+fn add_simple_roles(out: &mut Vec<LineRole>, s: &SimpleExpression) -> Result<(), AllocError>
     ensures { IfOk result (λ _. out.new.items ≡ out.old.items ++ line_roles 0 (simple_of s.now)) }
 {
-    sign(out, s.sign)?;
-    term(out, &s.first)?;
+    add_sign_role(out, s.sign)?;
+    add_term_roles(out, &s.first)?;
     for addend in &s.more {
-        plain(out)?;
-        term(out, &addend.term)?;
+        add_plain_role(out)?;
+        add_term_roles(out, &addend.term)?;
     }
     Ok(())
 }
 
 /// Appends the roles of a term's tokens.
 #[cycle(expressions)]
-fn term(out: &mut Vec<LineRole>, t: &Term) -> Result<(), AllocError>
+fn add_term_roles(out: &mut Vec<LineRole>, t: &Term) -> Result<(), AllocError>
     ensures { IfOk result (λ _. out.new.items ≡ out.old.items ++ line_roles 0 (term_of t.now)) }
 {
-    factor(out, &t.first)?;
+    add_factor_roles(out, &t.first)?;
     for multiplier in &t.more {
-        plain(out)?;
-        factor(out, &multiplier.factor)?;
+        add_plain_role(out)?;
+        add_factor_roles(out, &multiplier.factor)?;
     }
     Ok(())
 }
 
 /// Appends the roles of a factor's tokens.
 #[cycle(expressions)]
-fn factor(out: &mut Vec<LineRole>, f: &Factor) -> Result<(), AllocError>
+fn add_factor_roles(out: &mut Vec<LineRole>, f: &Factor) -> Result<(), AllocError>
     ensures { IfOk result (λ _. out.new.items ≡ out.old.items ++ line_roles 0 (factor_of f.now)) }
 {
     match f {
-        Factor::Designator(d) => designator(out, d),
-        Factor::Integer(_) => plain(out),
+        Factor::Designator(d) => add_designator_roles(out, d),
+        Factor::Integer(_) => add_plain_role(out),
         Factor::Parenthesised(e) => {
-            plain(out)?;
-            expression(out, e)?;
-            plain(out)
+            add_plain_role(out)?;
+            add_expression_roles(out, e)?;
+            add_plain_role(out)
         }
         Factor::Not(f) => {
-            plain(out)?;
-            factor(out, f)
+            add_plain_role(out)?;
+            add_factor_roles(out, f)
         }
     }
 }
 
 /// Appends the roles of the tokens of a name with its selectors.
 #[cycle(expressions)]
-fn designator(out: &mut Vec<LineRole>, d: &Designator) -> Result<(), AllocError>
+fn add_designator_roles(out: &mut Vec<LineRole>, d: &Designator) -> Result<(), AllocError>
     ensures { IfOk result
         (λ _. out.new.items ≡ out.old.items ++ line_roles 0 (designator_of d.now)) }
 {
-    plain(out)?;
+    add_plain_role(out)?;
     for s in &d.selectors {
-        selector(out, s)?;
+        add_selector_roles(out, s)?;
     }
     Ok(())
 }
 
 /// Appends the roles of a selector's tokens.
 #[cycle(expressions)]
-fn selector(out: &mut Vec<LineRole>, s: &Selector) -> Result<(), AllocError>
+fn add_selector_roles(out: &mut Vec<LineRole>, s: &Selector) -> Result<(), AllocError>
     ensures { IfOk result (λ _. out.new.items ≡ out.old.items ++ line_roles 0 (selector_of s.now)) }
 {
     match s {
         Selector::Field(_) => {
             out.push(LineRole::Joining)?;
-            plain(out)
+            add_plain_role(out)
         }
         Selector::Index(e) => {
-            plain(out)?;
-            expression(out, e)?;
-            plain(out)
+            add_plain_role(out)?;
+            add_expression_roles(out, e)?;
+            add_plain_role(out)
         }
     }
 }
 
 /// Appends the role of the separator before an item of a list, unless the item is the first one.
-fn separator(out: &mut Vec<LineRole>, first: bool) -> Result<(), AllocError>
-    ensures { IfOk result (λ _. out.new.items ≡ out.old.items ++ separated first) }
+fn add_separator_role(out: &mut Vec<LineRole>, first: bool) -> Result<(), AllocError>
+    ensures { IfOk result (λ _. out.new.items ≡ out.old.items ++ separator_role first) }
 {
     if !first {
-        plain(out)?;
+        add_plain_role(out)?;
     }
     Ok(())
 }
 
 /// Appends the roles of a sequence of statements of this level, with a `;` between them.
 #[cycle(statements)]
-fn sequence(
+fn add_sequence_roles(
     out: &mut Vec<LineRole>,
     level: u32,
     statements: &Vec<Statement>,
 ) -> Result<(), AllocError>
     ensures { IfOk result
-        (λ _. out.new.items ≡ out.old.items ++ line_roles level (sequence_in statements.now)) }
+        (λ _. out.new.items ≡ out.old.items ++ line_roles level (sequence_of_vec statements.now)) }
 {
     let mut first = true;
     for s in statements {
-        separator(out, first)?;
-        statement(out, level, s)?;
+        add_separator_role(out, first)?;
+        add_statement_roles(out, level, s)?;
         first = false;
     }
     Ok(())
@@ -189,33 +189,33 @@ fn sequence(
 
 /// Appends the roles of a statement, whose first token begins a line of this level.
 #[cycle(statements)]
-fn statement(out: &mut Vec<LineRole>, level: u32, s: &Statement) -> Result<(), AllocError>
+fn add_statement_roles(out: &mut Vec<LineRole>, level: u32, s: &Statement) -> Result<(), AllocError>
     ensures { IfOk result
         (λ _. out.new.items ≡ out.old.items ++ line_roles level (statement_of s.now)) }
 {
     match s {
         Statement::Empty => Ok(()),
-        Statement::Assign(a) => assignment(out, level, a),
-        Statement::Call(c) => call(out, level, c),
-        Statement::If(i) => branches(out, level, i),
+        Statement::Assign(a) => add_assignment_roles(out, level, a),
+        Statement::Call(c) => add_call_roles(out, level, c),
+        Statement::If(i) => add_if_roles(out, level, i),
         Statement::While(w) => {
             out.push(LineRole::Begins(level))?;
-            expression(out, &w.condition)?;
-            plain(out)?;
-            sequence(out, deeper(level), &w.body)?;
-            begin(out, level)
+            add_expression_roles(out, &w.condition)?;
+            add_plain_role(out)?;
+            add_sequence_roles(out, deeper(level), &w.body)?;
+            add_line_start_role(out, level)
         }
         Statement::Repeat(r) => {
             out.push(LineRole::Begins(level))?;
-            sequence(out, deeper(level), &r.body)?;
+            add_sequence_roles(out, deeper(level), &r.body)?;
             out.push(LineRole::Begins(level))?;
-            expression(out, &r.condition)
+            add_expression_roles(out, &r.condition)
         }
     }
 }
 
 /// Appends the role of a token that begins a line of this level.
-fn begin(out: &mut Vec<LineRole>, level: u32) -> Result<(), AllocError>
+fn add_line_start_role(out: &mut Vec<LineRole>, level: u32) -> Result<(), AllocError>
     ensures { IfOk result (λ _. out.new.items ≡ out.old.items ++ (Begins level ∷ [])) }
 {
     out.push(LineRole::Begins(level))?;
@@ -223,141 +223,152 @@ fn begin(out: &mut Vec<LineRole>, level: u32) -> Result<(), AllocError>
 }
 
 /// Appends the roles of an assignment, whose first token begins a line of this level.
-fn assignment(out: &mut Vec<LineRole>, level: u32, a: &Assignment) -> Result<(), AllocError>
+fn add_assignment_roles(
+    out: &mut Vec<LineRole>,
+    level: u32,
+    a: &Assignment,
+) -> Result<(), AllocError>
     ensures { IfOk result
         (λ _. out.new.items ≡ out.old.items ++ line_roles level (assignment_of a.now)) }
 {
-    begin(out, level)?;
+    add_line_start_role(out, level)?;
     for s in &a.target.selectors {
-        selector(out, s)?;
+        add_selector_roles(out, s)?;
     }
-    plain(out)?;
-    expression(out, &a.value)
+    add_plain_role(out)?;
+    add_expression_roles(out, &a.value)
 }
 
 /// Appends the roles of a call, whose first token begins a line of this level.
-fn call(out: &mut Vec<LineRole>, level: u32, c: &Call) -> Result<(), AllocError>
+fn add_call_roles(out: &mut Vec<LineRole>, level: u32, c: &Call) -> Result<(), AllocError>
     ensures { IfOk result (λ _. out.new.items ≡ out.old.items ++ line_roles level (call_of c.now)) }
 {
-    begin(out, level)?;
+    add_line_start_role(out, level)?;
     match &c.arguments {
-        Some(given) => arguments(out, given),
+        Some(given) => add_argument_roles(out, given),
         None => Ok(()),
     }
 }
 
 /// Appends the roles of the parentheses and arguments of a call.
-fn arguments(out: &mut Vec<LineRole>, given: &Vec<Expression>) -> Result<(), AllocError>
+fn add_argument_roles(out: &mut Vec<LineRole>, given: &Vec<Expression>) -> Result<(), AllocError>
     ensures { IfOk result
-        (λ _. out.new.items ≡ out.old.items ++ line_roles 0 (arguments_in given.now)) }
+        (λ _. out.new.items ≡ out.old.items ++ line_roles 0 (arguments_of_vec given.now)) }
 {
     out.push(LineRole::Opening)?;
     let mut first = true;
     for e in given {
-        separator(out, first)?;
-        expression(out, e)?;
+        add_separator_role(out, first)?;
+        add_expression_roles(out, e)?;
         first = false;
     }
-    plain(out)
+    add_plain_role(out)
 }
 
 /// Appends the roles of an IF statement of this level. The statements in it are one level deeper.
 #[cycle(statements)]
-fn branches(out: &mut Vec<LineRole>, level: u32, i: &If) -> Result<(), AllocError>
+fn add_if_roles(out: &mut Vec<LineRole>, level: u32, i: &If) -> Result<(), AllocError>
     ensures { IfOk result (λ _. out.new.items ≡ out.old.items ++ line_roles level (if_of i.now)) }
 {
-    begin(out, level)?;
-    expression(out, &i.condition)?;
-    plain(out)?;
-    sequence(out, deeper(level), &i.then)?;
-    elsifs(out, level, &i.elsifs)?;
+    add_line_start_role(out, level)?;
+    add_expression_roles(out, &i.condition)?;
+    add_plain_role(out)?;
+    add_sequence_roles(out, deeper(level), &i.then)?;
+    add_elsif_roles(out, level, &i.elsifs)?;
     match &i.otherwise {
         Some(statements) => {
-            begin(out, level)?;
-            sequence(out, deeper(level), statements)?;
-            begin(out, level)
+            add_line_start_role(out, level)?;
+            add_sequence_roles(out, deeper(level), statements)?;
+            add_line_start_role(out, level)
         }
-        None => begin(out, level),
+        None => add_line_start_role(out, level),
     }
 }
 
 /// Appends the roles of the ELSIF parts of an IF statement of this level.
 #[cycle(statements)]
-fn elsifs(out: &mut Vec<LineRole>, level: u32, parts: &Vec<Elsif>) -> Result<(), AllocError>
+fn add_elsif_roles(
+    out: &mut Vec<LineRole>,
+    level: u32,
+    parts: &Vec<Elsif>,
+) -> Result<(), AllocError>
     ensures { IfOk result
-        (λ _. out.new.items ≡ out.old.items ++ line_roles level (elsifs_in parts.now)) }
+        (λ _. out.new.items ≡ out.old.items ++ line_roles level (elsifs_of_vec parts.now)) }
 {
     for e in parts {
-        begin(out, level)?;
-        expression(out, &e.condition)?;
-        plain(out)?;
-        sequence(out, deeper(level), &e.then)?;
+        add_line_start_role(out, level)?;
+        add_expression_roles(out, &e.condition)?;
+        add_plain_role(out)?;
+        add_sequence_roles(out, deeper(level), &e.then)?;
     }
     Ok(())
 }
 
 /// Appends the roles of a list of names; `first` is the role of the first name.
-fn names(out: &mut Vec<LineRole>, first: LineRole, ns: &Names) -> Result<(), AllocError>
+fn add_name_roles(out: &mut Vec<LineRole>, first: LineRole, ns: &Names) -> Result<(), AllocError>
     ensures { IfOk result (λ _. out.new.items
         ≡ out.old.items ++ (first ∷ line_roles 0 (items_of then_name ns.now.more.items))) }
 {
     out.push(first)?;
     for _name in &ns.more {
-        plain(out)?;
-        plain(out)?;
+        add_plain_role(out)?;
+        add_plain_role(out)?;
     }
     Ok(())
 }
 
 /// Appends the roles of a written type's tokens.
 #[cycle(types)]
-fn written_type(out: &mut Vec<LineRole>, t: &WrittenType) -> Result<(), AllocError>
+fn add_type_roles(out: &mut Vec<LineRole>, t: &WrittenType) -> Result<(), AllocError>
     ensures { IfOk result (λ _. out.new.items ≡ out.old.items ++ line_roles 0 (type_of t.now)) }
 {
     match t {
-        WrittenType::Named(_) => plain(out),
+        WrittenType::Named(_) => add_plain_role(out),
         WrittenType::Array(a) => {
-            plain(out)?;
-            expression(out, &a.size)?;
-            plain(out)?;
-            written_type(out, &a.element)
+            add_plain_role(out)?;
+            add_expression_roles(out, &a.size)?;
+            add_plain_role(out)?;
+            add_type_roles(out, &a.element)
         }
-        WrittenType::Record(r) => record(out, r),
+        WrittenType::Record(r) => add_record_roles(out, r),
     }
 }
 
 /// Appends the roles of a record type's tokens.
 #[cycle(types)]
-fn record(out: &mut Vec<LineRole>, r: &RecordType) -> Result<(), AllocError>
-    ensures { IfOk result (λ _. out.new.items ≡ out.old.items ++ line_roles 0 (record_in r.now)) }
+fn add_record_roles(out: &mut Vec<LineRole>, r: &RecordType) -> Result<(), AllocError>
+    ensures { IfOk result (λ _. out.new.items ≡ out.old.items ++ line_roles 0 (record_type_of r.now)) }
 {
-    plain(out)?;
+    add_plain_role(out)?;
     let mut first = true;
     for group in &r.groups {
-        separator(out, first)?;
-        fields(out, group)?;
+        add_separator_role(out, first)?;
+        add_field_roles(out, group)?;
         first = false;
     }
-    plain(out)
+    add_plain_role(out)
 }
 
 /// Appends the roles of the tokens of a group of fields, which may be empty.
 #[cycle(types)]
-fn fields(out: &mut Vec<LineRole>, f: &Fields) -> Result<(), AllocError>
+fn add_field_roles(out: &mut Vec<LineRole>, f: &Fields) -> Result<(), AllocError>
     ensures { IfOk result (λ _. out.new.items ≡ out.old.items ++ line_roles 0 (fields_of f.now)) }
 {
     match f {
         Fields::Empty => Ok(()),
         Fields::Listed(l) => {
-            names(out, LineRole::Plain, &l.names)?;
-            plain(out)?;
-            written_type(out, &l.written)
+            add_name_roles(out, LineRole::Plain, &l.names)?;
+            add_plain_role(out)?;
+            add_type_roles(out, &l.written)
         }
     }
 }
 
 /// Appends the roles of formal parameters with their parentheses, if there are any.
-fn formals(out: &mut Vec<LineRole>, sections: &Option<Vec<Section>>) -> Result<(), AllocError>
+fn add_formal_roles(
+    out: &mut Vec<LineRole>,
+    sections: &Option<Vec<ParameterSection>>,
+) -> Result<(), AllocError>
     ensures { IfOk result
         (λ _. out.new.items ≡ out.old.items ++ line_roles 0 (formals_of sections.now)) }
 {
@@ -367,27 +378,27 @@ fn formals(out: &mut Vec<LineRole>, sections: &Option<Vec<Section>>) -> Result<(
     out.push(LineRole::Opening)?;
     let mut first = true;
     for s in sections {
-        separator(out, first)?;
-        section(out, s)?;
+        add_separator_role(out, first)?;
+        add_section_roles(out, s)?;
         first = false;
     }
-    plain(out)
+    add_plain_role(out)
 }
 
 /// Appends the roles of a section of parameters.
-fn section(out: &mut Vec<LineRole>, s: &Section) -> Result<(), AllocError>
+fn add_section_roles(out: &mut Vec<LineRole>, s: &ParameterSection) -> Result<(), AllocError>
     ensures { IfOk result (λ _. out.new.items ≡ out.old.items ++ line_roles 0 (section_of s.now)) }
 {
     if s.by_reference {
-        plain(out)?;
+        add_plain_role(out)?;
     }
-    names(out, LineRole::Plain, &s.names)?;
-    plain(out)?;
-    written_type(out, &s.written)
+    add_name_roles(out, LineRole::Plain, &s.names)?;
+    add_plain_role(out)?;
+    add_type_roles(out, &s.written)
 }
 
 /// Appends the roles of the CONST section of a block of this level, if there is one.
-fn constants(
+fn add_constant_roles(
     out: &mut Vec<LineRole>,
     level: u32,
     declared: &Option<Vec<Constant>>,
@@ -398,18 +409,18 @@ fn constants(
     let Some(declared) = declared else {
         return Ok(());
     };
-    begin(out, level)?;
+    add_line_start_role(out, level)?;
     for c in declared {
-        begin(out, deeper(level))?;
-        plain(out)?;
-        expression(out, &c.value)?;
-        plain(out)?;
+        add_line_start_role(out, deeper(level))?;
+        add_plain_role(out)?;
+        add_expression_roles(out, &c.value)?;
+        add_plain_role(out)?;
     }
     Ok(())
 }
 
 /// Appends the roles of the TYPE section of a block of this level, if there is one.
-fn types(
+fn add_type_declaration_roles(
     out: &mut Vec<LineRole>,
     level: u32,
     declared: &Option<Vec<TypeDeclaration>>,
@@ -420,21 +431,21 @@ fn types(
     let Some(declared) = declared else {
         return Ok(());
     };
-    begin(out, level)?;
+    add_line_start_role(out, level)?;
     for d in declared {
-        begin(out, deeper(level))?;
-        plain(out)?;
-        written_type(out, &d.written)?;
-        plain(out)?;
+        add_line_start_role(out, deeper(level))?;
+        add_plain_role(out)?;
+        add_type_roles(out, &d.written)?;
+        add_plain_role(out)?;
     }
     Ok(())
 }
 
 /// Appends the roles of the VAR section of a block of this level, if there is one.
-fn variables(
+fn add_variable_roles(
     out: &mut Vec<LineRole>,
     level: u32,
-    declared: &Option<Vec<Variables>>,
+    declared: &Option<Vec<VariableDeclaration>>,
 ) -> Result<(), AllocError>
     ensures { IfOk result
         (λ _. out.new.items ≡ out.old.items ++ line_roles level (variables_of declared.now)) }
@@ -442,18 +453,18 @@ fn variables(
     let Some(declared) = declared else {
         return Ok(());
     };
-    begin(out, level)?;
+    add_line_start_role(out, level)?;
     for v in declared {
-        names(out, LineRole::Begins(deeper(level)), &v.names)?;
-        plain(out)?;
-        written_type(out, &v.written)?;
-        plain(out)?;
+        add_name_roles(out, LineRole::Begins(deeper(level)), &v.names)?;
+        add_plain_role(out)?;
+        add_type_roles(out, &v.written)?;
+        add_plain_role(out)?;
     }
     Ok(())
 }
 
 /// Appends the roles of the body of a block of this level, if there is one. Its statements are one level deeper.
-fn body(
+fn add_body_roles(
     out: &mut Vec<LineRole>,
     level: u32,
     statements: &Option<Vec<Statement>>,
@@ -463,8 +474,8 @@ fn body(
 {
     match statements {
         Some(statements) => {
-            begin(out, level)?;
-            sequence(out, deeper(level), statements)
+            add_line_start_role(out, level)?;
+            add_sequence_roles(out, deeper(level), statements)
         }
         None => Ok(()),
     }
@@ -472,32 +483,32 @@ fn body(
 
 /// Appends the roles of a block's tokens. `level` is the level of the block.
 #[cycle(blocks)]
-fn block(out: &mut Vec<LineRole>, level: u32, b: &Block) -> Result<(), AllocError>
+fn add_block_roles(out: &mut Vec<LineRole>, level: u32, b: &Block) -> Result<(), AllocError>
     ensures { IfOk result
         (λ _. out.new.items ≡ out.old.items ++ line_roles level (block_of b.now)) }
 {
-    constants(out, level, &b.constants)?;
-    types(out, level, &b.types)?;
-    variables(out, level, &b.variables)?;
+    add_constant_roles(out, level, &b.constants)?;
+    add_type_declaration_roles(out, level, &b.types)?;
+    add_variable_roles(out, level, &b.variables)?;
     for p in &b.procedures {
-        procedure(out, level, p)?;
+        add_procedure_roles(out, level, p)?;
     }
-    body(out, level, &b.body)
+    add_body_roles(out, level, &b.body)
 }
 
 /// Appends the roles of a procedure that a block of this level declares. The procedure is one level deeper.
 #[cycle(blocks)]
-fn procedure(out: &mut Vec<LineRole>, level: u32, p: &Procedure) -> Result<(), AllocError>
+fn add_procedure_roles(out: &mut Vec<LineRole>, level: u32, p: &Procedure) -> Result<(), AllocError>
     ensures { IfOk result
         (λ _. out.new.items ≡ out.old.items ++ line_roles level (procedure_of p.now)) }
 {
     let inner = deeper(level);
-    begin(out, inner)?;
-    plain(out)?;
-    formals(out, &p.formals)?;
-    plain(out)?;
-    block(out, inner, &p.block)?;
-    begin(out, inner)?;
-    plain(out)?;
-    plain(out)
+    add_line_start_role(out, inner)?;
+    add_plain_role(out)?;
+    add_formal_roles(out, &p.formals)?;
+    add_plain_role(out)?;
+    add_block_roles(out, inner, &p.block)?;
+    add_line_start_role(out, inner)?;
+    add_plain_role(out)?;
+    add_plain_role(out)
 }

@@ -3,27 +3,27 @@ use Rattle.std.proofs.Common.{◌≡◌, ℕ, zero, suc, ◌+◌, ◌-◌, ◌<�
 use Rattle.std.proofs.lemmas.List.{drop-drop, length-map}
 use Rattle.ob0_scan.specs.declared.lexeme.Token.{Token}
 use Rattle.ob0_scan.specs.declared.tokens.SameTokens.{SameTokens}
-use Rattle.ob0_scan.specs.Reused.{valueless, kinds}
+use Rattle.ob0_scan.specs.Reused.{kind_without_value, kinds}
 use Rattle.ob0_tree.specs.declared.tree.Procedure.{Procedure, out-Procedure, roll-out-Procedure}
 use Rattle.ob0_tree.specs.Tree.{Sort, Tree, declares_procedure}
 use Rattle.ob0_tree.specs.View.{procedure_of, formals_of, block_of, body_of}
 use Rattle.ob0_tree.proofs.Viewed.{procedure_parts}
 use Rattle.ob0_scan.specs.SameKinds.{HasSameTokens}
-use Rattle.ob0_parse.specs.KeptTokens.{lexemes_by, first_of, end_of, IsThere, IsMade, IsWaiting, IsBodyThere, CarriesBody, CarriesAnyBody, Each, AreKept}
+use Rattle.ob0_parse.specs.KeptTokens.{index_terminals_of_kinds, first_token_index, end_token_index, HasTokensAt, IsProcedureInPlace, IsWaiting, IsBodyWaiting, RelocatesBody, RelocatesAnyBody, HoldsForEach, AreKept}
 use Rattle.ob0_parse.specs.declared.kept.KeptBody.{KeptBody}
-use Rattle.ob0_parse.specs.declared.kept.Kept.{Kept}
+use Rattle.ob0_parse.specs.declared.kept.KeptTrees.{KeptTrees}
 
 -- ---- properties of each item
 
-pub each_joined : {A : Type 0} (P : A → Type 0) (xs ys : List A) → Each P xs → Each P ys → Each P (xs ++ ys)
+pub each_joined : {A : Type 0} (P : A → Type 0) (xs ys : List A) → HoldsForEach P xs → HoldsForEach P ys → HoldsForEach P (xs ++ ys)
 each_joined P [] ys p q = q
 each_joined P (x ∷ xs) ys p q = (p.0, each_joined P xs ys p.1 q)
 
-pub each_before : {A : Type 0} (P : A → Type 0) (xs ys : List A) → Each P (xs ++ ys) → Each P xs
+pub each_before : {A : Type 0} (P : A → Type 0) (xs ys : List A) → HoldsForEach P (xs ++ ys) → HoldsForEach P xs
 each_before P [] ys p = tt
 each_before P (x ∷ xs) ys p = (p.0, each_before P xs ys p.1)
 
-pub each_following : {A : Type 0} (P : A → Type 0) (xs ys : List A) → Each P (xs ++ ys) → Each P ys
+pub each_following : {A : Type 0} (P : A → Type 0) (xs ys : List A) → HoldsForEach P (xs ++ ys) → HoldsForEach P ys
 each_following P [] ys p = p
 each_following P (x ∷ xs) ys p = each_following P xs ys p.1
 
@@ -42,15 +42,15 @@ within_front (x ∷ xs) (suc at) count zero h = absurd (omega (arith, h))
 within_front (x ∷ xs) (suc at) count (suc front) h = within_front xs at count front (omega (arith, h))
 
 -- If other tokens have the same kinds as a tree's tokens, the tree is at those tokens as well.
-there_again : {s : Sort} (old new : List Token) (from at next here end : ℕ) (t : Tree ℕ s) → IsThere old from at next t → slice_range (kinds old) at next ≡ slice_range (kinds new) here end → here < end → end ≤ length new → IsThere new from here end t
+there_again : {s : Sort} (old new : List Token) (from at next here end : ℕ) (t : Tree ℕ s) → HasTokensAt old from at next t → slice_range (kinds old) at next ≡ slice_range (kinds new) here end → here < end → end ≤ length new → HasTokensAt new from here end t
 there_again old new from at next here end t p same forward within = record {
-  spelled = p.spelled ∙ ap (λ ks. lexemes_by from ks) same;
+  spelled = p.spelled ∙ ap (λ ks. index_terminals_of_kinds from ks) same;
   shallow = p.shallow;
   forward = forward;
   within = within;
 }
 
-pub front_stays : {s : Sort} (old new : List Token) (same : SameTokens) (from at next : ℕ) (t : Tree ℕ s) → HasSameTokens same old new → next ≤ same.prefix → IsThere old from at next t → IsThere new from at next t
+pub front_stays : {s : Sort} (old new : List Token) (same : SameTokens) (from at next : ℕ) (t : Tree ℕ s) → HasSameTokens same old new → next ≤ same.prefix → HasTokensAt old from at next t → HasTokensAt new from at next t
 front_stays old new same from at next t h inside p =
     let small : at + (next - at) ≤ same.prefix = omega (arith, p.forward, inside) in
     let alike : slice_range (kinds old) at next ≡ slice_range (kinds new) at next =
@@ -58,11 +58,11 @@ front_stays old new same from at next t h inside p =
     there_again old new from at next at next t p alike p.forward (omega (arith, inside, h.new_range, h.new_inside))
 
 count_kinds : (ts : List Token) (i : ℕ) → length (drop i (kinds ts)) ≡ length ts - i
-count_kinds ts i = length-drop i (kinds ts) ∙ ap (λ n. n - i) (length-map ts (λ (t : Token). valueless t.kind))
+count_kinds ts i = length-drop i (kinds ts) ∙ ap (λ n. n - i) (length-map ts (λ (t : Token). kind_without_value t.kind))
 
 pub back_moves : {s : Sort} (old new : List Token) (same : SameTokens) (from at next here end : ℕ) (t : Tree ℕ s) → HasSameTokens same old new
     → same.old_suffix ≤ at → here + same.old_suffix ≡ at + same.new_suffix → same.old_suffix ≤ next → end + same.old_suffix ≡ next + same.new_suffix
-    → IsThere old from at next t → IsThere new from here end t
+    → HasTokensAt old from at next t → HasTokensAt new from here end t
 back_moves old new same from at next here end t h in_at to_here in_next to_end p =
     let i : ℕ = at - same.old_suffix in
     let old_place : same.old_suffix + i ≡ at = omega (arith, in_at) in
@@ -76,10 +76,10 @@ back_moves old new same from at next here end t h in_at to_here in_next to_end p
 
 -- ---- procedures as values of the code
 
-pub first_is : (p : Procedure) → first_of (procedure_of p) ≡ (out-Procedure p).name - 1
-first_is p = ap first_of (procedure_parts p)
+pub first_is : (p : Procedure) → first_token_index (procedure_of p) ≡ (out-Procedure p).name - 1
+first_is p = ap first_token_index (procedure_parts p)
 
-each_as : {A : Type 0} (P Q : A → Type 0) (xs : List A) → ((x : A) → P x → Q x) → Each P xs → Each Q xs
+each_as : {A : Type 0} (P Q : A → Type 0) (xs : List A) → ((x : A) → P x → Q x) → HoldsForEach P xs → HoldsForEach Q xs
 each_as P Q [] f p = tt
 each_as P Q (x ∷ xs) f p = (f x p.0, each_as P Q xs f p.1)
 
@@ -87,19 +87,19 @@ pub some_as : {A : Type 0} (P Q : A → Type 0) (o : Option A) → ((x : A) → 
 some_as P Q None f p = tt
 some_as P Q (Some x) f p = f x p
 
-pub any_carried : (same : SameTokens) (b : KeptBody) (r : Option KeptBody) → IfSome r (CarriesBody same b) → CarriesAnyBody same (Some b) r
+pub any_carried : (same : SameTokens) (b : KeptBody) (r : Option KeptBody) → IfSome r (RelocatesBody same b) → RelocatesAnyBody same (Some b) r
 any_carried same b None h = λ old new s p. tt
 any_carried same b (Some k) h = h
 
-there_still : {s : Sort} (old new : List Token) (from at next : ℕ) (t : Tree ℕ s) → kinds new ≡ kinds old → IsThere old from at next t → IsThere new from at next t
+there_still : {s : Sort} (old new : List Token) (from at next : ℕ) (t : Tree ℕ s) → kinds new ≡ kinds old → HasTokensAt old from at next t → HasTokensAt new from at next t
 there_still old new from at next t same p =
-    let count : length new ≡ length old = sym (length-map new (λ (t : Token). valueless t.kind)) ∙ ap (λ ks. length ks) same ∙ length-map old (λ (t : Token). valueless t.kind) in
+    let count : length new ≡ length old = sym (length-map new (λ (t : Token). kind_without_value t.kind)) ∙ ap (λ ks. length ks) same ∙ length-map old (λ (t : Token). kind_without_value t.kind) in
     there_again old new from at next at next t p (ap (λ ks. slice_range ks at next) (sym same)) p.forward (omega (arith, count, p.within))
 
 -- If all tokens have the same kinds as before, the kept trees are at their places.
-pub kept_stay : (old new : List Token) (k : Kept) → kinds new ≡ kinds old → AreKept old k → AreKept new k
+pub kept_stay : (old new : List Token) (k : KeptTrees) → kinds new ≡ kinds old → AreKept old k → AreKept new k
 kept_stay old new k same kept = record {
-  made = each_as (IsMade old) (IsMade new) k.made.items (λ p m. there_still old new (first_of (procedure_of p)) (first_of (procedure_of p)) (end_of (procedure_of p)) (procedure_of p) same m) kept.made;
-  waiting = each_as (IsWaiting old) (IsWaiting new) k.waiting.items (λ w m. there_still old new (first_of (procedure_of w.procedure)) w.at w.next (procedure_of w.procedure) same m) kept.waiting;
-  body = some_as (IsBodyThere old) (IsBodyThere new) k.body (λ b m. there_still old new b.from b.at b.next (body_of (Some b.statements)) same m) kept.body;
+  made = each_as (IsProcedureInPlace old) (IsProcedureInPlace new) k.made.items (λ p m. there_still old new (first_token_index (procedure_of p)) (first_token_index (procedure_of p)) (end_token_index (procedure_of p)) (procedure_of p) same m) kept.made;
+  waiting = each_as (IsWaiting old) (IsWaiting new) k.waiting.items (λ w m. there_still old new (first_token_index (procedure_of w.procedure)) w.at w.next (procedure_of w.procedure) same m) kept.waiting;
+  body = some_as (IsBodyWaiting old) (IsBodyWaiting new) k.body (λ b m. there_still old new b.from b.at b.next (body_of (Some b.statements)) same m) kept.body;
 }

@@ -4,23 +4,23 @@ use Rattle.std.proofs.lemmas.List.{drop_at}
 use Rattle.std.specs.declared.vec.Vec.{Vec}
 use Rattle.std.specs.declared.alloc.Global.{Global}
 use Rattle.ob0_scan.specs.declared.lexeme.TokenKind.TheVariants as kind
-use Rattle.ob0_scan.specs.declared.lexeme.Reserved.TheVariants as reserved
+use Rattle.ob0_scan.specs.declared.lexeme.ReservedWord.TheVariants as reserved
 use Rattle.ob0_scan.specs.declared.lexeme.Symbol.TheVariants as symbol
 use Rattle.ob0_scan.specs.declared.lexeme.Token.{Token}
-use Rattle.ob0_scan.specs.Scanned.{Scanned}
+use Rattle.ob0_scan.specs.TextWithTokens.{TextWithTokens}
 use Rattle.ob0_tree.specs.declared.tree.Block.{Block, out-Block, roll-Block}
 use Rattle.ob0_tree.specs.declared.tree.ModuleTree.{ModuleTree}
 use Rattle.ob0_tree.specs.declared.tree.Procedure.{Procedure}
 use Rattle.ob0_tree.specs.declared.tree.Statement.{Statement}
 use Rattle.ob0_tree.specs.Lexeme.{Terminal, Name, Mark, EndOfText}
 use Rattle.ob0_tree.specs.Module.{max_nesting}
-use Rattle.ob0_tree.specs.Parsed.{Parsed, IsParsed, tree_of, parsed_by}
-use Rattle.ob0_tree.specs.Places.{lexemes, text_at, value_at}
+use Rattle.ob0_tree.specs.ParsedModule.{ParsedModule, IsParsed, tree_of, parsed_module}
+use Rattle.ob0_tree.specs.Places.{index_terminals, text_at, value_at}
 use Rattle.ob0_tree.specs.Tree.{procedure, body, Sort, item, items, maybe, Tree, declares_procedure, declares, has_body, is_module, spell, nesting}
 use Rattle.ob0_tree.specs.View.{items_of, procedure_of, constants_of, types_of, variables_of, body_of}
 use Rattle.ob0_tree.proofs.Mapped.{nesting_mapped}
 use Rattle.ob0_tree.proofs.Viewed.{block_parts}
-use Rattle.ob0_parse.specs.KeptTokens.{end_of, IsThere, IsInPlace, IsMade, IsMadeBody, IsBodyThere, Each}
+use Rattle.ob0_parse.specs.KeptTokens.{end_token_index, HasTokensAt, IsInPlace, IsProcedureInPlace, IsLocatedBody, IsBodyWaiting, HoldsForEach}
 use Rattle.ob0_parse.specs.declared.kept.KeptBody.{KeptBody}
 use Rattle.ob0_parse.proofs.Carried.{some_as}
 use Rattle.ob0_parse.proofs.MovedParts.{block_between}
@@ -30,20 +30,20 @@ some_tokens : (t : Tree ℕ (item procedure)) → 0 < length (spell t)
 some_tokens (declares_procedure x fs b y) = omega arith
 
 -- If a tree's tokens are between other tokens, the tree is at its place.
-between : {s : Sort} (ts : List Token) (begun left : List (Terminal ℕ)) (t : Tree ℕ s) → lexemes ts ≡ begun ++ (spell t ++ left) → nesting t ≤ max_nesting → 0 < length (spell t) → 0 < length left → IsInPlace ts (length begun) (length begun + length (spell t)) t
+between : {s : Sort} (ts : List Token) (begun left : List (Terminal ℕ)) (t : Tree ℕ s) → index_terminals ts ≡ begun ++ (spell t ++ left) → nesting t ≤ max_nesting → 0 < length (spell t) → 0 < length left → IsInPlace ts (length begun) (length begun + length (spell t)) t
 between ts begun left t is shallow some more =
     let at : ℕ = length begun in
     let next : ℕ = at + length (spell t) in
-    let further : lexemes ts ≡ (begun ++ spell t) ++ left = is ∙ sym (append_assoc begun (spell t) left) in
-    let here : drop at (lexemes ts) ≡ spell t ++ left = ap (drop at) is ∙ drop_at begun (spell t ++ left) at refl in
-    let following : drop next (lexemes ts) ≡ left = ap (drop next) further ∙ drop_at (begun ++ spell t) left next (length-append begun (spell t)) in
+    let further : index_terminals ts ≡ (begun ++ spell t) ++ left = is ∙ sym (append_assoc begun (spell t) left) in
+    let here : drop at (index_terminals ts) ≡ spell t ++ left = ap (drop at) is ∙ drop_at begun (spell t ++ left) at refl in
+    let following : drop next (index_terminals ts) ≡ left = ap (drop next) further ∙ drop_at (begun ++ spell t) left next (length-append begun (spell t)) in
     let count : length ts + 1 ≡ next + length left =
     sym (count_lexemes 0 ts) ∙ ap (λ w. length w) further ∙ length-append (begun ++ spell t) left ∙ omega (arith, length-append begun (spell t)) in
     kept_there ts at next t (here ∙ ap (λ w. spell t ++ w) (sym following)) shallow (omega (arith, some)) (omega (arith, count, more))
 
 -- ---- procedures, one after another
 
-first_is : (ts : List Token) (begun left : List (Terminal ℕ)) (p : Procedure) (ps : List Procedure) → lexemes ts ≡ begun ++ (spell (items_of procedure_of (p ∷ ps)) ++ left) → nesting (items_of procedure_of (p ∷ ps)) ≤ max_nesting → 0 < length left
+first_is : (ts : List Token) (begun left : List (Terminal ℕ)) (p : Procedure) (ps : List Procedure) → index_terminals ts ≡ begun ++ (spell (items_of procedure_of (p ∷ ps)) ++ left) → nesting (items_of procedure_of (p ∷ ps)) ≤ max_nesting → 0 < length left
     → IsInPlace ts (length begun) (length begun + length (spell (procedure_of p))) (procedure_of p)
 first_is ts begun left p ps is shallow more =
     let t : Tree ℕ (item procedure) = procedure_of p in
@@ -51,14 +51,14 @@ first_is ts begun left p ps is shallow more =
     between ts begun (spell others ++ left) t (is ∙ ap (λ w. begun ++ w) (append_assoc (spell t) (spell others) left))
     (omega (arith, shallow)) (some_tokens t) (omega (arith, more, length-append (spell others) left))
 
-following_are : (ts : List Token) (begun left : List (Terminal ℕ)) (p : Procedure) (ps : List Procedure) → lexemes ts ≡ begun ++ (spell (items_of procedure_of (p ∷ ps)) ++ left)
-    → lexemes ts ≡ (begun ++ spell (procedure_of p)) ++ (spell (items_of procedure_of ps) ++ left)
+following_are : (ts : List Token) (begun left : List (Terminal ℕ)) (p : Procedure) (ps : List Procedure) → index_terminals ts ≡ begun ++ (spell (items_of procedure_of (p ∷ ps)) ++ left)
+    → index_terminals ts ≡ (begun ++ spell (procedure_of p)) ++ (spell (items_of procedure_of ps) ++ left)
 following_are ts begun left p ps is =
     let t : Tree ℕ (item procedure) = procedure_of p in
     let others : Tree ℕ (items procedure) = items_of procedure_of ps in
     is ∙ ap (λ w. begun ++ w) (append_assoc (spell t) (spell others) left) ∙ sym (append_assoc begun (spell t) (spell others ++ left))
 
-items_made : (ts : List Token) (begun left : List (Terminal ℕ)) (ps : List Procedure) → lexemes ts ≡ begun ++ (spell (items_of procedure_of ps) ++ left) → nesting (items_of procedure_of ps) ≤ max_nesting → 0 < length left → Each (IsMade ts) ps
+items_made : (ts : List Token) (begun left : List (Terminal ℕ)) (ps : List Procedure) → index_terminals ts ≡ begun ++ (spell (items_of procedure_of ps) ++ left) → nesting (items_of procedure_of ps) ≤ max_nesting → 0 < length left → HoldsForEach (IsProcedureInPlace ts) ps
 items_made ts begun left [] is shallow more = tt
 items_made ts begun left (p ∷ ps) is shallow more = (
   made_there ts (length begun) (length begun + length (spell (procedure_of p))) (procedure_of p) (first_is ts begun left p ps is shallow more),
@@ -67,7 +67,7 @@ items_made ts begun left (p ∷ ps) is shallow more = (
 
 -- Returns the index after the last token of the i-th procedure.
 abbrev end_at : List Procedure → ℕ → Option ℕ
-end_at ps i = option_map (λ (p : Procedure). end_of (procedure_of p)) (slice_get ps i)
+end_at ps i = option_map (λ (p : Procedure). end_token_index (procedure_of p)) (slice_get ps i)
 
 nothing_some : {n : ℕ} → ◌≡◌ {A = Option ℕ} None (Some n) → ⊥
 nothing_some e = cc
@@ -80,7 +80,7 @@ has_last [] n h = absurd (nothing_some h)
 has_last (p ∷ ps) n h = omega arith
 
 -- The last procedure ends right before the first token after the procedures.
-last_end : (ts : List Token) (begun left : List (Terminal ℕ)) (ps : List Procedure) (i n : ℕ) → lexemes ts ≡ begun ++ (spell (items_of procedure_of ps) ++ left) → nesting (items_of procedure_of ps) ≤ max_nesting → 0 < length left
+last_end : (ts : List Token) (begun left : List (Terminal ℕ)) (ps : List Procedure) (i n : ℕ) → index_terminals ts ≡ begun ++ (spell (items_of procedure_of ps) ++ left) → nesting (items_of procedure_of ps) ≤ max_nesting → 0 < length left
     → i + 1 ≡ length ps → end_at ps i ≡ Some n → n ≡ length begun + length (spell (items_of procedure_of ps))
 last_end ts begun left [] i n is shallow more count h = absurd (omega (arith, count))
 last_end ts begun left (p ∷ []) (suc i) n is shallow more count h = absurd (omega (arith, count))
@@ -100,20 +100,20 @@ last_end ts begun left (p ∷ q ∷ ps) (suc i) n is shallow more count h =
 -- Returns the last tokens of a module: END, the closing name, the full stop and the end of the
 -- text.
 abbrev ended : ℕ → List (Terminal ℕ)
-ended closing = Mark (kind.Reserved reserved.End) ∷ Name closing ∷ Mark (kind.Symbol symbol.Dot) ∷ EndOfText ∷ []
+ended closing = Mark (kind.ReservedWord reserved.End) ∷ Name closing ∷ Mark (kind.Symbol symbol.Dot) ∷ EndOfText ∷ []
 
 -- Holds if the tokens are a module's and end with these procedures, this body and this closing
 -- name.
 record HasParts (ts : List Token) (ps : List Procedure) (ss : Option (Vec Statement Global)) (closing : ℕ) : Type 0 where
   begun : List (Terminal ℕ)
-  whole : lexemes ts ≡ begun ++ (spell (items_of procedure_of ps) ++ (spell (body_of ss) ++ ended closing))
+  whole : index_terminals ts ≡ begun ++ (spell (items_of procedure_of ps) ++ (spell (body_of ss) ++ ended closing))
   procedures_shallow : nesting (items_of procedure_of ps) ≤ max_nesting
   body_shallow : nesting (body_of ss) ≤ max_nesting
 
 cut : {A : Type 0} (c d v p b e z : List A) → (((c ++ (d ++ (v ++ p))) ++ b) ++ e) ++ z ≡ (c ++ (d ++ v)) ++ (p ++ (b ++ (e ++ z)))
 cut c d v p b e z = simp append_assoc
 
-parts_of : (m : Parsed) → IsParsed m → HasParts m.source.tokens (out-Block m.block).procedures.items (out-Block m.block).body m.closing
+parts_of : (m : ParsedModule) → IsParsed m → HasParts m.source.tokens (out-Block m.block).procedures.items (out-Block m.block).body m.closing
 parts_of m parsed =
     let b = out-Block m.block in
     let cs = constants_of b.constants in
@@ -121,14 +121,14 @@ parts_of m parsed =
     let vs = variables_of b.variables in
     let ps = items_of procedure_of b.procedures.items in
     let s = body_of b.body in
-    let last : List (Terminal ℕ) = Mark (kind.Reserved reserved.End) ∷ Name m.closing ∷ Mark (kind.Symbol symbol.Dot) ∷ [] in
-    let all : lexemes m.source.tokens ≡ spell (is_module m.name (has_body (declares cs ds vs ps) s) m.closing) ++ (EndOfText ∷ []) =
+    let last : List (Terminal ℕ) = Mark (kind.ReservedWord reserved.End) ∷ Name m.closing ∷ Mark (kind.Symbol symbol.Dot) ∷ [] in
+    let all : index_terminals m.source.tokens ≡ spell (is_module m.name (has_body (declares cs ds vs ps) s) m.closing) ++ (EndOfText ∷ []) =
     sym parsed.places ∙ ap (λ t. spell (is_module m.name t m.closing) ++ (EndOfText ∷ [])) (block_parts m.block) in
     let named : nesting (tree_of m) ≤ max_nesting = subst (λ n. n ≤ max_nesting) (nesting_mapped (text_at m.source) (value_at m.source) (tree_of m)) parsed.module_of.shallow in
     let shallow : nesting (is_module m.name (has_body (declares cs ds vs ps) s) m.closing) ≤ max_nesting = subst (λ t. nesting (is_module m.name t m.closing) ≤ max_nesting) (block_parts m.block) named in
     record {
-      begun = Mark (kind.Reserved reserved.Module) ∷ Name m.name ∷ Mark (kind.Symbol symbol.Semicolon) ∷ (spell cs ++ (spell ds ++ spell vs));
-      whole = all ∙ ap (λ w. Mark (kind.Reserved reserved.Module) ∷ Name m.name ∷ Mark (kind.Symbol symbol.Semicolon) ∷ w) (cut (spell cs) (spell ds) (spell vs) (spell ps) (spell s) last (EndOfText ∷ []));
+      begun = Mark (kind.ReservedWord reserved.Module) ∷ Name m.name ∷ Mark (kind.Symbol symbol.Semicolon) ∷ (spell cs ++ (spell ds ++ spell vs));
+      whole = all ∙ ap (λ w. Mark (kind.ReservedWord reserved.Module) ∷ Name m.name ∷ Mark (kind.Symbol symbol.Semicolon) ∷ w) (cut (spell cs) (spell ds) (spell vs) (spell ps) (spell s) last (EndOfText ∷ []));
       procedures_shallow = omega (arith, shallow);
       body_shallow = omega (arith, shallow);
     }
@@ -136,7 +136,7 @@ parts_of m parsed =
 some_left : (xs : List (Terminal ℕ)) (closing : ℕ) → 0 < length (xs ++ ended closing)
 some_left xs closing = omega (arith, length-append xs (ended closing))
 
-pub tree_made : (m : Parsed) → IsParsed m → Each (IsMade m.source.tokens) (out-Block m.block).procedures.items
+pub tree_made : (m : ParsedModule) → IsParsed m → HoldsForEach (IsProcedureInPlace m.source.tokens) (out-Block m.block).procedures.items
 tree_made m parsed =
     let h = parts_of m parsed in
     let s = body_of (out-Block m.block).body in
@@ -150,40 +150,40 @@ body_there ts ps ss closing from h first next closed =
     let t : Tree ℕ (maybe body) = body_of (Some ss) in
     let procedures : List (Terminal ℕ) = spell (items_of procedure_of ps) in
     let begun : List (Terminal ℕ) = h.begun ++ procedures in
-    let whole : lexemes ts ≡ begun ++ (spell t ++ ended closing) = h.whole ∙ sym (append_assoc h.begun procedures (spell t ++ ended closing)) in
+    let whole : index_terminals ts ≡ begun ++ (spell t ++ ended closing) = h.whole ∙ sym (append_assoc h.begun procedures (spell t ++ ended closing)) in
     let here : from ≡ length begun =
     last_end ts h.begun (spell t ++ ended closing) ps (length ps - 1) from h.whole h.procedures_shallow (some_left (spell t) closing) (has_last ps from first) first
     ∙ sym (length-append h.begun procedures) in
-    let before : List (Terminal ℕ) = (begun ++ spell t) ++ (Mark (kind.Reserved reserved.End) ∷ []) in
+    let before : List (Terminal ℕ) = (begun ++ spell t) ++ (Mark (kind.ReservedWord reserved.End) ∷ []) in
     let name : closing ≡ 0 + length before =
     named_at 0 closing ts before (Mark (kind.Symbol symbol.Dot) ∷ EndOfText ∷ [])
-    (whole ∙ sym (append_assoc begun (spell t) (ended closing)) ∙ sym (append_assoc (begun ++ spell t) (Mark (kind.Reserved reserved.End) ∷ []) (Name closing ∷ Mark (kind.Symbol symbol.Dot) ∷ EndOfText ∷ []))) in
+    (whole ∙ sym (append_assoc begun (spell t) (ended closing)) ∙ sym (append_assoc (begun ++ spell t) (Mark (kind.ReservedWord reserved.End) ∷ []) (Name closing ∷ Mark (kind.Symbol symbol.Dot) ∷ EndOfText ∷ []))) in
     let last : next ≡ length begun + length (spell t) =
-    omega (arith, closed, name, length-append (begun ++ spell t) (Mark (kind.Reserved reserved.End) ∷ []), length-append begun (spell t)) in
+    omega (arith, closed, name, length-append (begun ++ spell t) (Mark (kind.ReservedWord reserved.End) ∷ []), length-append begun (spell t)) in
     let there : IsInPlace ts (length begun) (length begun + length (spell t)) t = between ts begun (ended closing) t whole h.body_shallow (omega arith) (omega arith) in
     subst (λ n. IsInPlace ts from n t) (sym last) (subst (λ i. IsInPlace ts i (length begun + length (spell t)) t) (sym here) there)
 
-pub body_made : (m : Parsed) → IsParsed m → (k : KeptBody) → IsMadeBody (out-Block m.block).procedures.items (out-Block m.block).body m.closing k → IsBodyThere m.source.tokens k
+pub body_made : (m : ParsedModule) → IsParsed m → (k : KeptBody) → IsLocatedBody (out-Block m.block).procedures.items (out-Block m.block).body m.closing k → IsBodyWaiting m.source.tokens k
 body_made m parsed k made =
     let ps = (out-Block m.block).procedures.items in
     let h = subst (λ b. HasParts m.source.tokens ps b m.closing) made.is (parts_of m parsed) in
     let there = body_there m.source.tokens ps k.statements m.closing k.from h made.first k.next made.next in
-    subst (λ i. IsThere m.source.tokens k.from i k.next (body_of (Some k.statements))) (sym made.at) there
+    subst (λ i. HasTokensAt m.source.tokens k.from i k.next (body_of (Some k.statements))) (sym made.at) there
 
 -- ---- both, if the body is removed before the procedures
 
-pub of_tree : (s : Scanned) (tree : ModuleTree) → IsParsed (parsed_by s tree) → (b left : Block) (without ss : Option (Vec Statement Global)) (ps : Vec Procedure Global) (k : Option KeptBody)
+pub of_tree : (s : TextWithTokens) (tree : ModuleTree) → IsParsed (parsed_module s tree) → (b left : Block) (without ss : Option (Vec Statement Global)) (ps : Vec Procedure Global) (k : Option KeptBody)
     → b ≡ tree.block
     → ss ≡ (out-Block b).body
     → left ≡ roll-Block record { constants = (out-Block b).constants; types = (out-Block b).types; variables = (out-Block b).variables; procedures = (out-Block b).procedures; body = without }
     → ps ≡ (out-Block left).procedures
-    → IfSome k (IsMadeBody ps.items ss tree.closing)
-    → Each (IsMade s.tokens) ps.items × IfSome k (IsBodyThere s.tokens)
+    → IfSome k (IsLocatedBody ps.items ss tree.closing)
+    → HoldsForEach (IsProcedureInPlace s.tokens) ps.items × IfSome k (IsBodyWaiting s.tokens)
 of_tree s tree parsed b left without ss ps k is_b is_ss is_left is_ps made =
-    let m = parsed_by s tree in
+    let m = parsed_module s tree in
     let all : ps ≡ (out-Block tree.block).procedures = is_ps ∙ ap (λ o. o.procedures) (block_between left _ is_left) ∙ ap (λ x. (out-Block x).procedures) is_b in
     let statements : ss ≡ (out-Block tree.block).body = is_ss ∙ ap (λ x. (out-Block x).body) is_b in (
-      subst (λ (v : Vec Procedure Global). Each (IsMade s.tokens) v.items) (sym all) (tree_made m parsed),
-      some_as (IsMadeBody ps.items ss tree.closing) (IsBodyThere s.tokens) k
-          (λ x h. body_made m parsed x (subst (λ (v : Vec Procedure Global). IsMadeBody v.items (out-Block tree.block).body tree.closing x) all (subst (λ o. IsMadeBody ps.items o tree.closing x) statements h))) made,
+      subst (λ (v : Vec Procedure Global). HoldsForEach (IsProcedureInPlace s.tokens) v.items) (sym all) (tree_made m parsed),
+      some_as (IsLocatedBody ps.items ss tree.closing) (IsBodyWaiting s.tokens) k
+          (λ x h. body_made m parsed x (subst (λ (v : Vec Procedure Global). IsLocatedBody v.items (out-Block tree.block).body tree.closing x) all (subst (λ o. IsLocatedBody ps.items o tree.closing x) statements h))) made,
     )

@@ -5,44 +5,44 @@ use Rattle.ob0_scan.specs.declared.lexeme.TokenKind.{TokenKind}
 use Rattle.ob0_scan.specs.declared.lexeme.TokenKind.TheVariants as kind
 use Rattle.ob0_scan.specs.declared.lexeme.Token.{Token}
 use Rattle.ob0_scan.specs.Reused.{kinds}
-use Rattle.ob0_tree.specs.Lexeme.{Name, Number, relabelled}
-use Rattle.ob0_tree.specs.Places.{lexeme_of}
+use Rattle.ob0_tree.specs.Lexeme.{Name, Number, mapped_terminal}
+use Rattle.ob0_tree.specs.Places.{index_terminal}
 use Rattle.ob0_tree.specs.Tree.{Sort, Tree, spell, nesting}
 use Rattle.ob0_tree.proofs.Mapped.{spell_mapped, nesting_mapped}
-use Rattle.ob0_parse.specs.KeptTokens.{lexemes_by, IsThere, IsInPlace}
-use Rattle.ob0_parse.specs.Moving.{moved, moved_to}
-use Rattle.ob0_parse.specs.declared.moving.Move.{Move}
+use Rattle.ob0_parse.specs.KeptTokens.{index_terminals_of_kinds, HasTokensAt, IsInPlace}
+use Rattle.ob0_parse.specs.MovedTrees.{moved_tree, moved_leaf}
+use Rattle.ob0_parse.specs.declared.leaf_moves.LeafMove.{LeafMove}
 use Rattle.ob0_parse.proofs.Keeping.{count_slice}
 
 -- The largest index.
 abbrev most : ℕ
 most = 2 ^ 64 - 1
 
-lexeme_moved : (by : Move) (i j : ℕ) (k : TokenKind) → moved_to by i ≡ j → relabelled (moved_to by) (moved_to by) (lexeme_of i k) ≡ lexeme_of j k
+lexeme_moved : (by : LeafMove) (i j : ℕ) (k : TokenKind) → moved_leaf by i ≡ j → mapped_terminal (moved_leaf by) (moved_leaf by) (index_terminal i k) ≡ index_terminal j k
 lexeme_moved by i j kind.Identifier e = ap Name e
 lexeme_moved by i j (kind.Integer value) e = ap Number e
-lexeme_moved by i j (kind.Reserved word) e = refl
+lexeme_moved by i j (kind.ReservedWord word) e = refl
 lexeme_moved by i j (kind.Symbol sign) e = refl
 
-lexemes_moved : (by : Move) (i j : ℕ) (ks : List TokenKind) → by.from ≤ i → j + by.from ≡ i + by.to → j + length ks ≤ most → map (relabelled (moved_to by) (moved_to by)) (lexemes_by i ks) ≡ lexemes_by j ks
+lexemes_moved : (by : LeafMove) (i j : ℕ) (ks : List TokenKind) → by.from ≤ i → j + by.from ≡ i + by.to → j + length ks ≤ most → map (mapped_terminal (moved_leaf by) (moved_leaf by)) (index_terminals_of_kinds i ks) ≡ index_terminals_of_kinds j ks
 lexemes_moved by i j [] low same high = refl
 lexemes_moved by i j (k ∷ ks) low same high =
     let there : i - by.from + by.to ≡ j = omega (arith, low, same) in
     let below : i - by.from + by.to ≤ most = omega (arith, there, high) in
-    let first : moved_to by i ≡ j = min-eq_left below ∙ there in
-    ap (λ l. l ∷ map (relabelled (moved_to by) (moved_to by)) (lexemes_by (i + 1) ks)) (lexeme_moved by i j k first)
-    ∙ ap (λ ls. lexeme_of j k ∷ ls) (lexemes_moved by (i + 1) (j + 1) ks (omega (arith, low)) (omega (arith, same)) (omega (arith, high)))
+    let first : moved_leaf by i ≡ j = min-eq_left below ∙ there in
+    ap (λ l. l ∷ map (mapped_terminal (moved_leaf by) (moved_leaf by)) (index_terminals_of_kinds (i + 1) ks)) (lexeme_moved by i j k first)
+    ∙ ap (λ ls. index_terminal j k ∷ ls) (lexemes_moved by (i + 1) (j + 1) ks (omega (arith, low)) (omega (arith, same)) (omega (arith, high)))
 
 -- If the leaves of a tree are moved as far as its tokens, the tree is at its place with its leaves
 -- in place.
-pub moved_there : {s : Sort} (ts : List Token) (from at next : ℕ) (t u : Tree ℕ s) (by : Move) → by.from ≡ from → by.to ≡ at → next ≤ most → u ≡ moved by t → IsThere ts from at next t → IsInPlace ts at next u
+pub moved_there : {s : Sort} (ts : List Token) (from at next : ℕ) (t u : Tree ℕ s) (by : LeafMove) → by.from ≡ from → by.to ≡ at → next ≤ most → u ≡ moved_tree by t → HasTokensAt ts from at next t → IsInPlace ts at next u
 moved_there ts from at next t u by first to inside is p =
     let ks : List TokenKind = slice_range (kinds ts) at next in
     let count : at + length ks ≡ next = omega (arith, p.forward, count_slice ts at next (omega (arith, p.forward)) p.within) in
     record {
-      spelled = ap spell is ∙ spell_mapped (moved_to by) (moved_to by) t ∙ ap (map (relabelled (moved_to by) (moved_to by))) p.spelled
+      spelled = ap spell is ∙ spell_mapped (moved_leaf by) (moved_leaf by) t ∙ ap (map (mapped_terminal (moved_leaf by) (moved_leaf by))) p.spelled
           ∙ lexemes_moved by from at ks (omega (arith, first)) (omega (arith, first, to)) (omega (arith, count, inside));
-      shallow = omega (arith, ap nesting is, nesting_mapped (moved_to by) (moved_to by) t, p.shallow);
+      shallow = omega (arith, ap nesting is, nesting_mapped (moved_leaf by) (moved_leaf by) t, p.shallow);
       forward = p.forward;
       within = p.within;
     }

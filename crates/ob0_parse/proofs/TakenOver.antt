@@ -3,11 +3,11 @@ use Rattle.std.proofs.Common.{◌≡◌, ℕ, ◌+◌, ◌-◌, ◌<◌, ◌≤�
 use Rattle.ob0_scan.specs.declared.lexeme.Token.{Token}
 use Rattle.ob0_tree.specs.Lexeme.{Terminal}
 use Rattle.ob0_tree.specs.Module.{max_nesting}
-use Rattle.ob0_tree.specs.Places.{lexemes}
+use Rattle.ob0_tree.specs.Places.{index_terminals}
 use Rattle.ob0_tree.specs.Tree.{Sort, Tree, spell, nesting}
 use Rattle.ob0_parse_descent.specs.Descent.{node, Descends}
-use Rattle.ob0_parse_descent.specs.Reading.{rest, SameHead, Taken}
-use Rattle.ob0_parse_descent.specs.Follow.{level, Stops}
+use Rattle.ob0_parse_descent.specs.Reading.{rest, SameHead, IsReadTree}
+use Rattle.ob0_parse_descent.specs.Follow.{level, EndsConstruct}
 use Rattle.ob0_parse_descent.proofs.Finished.{finishes}
 use Rattle.ob0_parse_descent.proofs.Unique.{same}
 use Rattle.ob0_parse.specs.KeptTokens.{IsInPlace}
@@ -16,18 +16,18 @@ use Rattle.ob0_parse.proofs.Keeping.{count_lexemes, pieces_of_rest, kept_there}
 count_rest : (ts : List Token) (at : ℕ) → at ≤ length ts → at + length (rest ts at) ≡ length ts + 1
 unfolding rest
 count_rest ts at inside =
-    let h : length (drop at (lexemes ts)) ≡ length (lexemes ts) - at = length-drop at (lexemes ts) in
+    let h : length (drop at (index_terminals ts)) ≡ length (index_terminals ts) - at = length-drop at (index_terminals ts) in
     omega (arith, h, count_lexemes 0 ts, inside)
 
 -- If a token stops a tree, the token does so whatever comes after it.
-stops_alike : (n : ℕ) (xs w : List (Terminal ℕ)) → SameHead xs w → Stops n xs → Stops n w
+stops_alike : (n : ℕ) (xs w : List (Terminal ℕ)) → SameHead xs w → EndsConstruct n xs → EndsConstruct n w
 stops_alike n xs w h p =
-    let s : Stops n (h.head ∷ h.other) = subst (λ y. Stops n y) h.is p in
-    subst (λ y. Stops n y) (sym h.alike) s
+    let s : EndsConstruct n (h.head ∷ h.other) = subst (λ y. EndsConstruct n y) h.is p in
+    subst (λ y. EndsConstruct n y) (sym h.alike) s
 
 -- If a tree's tokens are here and the next token stops it, the descent reads that tree. No other
 -- tree of the sort has these tokens.
-taken_there : {s : Sort} (t : Tree ℕ s) (room : ℕ) (ts : List Token) (at next : ℕ) → Stops (level s) (rest ts next) → rest ts at ≡ spell t ++ rest ts next → nesting t ≤ room → at ≤ next → next ≤ length ts → Taken t room ts at next
+taken_there : {s : Sort} (t : Tree ℕ s) (room : ℕ) (ts : List Token) (at next : ℕ) → EndsConstruct (level s) (rest ts next) → rest ts at ≡ spell t ++ rest ts next → nesting t ≤ room → at ≤ next → next ≤ length ts → IsReadTree t room ts at next
 taken_there {s = s} t room ts at next stops spelled shallow forward within =
     let whole : at + length (spell t ++ rest ts next) ≡ next + length (rest ts next) =
     ap (λ (w : List (Terminal ℕ)). at + length w) (sym spelled) ∙ omega (arith, count_rest ts at (omega (arith, forward, within)), count_rest ts next within) in
@@ -45,7 +45,7 @@ taken_there {s = s} t room ts at next stops spelled shallow forward within =
     }
 
 -- A tree at its place, with its leaves in place, may be reused if the next token stops it.
-pub taken_kept : {s : Sort} (ts : List Token) (at next : ℕ) (t : Tree ℕ s) → Stops (level s) (rest ts next) → IsInPlace ts at next t → Taken t max_nesting ts at next
+pub taken_kept : {s : Sort} (ts : List Token) (at next : ℕ) (t : Tree ℕ s) → EndsConstruct (level s) (rest ts next) → IsInPlace ts at next t → IsReadTree t max_nesting ts at next
 unfolding rest
 taken_kept ts at next t stops p =
     taken_there t max_nesting ts at next stops
@@ -53,6 +53,6 @@ taken_kept ts at next t stops p =
     p.shallow (omega (arith, p.forward)) p.within
 
 -- A tree that was read is at its place, with its leaves in place.
-pub taken_is_there : {s : Sort} (ts : List Token) (at next : ℕ) (t : Tree ℕ s) → Taken t max_nesting ts at next → at < next → IsInPlace ts at next t
+pub taken_is_there : {s : Sort} (ts : List Token) (at next : ℕ) (t : Tree ℕ s) → IsReadTree t max_nesting ts at next → at < next → IsInPlace ts at next t
 unfolding rest
 taken_is_there ts at next t p forward = kept_there ts at next t p.spelled p.shallow forward p.within

@@ -1,16 +1,16 @@
 //! Keeps procedures and bodies from earlier parses, and the places of their tokens in another text.
 //!
-//! `Kept` holds trees with the places of their tokens: the procedures of the last parse, the
-//! procedures that it didn't reach, and the body of the module. `IsThere` says that a tree's tokens
+//! `KeptTrees` holds trees with the places of their tokens: the procedures of the last parse, the
+//! procedures that it didn't reach, and the body of the module. `HasTokensAt` says that a tree's tokens
 //! have the kinds that the tree spells, counted from its own first token. So only the kinds of
-//! these tokens decide whether a tree can be used in another text (`Kept::after`), whatever else
+//! these tokens decide whether a tree can be used in another text (`KeptTrees::relocate`), whatever else
 //! either text contains. A text with a syntax fault keeps the trees that its parser made up to the
 //! fault, and the ones that wait after the fault.
 //!
 //! Reusing such a tree requires nothing about the parse that made it, except that the next token
 //! ends it. Nothing continues a procedure, which ends in a semicolon (`stops_zero`), and END
 //! continues no body. So no other tree has these tokens (`same`). The descent reads every tree that
-//! is spelled (`finishes`), so `Taken` follows from the spelling (`taken_there`).
+//! is spelled (`finishes`), so `IsReadTree` follows from the spelling (`taken_there`).
 //!
 //! The leaves of a procedure give its place: its name is its second token, and its closing name is
 //! the last but one. The leaves of a body don't give its place, so a body is kept with the index of
@@ -19,19 +19,19 @@
 //!
 //! A kept tree waits with unchanged leaves while the parser hasn't reached it. When the parser
 //! reaches it, a walk in place adds the distance that its tokens have moved to its leaves
-//! (`put_in_place`, `moving.rt`). So each procedure and the body, before or after the change, are
+//! (`move_leaves`, `leaf_moves.rt`). So each procedure and the body, before or after the change, are
 //! reused. The moved tree is `mapped` from the old one, so it spells the current tokens
 //! (`moved_there`). No index exceeds the largest one, because `next` is itself an index.
 
 ghost use Rattle.std.specs.Prelude.{◌≡◌, ◌+◌, ◌≤◌, ◌++◌, [], List, IfOk, OnOk, IfSome};
 ghost use Rattle.std.specs.Option.{option_to_list};
-ghost use Rattle.ob0_scan.specs.Scanned.{Scanned};
+ghost use Rattle.ob0_scan.specs.TextWithTokens.{TextWithTokens};
 ghost use Rattle.ob0_scan.specs.declared.lexeme.Token.{Token};
-ghost use Rattle.ob0_tree.specs.Parsed.{IsParsed, parsed_by};
+ghost use Rattle.ob0_tree.specs.ParsedModule.{IsParsed, parsed_module};
 ghost use Rattle.ob0_scan.specs.SameKinds.{HasSameTokens};
-ghost use Rattle.ob0_parse.specs.KeptTokens.{AreKept, CarriesTokens, CarriesAll, CarriesMade, CarriesAllMade, CarriesOne, CarriesBody, CarriesAnyBody, IsMadeBody, IsBodyThere, IsMadeAt, IsTakenFrom, IsTakenAt, IsTakenBody, IsWaiting, CarriesTo, StayWaiting};
+ghost use Rattle.ob0_parse.specs.KeptTokens.{AreKept, RelocatesRange, RelocatesAll, AppendsRelocatedMade, AppendsAllRelocatedMade, AppendsRelocated, RelocatesBody, RelocatesAnyBody, IsLocatedBody, IsBodyWaiting, IsLocatedProcedure, IsReusedFromWaiting, IsReusedProcedure, IsReusedBody, IsWaiting, RelocatesProcedure, RemainWaiting};
 
-use crate::moving::{self, Move};
+use crate::leaf_moves::{self, LeafMove};
 use ob0_scan::SameTokens;
 use ob0_tree::{ModuleTree, Procedure, Statement};
 use std::alloc::{AllocError, Global};
@@ -59,7 +59,7 @@ pub struct KeptBody {
 /// The trees of earlier parses that can be reused: procedures of a module's own block, and the
 /// module's body. A later parse reuses them when it reaches their tokens.
 #[derive(Drop)]
-pub struct Kept {
+pub struct KeptTrees {
     /// The procedures that the last parse made or reused, in text order. Their leaves are in place.
     pub made: Vec<Procedure>,
     /// The procedures that the last parse didn't reach, in reverse text order.
@@ -68,12 +68,12 @@ pub struct Kept {
     pub body: Option<KeptBody>,
 }
 
-impl Kept {
+impl KeptTrees {
     /// Returns a value that keeps no tree.
-    pub fn none(alloc: Global) -> Kept
+    pub fn empty(alloc: Global) -> KeptTrees
         ensures { (ts : List Token) → AreKept ts result }
     {
-        Kept {
+        KeptTrees {
             made: Vec::new(alloc),
             waiting: Vec::new(alloc),
             body: None,
@@ -82,15 +82,15 @@ impl Kept {
 
     /// Returns a value that keeps the procedures of a tree. If the tree has procedures, its body is
     /// also kept.
-    pub fn of(alloc: Global, tree: ModuleTree) -> Kept
-        ensures { (s : Scanned) → IsParsed (parsed_by s tree) → AreKept s.tokens result }
+    pub fn from_tree(alloc: Global, tree: ModuleTree) -> KeptTrees
+        ensures { (s : TextWithTokens) → IsParsed (parsed_module s tree) → AreKept s.tokens result }
     {
         let closing = tree.closing;
         let mut block = tree.into_block();
         let statements = block.body.take();
         let made = block.into_procedures();
-        let body = made_body(&made, statements, closing);
-        Kept {
+        let body = locate_body(&made, statements, closing);
+        KeptTrees {
             made,
             waiting: Vec::new(alloc),
             body,
@@ -99,23 +99,23 @@ impl Kept {
 
     /// Returns the kept trees whose tokens are also in the changed text, with their places in that
     /// text. The other trees are dropped.
-    pub fn after(self, alloc: Global, same: SameTokens) -> Result<Kept, AllocError>
+    pub fn relocate(self, alloc: Global, same: SameTokens) -> Result<KeptTrees, AllocError>
         ensures { IfOk result (λ kept. (old new : List Token)
             → HasSameTokens same old new
             → AreKept old self
             → AreKept new kept) }
     {
-        let Kept {
+        let KeptTrees {
             mut made,
             waiting,
             body,
         } = self;
-        let mut kept = keep_waiting(alloc, waiting, same)?;
-        keep_made(&mut kept, &mut made, same)?;
-        Ok(Kept {
+        let mut kept = relocate_waiting(alloc, waiting, same)?;
+        relocate_made(&mut kept, &mut made, same)?;
+        Ok(KeptTrees {
             made,
             waiting: kept,
-            body: keep_body(body, same),
+            body: relocate_body(body, same),
         })
     }
 }
@@ -123,12 +123,12 @@ impl Kept {
 /// Returns the body of a module with these procedures, with its place. Returns None if the module
 /// has no body or no procedures. BEGIN is the token after the last procedure, and END is between
 /// the statements and the closing name.
-fn made_body(
+fn locate_body(
     made: &Vec<Procedure>,
     body: Option<Vec<Statement>>,
     closing: usize,
 ) -> Option<KeptBody>
-    ensures { IfSome result (IsMadeBody made.now.items body closing) }
+    ensures { IfSome result (IsLocatedBody made.now.items body closing) }
 {
     let statements = body?;
     let last = made.last()?;
@@ -144,16 +144,16 @@ fn made_body(
 
 /// Returns the waiting procedures whose tokens are also in the changed text, in the same order,
 /// with their places there.
-fn keep_waiting(
+fn relocate_waiting(
     alloc: Global,
     waiting: Vec<KeptProcedure>,
     same: SameTokens,
 ) -> Result<Vec<KeptProcedure>, AllocError>
-    ensures { IfOk result (λ kept. CarriesAll same waiting.items kept.items) }
+    ensures { IfOk result (λ kept. RelocatesAll same waiting.items kept.items) }
 {
     let mut kept = Vec::new(alloc);
     for procedure in waiting {
-        keep(&mut kept, procedure, same)?;
+        push_relocated(&mut kept, procedure, same)?;
     }
     Ok(kept)
 }
@@ -161,30 +161,30 @@ fn keep_waiting(
 /// Moves procedures of the last parse from `made` to `kept`, from the last to the first, with their
 /// places in the changed text. Drops those whose tokens the changed text doesn't have. Afterwards
 /// `made` is empty.
-fn keep_made(
+fn relocate_made(
     kept: &mut Vec<KeptProcedure>,
     made: &mut Vec<Procedure>,
     same: SameTokens,
 ) -> Result<(), AllocError>
     ensures empty { OnOk result (made.new.items ≡ []) }
     ensures kept { OnOk result
-        (CarriesAllMade same made.old.items kept.old.items kept.new.items) }
+        (AppendsAllRelocatedMade same made.old.items kept.old.items kept.new.items) }
 {
     while let Some(procedure) = made.pop() {
-        keep_one_made(kept, procedure, same)?;
+        push_relocated_made(kept, procedure, same)?;
     }
     Ok(())
 }
 
 /// Appends a waiting procedure with its place in the changed text, if that text has its tokens.
-fn keep(
+fn push_relocated(
     kept: &mut Vec<KeptProcedure>,
     procedure: KeptProcedure,
     same: SameTokens,
 ) -> Result<(), AllocError>
-    ensures { OnOk result (CarriesOne same procedure kept.old.items kept.new.items) }
+    ensures { OnOk result (AppendsRelocated same procedure kept.old.items kept.new.items) }
 {
-    if let Some(there) = procedure.after(same) {
+    if let Some(there) = procedure.relocate(same) {
         kept.push(there)?;
     }
     Ok(())
@@ -192,34 +192,34 @@ fn keep(
 
 /// Appends a procedure of the last parse with its place in the changed text, if that text has its
 /// tokens.
-fn keep_one_made(
+fn push_relocated_made(
     kept: &mut Vec<KeptProcedure>,
     procedure: Procedure,
     same: SameTokens,
 ) -> Result<(), AllocError>
-    ensures { OnOk result (CarriesMade same procedure kept.old.items kept.new.items) }
+    ensures { OnOk result (AppendsRelocatedMade same procedure kept.old.items kept.new.items) }
 {
-    if let Some(there) = made_at(procedure) {
-        keep(kept, there, same)?;
+    if let Some(there) = locate_procedure(procedure) {
+        push_relocated(kept, there, same)?;
     }
     Ok(())
 }
 
 /// Returns the body with its place in the changed text. Returns None if there is no body or the
 /// changed text doesn't have its tokens.
-fn keep_body(body: Option<KeptBody>, same: SameTokens) -> Option<KeptBody>
-    ensures { CarriesAnyBody same body result }
+fn relocate_body(body: Option<KeptBody>, same: SameTokens) -> Option<KeptBody>
+    ensures { RelocatesAnyBody same body result }
 {
     match body {
-        Some(body) => body.after(same),
+        Some(body) => body.relocate(same),
         None => None,
     }
 }
 
 /// Returns the procedure with the place of its tokens. Its leaves must be in place, because they
 /// give that place. Returns None if the index after its last token is too large.
-fn made_at(procedure: Procedure) -> Option<KeptProcedure>
-    ensures { IfSome result (IsMadeAt procedure) }
+fn locate_procedure(procedure: Procedure) -> Option<KeptProcedure>
+    ensures { IfSome result (IsLocatedProcedure procedure) }
 {
     let at = procedure.name.saturating_sub(1);
     let next = procedure.closing.checked_add(2)?;
@@ -233,10 +233,10 @@ fn made_at(procedure: Procedure) -> Option<KeptProcedure>
 impl KeptProcedure {
     /// Returns the procedure with its place in the changed text, or None if the changed text
     /// doesn't have its tokens.
-    fn after(self, same: SameTokens) -> Option<KeptProcedure>
-        ensures { IfSome result (CarriesTo same self) }
+    fn relocate(self, same: SameTokens) -> Option<KeptProcedure>
+        ensures { IfSome result (RelocatesProcedure same self) }
     {
-        let (at, next) = place_after(self.at, self.next, same)?;
+        let (at, next) = relocated_range(self.at, self.next, same)?;
         Some(KeptProcedure {
             procedure: self.procedure,
             at,
@@ -248,10 +248,10 @@ impl KeptProcedure {
 impl KeptBody {
     /// Returns the body with its place in the changed text, or None if the changed text doesn't
     /// have its tokens.
-    fn after(self, same: SameTokens) -> Option<KeptBody>
-        ensures { IfSome result (CarriesBody same self) }
+    fn relocate(self, same: SameTokens) -> Option<KeptBody>
+        ensures { IfSome result (RelocatesBody same self) }
     {
-        let (at, next) = place_after(self.at, self.next, same)?;
+        let (at, next) = relocated_range(self.at, self.next, same)?;
         Some(KeptBody {
             statements: self.statements,
             from: self.from,
@@ -261,10 +261,10 @@ impl KeptBody {
     }
 
     /// Returns the statements with their leaves in place, and the index of the token after them.
-    pub(crate) fn put_in_place(self) -> (Vec<Statement>, usize)
+    pub(crate) fn move_leaves(self) -> (Vec<Statement>, usize)
         ensures placed { (ts : List Token)
-            → IsBodyThere ts self
-            → IsTakenBody ts self.at result }
+            → IsBodyWaiting ts self
+            → IsReusedBody ts self.at result }
         ensures next { result.1 ≡ self.next }
     {
         let KeptBody {
@@ -276,27 +276,27 @@ impl KeptBody {
         if from == at {
             return (statements, next);
         }
-        moving::sequence(&mut statements, Move { from, to: at });
+        leaf_moves::move_sequence(&mut statements, LeafMove { from, to: at });
         (statements, next)
     }
 }
 
 /// Returns the range of the tokens `at..next` in the changed text, or None if that text doesn't
 /// have all of them.
-fn place_after(at: usize, next: usize, same: SameTokens) -> Option<(usize, usize)>
-    ensures { IfSome result (CarriesTokens same at next) }
+fn relocated_range(at: usize, next: usize, same: SameTokens) -> Option<(usize, usize)>
+    ensures { IfSome result (RelocatesRange same at next) }
 {
     if next <= same.prefix {
         return Some((at, next));
     }
-    let at = place_after_change(at, same)?;
-    let next = place_after_change(next, same)?;
+    let at = relocated_index(at, same)?;
+    let next = relocated_index(next, same)?;
     Some((at, next))
 }
 
 /// Returns the new index of a token that lies after the change, given its old index. Returns None
 /// if the token isn't after the change.
-fn place_after_change(index: usize, same: SameTokens) -> Option<usize>
+fn relocated_index(index: usize, same: SameTokens) -> Option<usize>
     ensures { IfSome result (λ place. (same.old_suffix ≤ index)
         × (place + same.old_suffix ≡ index + same.new_suffix)) }
 {
@@ -306,13 +306,16 @@ fn place_after_change(index: usize, same: SameTokens) -> Option<usize>
 
 /// Removes and returns the kept procedure that begins at this token, with the index of the token
 /// after it. Returns None if there is none. Procedures that begin before this token are dropped.
-pub(crate) fn kept_at(waiting: &mut Vec<KeptProcedure>, at: usize) -> Option<(Procedure, usize)>
-    ensures stay { StayWaiting waiting.old.items waiting.new.items }
-    ensures placed { IfSome result (IsTakenFrom waiting.old.items at) }
+pub(crate) fn take_procedure_at(
+    waiting: &mut Vec<KeptProcedure>,
+    at: usize,
+) -> Option<(Procedure, usize)>
+    ensures stay { RemainWaiting waiting.old.items waiting.new.items }
+    ensures placed { IfSome result (IsReusedFromWaiting waiting.old.items at) }
 {
-    while let Some(kept) = pop_by(waiting, at) {
+    while let Some(kept) = pop_up_to(waiting, at) {
         if kept.at == at {
-            return Some(put_in_place(kept));
+            return Some(move_leaves(kept));
         }
     }
     None
@@ -320,7 +323,7 @@ pub(crate) fn kept_at(waiting: &mut Vec<KeptProcedure>, at: usize) -> Option<(Pr
 
 /// Removes and returns the next waiting procedure if it begins at or before this token, otherwise
 /// returns None.
-fn pop_by(waiting: &mut Vec<KeptProcedure>, at: usize) -> Option<KeptProcedure>
+fn pop_up_to(waiting: &mut Vec<KeptProcedure>, at: usize) -> Option<KeptProcedure>
     ensures rest { waiting.old.items ≡ waiting.new.items ++ option_to_list result }
 {
     match waiting.last() {
@@ -335,8 +338,8 @@ fn pop_by(waiting: &mut Vec<KeptProcedure>, at: usize) -> Option<KeptProcedure>
 }
 
 /// Returns the procedure with its leaves in place, and the index of the token after it.
-fn put_in_place(kept: KeptProcedure) -> (Procedure, usize)
-    ensures { (ts : List Token) → IsWaiting ts kept → IsTakenAt ts kept.at result }
+fn move_leaves(kept: KeptProcedure) -> (Procedure, usize)
+    ensures { (ts : List Token) → IsWaiting ts kept → IsReusedProcedure ts kept.at result }
 {
     let KeptProcedure {
         mut procedure,
@@ -347,6 +350,6 @@ fn put_in_place(kept: KeptProcedure) -> (Procedure, usize)
     if at == from {
         return (procedure, next);
     }
-    moving::procedure(&mut procedure, Move { from, to: at });
+    leaf_moves::move_procedure(&mut procedure, LeafMove { from, to: at });
     (procedure, next)
 }

@@ -3,7 +3,7 @@
 use Rattle.std.proofs.Common.{◌≡◌, ℕ, List, ◌∷◌}
 use Rattle.ob0_scan.specs.declared.lexeme.TokenKind.{TokenKind}
 use Rattle.ob0_scan.specs.declared.lexeme.TokenKind.TheVariants as kind
-use Rattle.ob0_scan.specs.declared.lexeme.Reserved.TheVariants as reserved
+use Rattle.ob0_scan.specs.declared.lexeme.ReservedWord.TheVariants as reserved
 use Rattle.ob0_scan.specs.declared.lexeme.Symbol.TheVariants as symbol
 use Rattle.ob0_tree.specs.Lexeme.{Terminal, Name, Number, Mark}
 
@@ -31,7 +31,7 @@ bracket_not_paren e = cc
 pub becomes_not_paren : {N : Type 0} {x y : List (Terminal N)} → Mark (kind.Symbol symbol.Becomes) ∷ x ≡ Mark (kind.Symbol symbol.LeftParen) ∷ y → ⊥
 becomes_not_paren e = cc
 
-pub array_not_record : {N : Type 0} {x y : List (Terminal N)} → Mark (kind.Reserved reserved.Array) ∷ x ≡ Mark (kind.Reserved reserved.Record) ∷ y → ⊥
+pub array_not_record : {N : Type 0} {x y : List (Terminal N)} → Mark (kind.ReservedWord reserved.Array) ∷ x ≡ Mark (kind.ReservedWord reserved.Record) ∷ y → ⊥
 array_not_record e = cc
 
 -- If two lists that begin with numbers are equal, the numbers are equal.

@@ -1,18 +1,18 @@
 -- Computes the stop of the descent, with a bound on its steps, and proves the result right.
 use Rattle.std.proofs.Common.{◌≡◌, ◌==◌, ℕ, zero, suc, ◌+◌, Bool, true, false, Option, Some, None, List, [], ◌∷◌, ◌++◌, refl, sym, ◌∙◌, ap, subst, eqb-true, eq-eqb, true≢false, if◌then◌else◌}
 use Rattle.ob0_scan.specs.declared.lexeme.TokenKind.TheVariants as kind
-use Rattle.ob0_scan.specs.declared.lexeme.Reserved.{Reserved}
-use Rattle.ob0_scan.specs.declared.lexeme.Reserved.TheVariants as reserved
+use Rattle.ob0_scan.specs.declared.lexeme.ReservedWord.{ReservedWord}
+use Rattle.ob0_scan.specs.declared.lexeme.ReservedWord.TheVariants as reserved
 use Rattle.ob0_scan.specs.declared.lexeme.Symbol.{Symbol}
 use Rattle.ob0_scan.specs.declared.lexeme.Symbol.TheVariants as symbol
 use Rattle.ob0_tree.specs.Lexeme.{Terminal, Name, Number, Mark, EndOfText}
 use Rattle.ob0_tree.specs.Tree.{Sort}
-use Rattle.ob0_parse_descent.specs.Descent.{Part, token, name, number, node, finish, Choice, parts, missing, too_deep, chosen, Stop, Done, Expects, Deep, Descends, done, taken, other, made, absent, deep}
+use Rattle.ob0_parse_descent.specs.Descent.{ProductionPart, token, name, number, node, finish, ProductionChoice, parts, missing, too_deep, chosen_production, Stop, Done, Expects, Deep, Descends, done, taken, other, made, absent, deep}
 use Rattle.ob0_parse_descent.specs.declared.refusal.Expected.TheVariants as expected
 
 -- Numbers the reserved words and symbols, so that they can be compared.
 
-abbrev pub word_code : Reserved → ℕ
+abbrev pub word_code : ReservedWord → ℕ
 word_code reserved.Module = 0
 word_code reserved.Begin = 1
 word_code reserved.End = 2
@@ -35,7 +35,7 @@ word_code reserved.Or = 18
 word_code reserved.Repeat = 19
 word_code reserved.Until = 20
 
-abbrev word_at : ℕ → Reserved
+abbrev word_at : ℕ → ReservedWord
 word_at n =
     if n == 0 then reserved.Module else
     if n == 1 then reserved.Begin else
@@ -59,7 +59,7 @@ word_at n =
     if n == 19 then reserved.Repeat else
     reserved.Until
 
-word_back : (w : Reserved) → word_at (word_code w) ≡ w
+word_back : (w : ReservedWord) → word_at (word_code w) ≡ w
 word_back reserved.Module = refl
 word_back reserved.Begin = refl
 word_back reserved.End = refl
@@ -150,20 +150,20 @@ sign_back symbol.LeftBracket = refl
 sign_back symbol.RightBracket = refl
 
 -- Returns true if the token is this reserved word.
-abbrev pub is_word : Reserved → Terminal ℕ → Bool
-is_word w (Mark (kind.Reserved v)) = word_code w == word_code v
+abbrev pub is_word : ReservedWord → Terminal ℕ → Bool
+is_word w (Mark (kind.ReservedWord v)) = word_code w == word_code v
 is_word w x = false
 
 abbrev pub is_sign : Symbol → Terminal ℕ → Bool
 is_sign w (Mark (kind.Symbol v)) = sign_code w == sign_code v
 is_sign w x = false
 
-abbrev pub stop_of : ℕ → List Part → ℕ → List (Terminal ℕ) → Option Stop
+abbrev pub stop_of : ℕ → List ProductionPart → ℕ → List (Terminal ℕ) → Option Stop
 stop_of zero ps i tokens = None
 stop_of (suc n) [] i tokens = Some Done
 stop_of (suc n) (node s room ∷ ps) i tokens =
-    elim (chosen s room tokens) as (λ c. Option Stop) [ parts qs ↦ stop_of n (qs ++ ps) i tokens | missing e ↦ Some (Expects i e) | too_deep ↦ Some (Deep i) ]
-stop_of (suc n) (token (kind.Reserved w) ∷ ps) i (x ∷ tokens) =
+    elim (chosen_production s room tokens) as (λ c. Option Stop) [ parts qs ↦ stop_of n (qs ++ ps) i tokens | missing e ↦ Some (Expects i e) | too_deep ↦ Some (Deep i) ]
+stop_of (suc n) (token (kind.ReservedWord w) ∷ ps) i (x ∷ tokens) =
     elim (is_word w x) as (λ b. Option Stop) [ true ↦ stop_of n ps (i + 1) tokens | false ↦ Some (Expects i (expected.Word w)) ]
 stop_of (suc n) (token (kind.Symbol w) ∷ ps) i (x ∷ tokens) =
     elim (is_sign w x) as (λ b. Option Stop) [ true ↦ stop_of n ps (i + 1) tokens | false ↦ Some (Expects i (expected.Symbol w)) ]
@@ -184,11 +184,11 @@ none_some e = cc
 same_stop : {a b : Stop} → Some a ≡ Some b → a ≡ b
 same_stop e = cc
 
-word_is : (w : Reserved) (x : Terminal ℕ) → is_word w x ≡ true → x ≡ Mark (kind.Reserved w)
-word_is w (Mark (kind.Reserved v)) e = ap (λ u. Mark (kind.Reserved u)) (sym (word_back v) ∙ (ap word_at (sym (eqb-true (word_code w) (word_code v) e)) ∙ word_back w))
+word_is : (w : ReservedWord) (x : Terminal ℕ) → is_word w x ≡ true → x ≡ Mark (kind.ReservedWord w)
+word_is w (Mark (kind.ReservedWord v)) e = ap (λ u. Mark (kind.ReservedWord u)) (sym (word_back v) ∙ (ap word_at (sym (eqb-true (word_code w) (word_code v) e)) ∙ word_back w))
 word_is w x e = absurd (true≢false (sym e))
 
-word_isnt : (w : Reserved) (x : Terminal ℕ) → is_word w x ≡ false → x ≡ Mark (kind.Reserved w) → ⊥
+word_isnt : (w : ReservedWord) (x : Terminal ℕ) → is_word w x ≡ false → x ≡ Mark (kind.ReservedWord w) → ⊥
 word_isnt w x e is = true≢false (sym (eq-eqb (word_code w) (word_code w) refl) ∙ (ap (is_word w) (sym is) ∙ e))
 
 sign_is : (w : Symbol) (x : Terminal ℕ) → is_sign w x ≡ true → x ≡ Mark (kind.Symbol w)
@@ -198,42 +198,42 @@ sign_is w x e = absurd (true≢false (sym e))
 sign_isnt : (w : Symbol) (x : Terminal ℕ) → is_sign w x ≡ false → x ≡ Mark (kind.Symbol w) → ⊥
 sign_isnt w x e is = true≢false (sym (eq-eqb (sign_code w) (sign_code w) refl) ∙ (ap (is_sign w) (sym is) ∙ e))
 
-module _ (n : ℕ) (further : (ps : List Part) (i : ℕ) (tokens : List (Terminal ℕ)) (o : Stop) → stop_of n ps i tokens ≡ Some o → Descends ps i tokens o) where
-  by_choice : (s : Sort) (room : ℕ) (ps : List Part) (i : ℕ) (tokens : List (Terminal ℕ)) (o : Stop) (c : Choice) → chosen s room tokens ≡ c
+module _ (n : ℕ) (further : (ps : List ProductionPart) (i : ℕ) (tokens : List (Terminal ℕ)) (o : Stop) → stop_of n ps i tokens ≡ Some o → Descends ps i tokens o) where
+  by_choice : (s : Sort) (room : ℕ) (ps : List ProductionPart) (i : ℕ) (tokens : List (Terminal ℕ)) (o : Stop) (c : ProductionChoice) → chosen_production s room tokens ≡ c
       → elim c as (λ c. Option Stop) [ parts qs ↦ stop_of n (qs ++ ps) i tokens | missing e ↦ Some (Expects i e) | too_deep ↦ Some (Deep i) ] ≡ Some o → Descends (node s room ∷ ps) i tokens o
   by_choice s room ps i tokens o (parts qs) c e = made qs c (further (qs ++ ps) i tokens o e)
   by_choice s room ps i tokens o (missing x) c e = subst (λ y. Descends (node s room ∷ ps) i tokens y) (same_stop e) (absent c)
   by_choice s room ps i tokens o too_deep c e = subst (λ y. Descends (node s room ∷ ps) i tokens y) (same_stop e) (deep c)
 
-  by_word : (w : Reserved) (ps : List Part) (i : ℕ) (x : Terminal ℕ) (tokens : List (Terminal ℕ)) (o : Stop) (b : Bool) → is_word w x ≡ b
-      → elim b as (λ b. Option Stop) [ true ↦ stop_of n ps (i + 1) tokens | false ↦ Some (Expects i (expected.Word w)) ] ≡ Some o → Descends (token (kind.Reserved w) ∷ ps) i (x ∷ tokens) o
+  by_word : (w : ReservedWord) (ps : List ProductionPart) (i : ℕ) (x : Terminal ℕ) (tokens : List (Terminal ℕ)) (o : Stop) (b : Bool) → is_word w x ≡ b
+      → elim b as (λ b. Option Stop) [ true ↦ stop_of n ps (i + 1) tokens | false ↦ Some (Expects i (expected.Word w)) ] ≡ Some o → Descends (token (kind.ReservedWord w) ∷ ps) i (x ∷ tokens) o
   by_word w ps i x tokens o true is e = taken (word_is w x is) (further ps (i + 1) tokens o e)
-  by_word w ps i x tokens o false is e = subst (λ y. Descends (token (kind.Reserved w) ∷ ps) i (x ∷ tokens) y) (same_stop e) (other (word_isnt w x is) refl)
+  by_word w ps i x tokens o false is e = subst (λ y. Descends (token (kind.ReservedWord w) ∷ ps) i (x ∷ tokens) y) (same_stop e) (other (word_isnt w x is) refl)
 
-  by_sign : (w : Symbol) (ps : List Part) (i : ℕ) (x : Terminal ℕ) (tokens : List (Terminal ℕ)) (o : Stop) (b : Bool) → is_sign w x ≡ b
+  by_sign : (w : Symbol) (ps : List ProductionPart) (i : ℕ) (x : Terminal ℕ) (tokens : List (Terminal ℕ)) (o : Stop) (b : Bool) → is_sign w x ≡ b
       → elim b as (λ b. Option Stop) [ true ↦ stop_of n ps (i + 1) tokens | false ↦ Some (Expects i (expected.Symbol w)) ] ≡ Some o → Descends (token (kind.Symbol w) ∷ ps) i (x ∷ tokens) o
   by_sign w ps i x tokens o true is e = taken (sign_is w x is) (further ps (i + 1) tokens o e)
   by_sign w ps i x tokens o false is e = subst (λ y. Descends (token (kind.Symbol w) ∷ ps) i (x ∷ tokens) y) (same_stop e) (other (sign_isnt w x is) refl)
 
-  by_name : (ps : List Part) (i : ℕ) (tokens : List (Terminal ℕ)) (o : Stop) → stop_of (suc n) (name ∷ ps) i tokens ≡ Some o → Descends (name ∷ ps) i tokens o
+  by_name : (ps : List ProductionPart) (i : ℕ) (tokens : List (Terminal ℕ)) (o : Stop) → stop_of (suc n) (name ∷ ps) i tokens ≡ Some o → Descends (name ∷ ps) i tokens o
   by_name ps i [] o e = absurd (none_some e)
   by_name ps i (Name m ∷ tokens) o e = taken (m, refl) (further ps (i + 1) tokens o e)
   by_name ps i (x ∷ tokens) o e = subst (λ y. Descends (name ∷ ps) i (x ∷ tokens) y) (same_stop e) (other (λ p. cc (p.1)) refl)
 
-  by_number : (ps : List Part) (i : ℕ) (tokens : List (Terminal ℕ)) (o : Stop) → stop_of (suc n) (number ∷ ps) i tokens ≡ Some o → Descends (number ∷ ps) i tokens o
+  by_number : (ps : List ProductionPart) (i : ℕ) (tokens : List (Terminal ℕ)) (o : Stop) → stop_of (suc n) (number ∷ ps) i tokens ≡ Some o → Descends (number ∷ ps) i tokens o
   by_number ps i (Number m ∷ tokens) o e = taken (m, refl) (further ps (i + 1) tokens o e)
   by_number ps i tokens o e = absurd (none_some e)
 
-  by_finish : (ps : List Part) (i : ℕ) (tokens : List (Terminal ℕ)) (o : Stop) → stop_of (suc n) (finish ∷ ps) i tokens ≡ Some o → Descends (finish ∷ ps) i tokens o
+  by_finish : (ps : List ProductionPart) (i : ℕ) (tokens : List (Terminal ℕ)) (o : Stop) → stop_of (suc n) (finish ∷ ps) i tokens ≡ Some o → Descends (finish ∷ ps) i tokens o
   by_finish ps i [] o e = absurd (none_some e)
   by_finish ps i (EndOfText ∷ tokens) o e = taken refl (further ps (i + 1) tokens o e)
   by_finish ps i (x ∷ tokens) o e = subst (λ y. Descends (finish ∷ ps) i (x ∷ tokens) y) (same_stop e) (other (λ p. cc p) refl)
 
-pub computed : (n : ℕ) (ps : List Part) (i : ℕ) (tokens : List (Terminal ℕ)) (o : Stop) → stop_of n ps i tokens ≡ Some o → Descends ps i tokens o
+pub computed : (n : ℕ) (ps : List ProductionPart) (i : ℕ) (tokens : List (Terminal ℕ)) (o : Stop) → stop_of n ps i tokens ≡ Some o → Descends ps i tokens o
 computed zero ps i tokens o e = absurd (none_some e)
 computed (suc n) [] i tokens o e = subst (λ y. Descends [] i tokens y) (same_stop e) done
-computed (suc n) (node s room ∷ ps) i tokens o e = by_choice n (computed n) s room ps i tokens o (chosen s room tokens) refl e
-computed (suc n) (token (kind.Reserved w) ∷ ps) i (x ∷ tokens) o e = by_word n (computed n) w ps i x tokens o (is_word w x) refl e
+computed (suc n) (node s room ∷ ps) i tokens o e = by_choice n (computed n) s room ps i tokens o (chosen_production s room tokens) refl e
+computed (suc n) (token (kind.ReservedWord w) ∷ ps) i (x ∷ tokens) o e = by_word n (computed n) w ps i x tokens o (is_word w x) refl e
 computed (suc n) (token (kind.Symbol w) ∷ ps) i (x ∷ tokens) o e = by_sign n (computed n) w ps i x tokens o (is_sign w x) refl e
 computed (suc n) (name ∷ ps) i tokens o e = by_name n (computed n) ps i tokens o e
 computed (suc n) (number ∷ ps) i tokens o e = by_number n (computed n) ps i tokens o e

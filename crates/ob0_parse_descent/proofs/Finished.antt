@@ -2,13 +2,13 @@
 use Rattle.std.proofs.Common.{◌≡◌, ℕ, zero, suc, ◌+◌, ◌≤◌, true, false, Some, None, List, [], ◌∷◌, ◌++◌, length, refl, sym, ◌∙◌, ap, subst, arith, append_assoc, if◌then◌else◌}
 use Rattle.ob0_scan.specs.declared.lexeme.TokenKind.{TokenKind}
 use Rattle.ob0_scan.specs.declared.lexeme.TokenKind.TheVariants as kind
-use Rattle.ob0_scan.specs.declared.lexeme.Reserved.TheVariants as reserved
+use Rattle.ob0_scan.specs.declared.lexeme.ReservedWord.TheVariants as reserved
 use Rattle.ob0_scan.specs.declared.lexeme.Symbol.TheVariants as symbol
 use Rattle.ob0_tree.specs.declared.tree.Sign.TheVariants as signs
 use Rattle.ob0_tree.specs.Lexeme.{Terminal, Name, Number, Mark}
 use Rattle.ob0_tree.specs.Tree.{Item, arguments, further_argument, further_section, Sort, item, items, maybe, expression, statement, fields, section, Tree, none, one, end, more, compares, relates, sum, adds, product, multiplies, designator, integer, parenthesised, negation, field, index, empty, assigns, calls, branches, while_loop, repeat_loop, no_arguments, some_arguments, then_argument, runs, then_statement, elsif_branch, else_branch, listed, then_name, named_type, array_type, record_type, no_fields, some_fields, then_fields, no_formals, some_formals, value_section, variable_section, then_section, declares_constant, declares_constants, declares_type, declares_types, declares_variable, declares_variables, declares_procedure, declares, begins, has_body, is_module, spell, nesting}
-use Rattle.ob0_parse_descent.specs.Follow.{rank, item_rank, item_level, level, Stops, Starts}
-use Rattle.ob0_parse_descent.specs.Descent.{Part, token, name, number, node, parts, sign, is_next, is_expression_next, is_section_next, is_assigned, chosen, Stop, Descends, taken, made}
+use Rattle.ob0_parse_descent.specs.Follow.{rank, item_rank, item_level, level, EndsConstruct, NextHasRank}
+use Rattle.ob0_parse_descent.specs.Descent.{ProductionPart, token, name, number, node, parts, symbol_part, is_item_next, is_expression_next, is_section_next, is_assignment_next, chosen_production, Stop, Descends, taken, made}
 use Rattle.ob0_parse_descent.proofs.Unique.{starts_item, stops_less, stops_items, stops_maybe, stops_else, stops_branches, stops_closed, below, unsigned_term}
 use Rattle.ob0_parse_descent.proofs.Refusals.{no_end}
 use Rattle.ob0_parse_descent.proofs.Descent.{next_item, no_next}
@@ -22,56 +22,56 @@ use Rattle.ob0_parse_descent.proofs.DeclarationParts.{chosen_typed, section_next
 
 -- Holds if the descent reads the parts from these tokens and ends with this stop. The last token is
 -- right before index `e`.
-abbrev pub Finishes : ℕ → Stop → List Part → List (Terminal ℕ) → Type 0
+abbrev pub Finishes : ℕ → Stop → List ProductionPart → List (Terminal ℕ) → Type 0
 Finishes e o ps w = (i : ℕ) → i + length w ≡ e → Descends ps i w o
 
-tok : {e : ℕ} {o : Stop} {k : TokenKind} {ps : List Part} {z : List (Terminal ℕ)} → Finishes e o ps z → Finishes e o (token k ∷ ps) (Mark k ∷ z)
+tok : {e : ℕ} {o : Stop} {k : TokenKind} {ps : List ProductionPart} {z : List (Terminal ℕ)} → Finishes e o ps z → Finishes e o (token k ∷ ps) (Mark k ∷ z)
 tok r = λ i h. taken refl (r (i + 1) (omega (arith, h)))
 
-nam : {e : ℕ} {o : Stop} {n : ℕ} {ps : List Part} {z : List (Terminal ℕ)} → Finishes e o ps z → Finishes e o (name ∷ ps) (Name n ∷ z)
+nam : {e : ℕ} {o : Stop} {n : ℕ} {ps : List ProductionPart} {z : List (Terminal ℕ)} → Finishes e o ps z → Finishes e o (name ∷ ps) (Name n ∷ z)
 nam {n = n} r = λ i h. taken (n, refl) (r (i + 1) (omega (arith, h)))
 
-num : {e : ℕ} {o : Stop} {n : ℕ} {ps : List Part} {z : List (Terminal ℕ)} → Finishes e o ps z → Finishes e o (number ∷ ps) (Number n ∷ z)
+num : {e : ℕ} {o : Stop} {n : ℕ} {ps : List ProductionPart} {z : List (Terminal ℕ)} → Finishes e o ps z → Finishes e o (number ∷ ps) (Number n ∷ z)
 num {n = n} r = λ i h. taken (n, refl) (r (i + 1) (omega (arith, h)))
 
-prod : {e : ℕ} {o : Stop} {s : Sort} {room : ℕ} {ps qs : List Part} {w : List (Terminal ℕ)} → chosen s room w ≡ parts qs → Finishes e o (qs ++ ps) w → Finishes e o (node s room ∷ ps) w
+prod : {e : ℕ} {o : Stop} {s : Sort} {room : ℕ} {ps qs : List ProductionPart} {w : List (Terminal ℕ)} → chosen_production s room w ≡ parts qs → Finishes e o (qs ++ ps) w → Finishes e o (node s room ∷ ps) w
 prod {qs = qs} c r = λ i h. made qs c (r i h)
 
-listed_as : {e : ℕ} {o : Stop} {ps : List Part} {v w : List (Terminal ℕ)} → w ≡ v → Finishes e o ps v → Finishes e o ps w
+listed_as : {e : ℕ} {o : Stop} {ps : List ProductionPart} {v w : List (Terminal ℕ)} → w ≡ v → Finishes e o ps v → Finishes e o ps w
 listed_as {e = e} {o = o} {ps = ps} is r = subst (λ w. Finishes e o ps w) (sym is) r
 
-assoc : {e : ℕ} {o : Stop} {ps : List Part} (a b z : List (Terminal ℕ)) → Finishes e o ps (a ++ (b ++ z)) → Finishes e o ps ((a ++ b) ++ z)
+assoc : {e : ℕ} {o : Stop} {ps : List ProductionPart} (a b z : List (Terminal ℕ)) → Finishes e o ps (a ++ (b ++ z)) → Finishes e o ps ((a ++ b) ++ z)
 assoc a b z r = listed_as (append_assoc a b z) r
 
-some : (i : Item) (room : ℕ) (w : List (Terminal ℕ)) → Starts (item_rank i) w → chosen (maybe i) room w ≡ parts (node (item i) room ∷ [])
+some : (i : Item) (room : ℕ) (w : List (Terminal ℕ)) → NextHasRank (item_rank i) w → chosen_production (maybe i) room w ≡ parts (node (item i) room ∷ [])
 some i room w s = ap (λ b. if b then parts (node (item i) room ∷ []) else parts []) (next_item i w s)
 
-further : (i : Item) (room : ℕ) (w : List (Terminal ℕ)) → Starts (item_rank i) w → chosen (items i) room w ≡ parts (node (item i) room ∷ node (items i) room ∷ [])
+further : (i : Item) (room : ℕ) (w : List (Terminal ℕ)) → NextHasRank (item_rank i) w → chosen_production (items i) room w ≡ parts (node (item i) room ∷ node (items i) room ∷ [])
 further i room w s = ap (λ b. if b then parts (node (item i) room ∷ node (items i) room ∷ []) else parts []) (next_item i w s)
 
-left_out : (i : Item) (w : List (Terminal ℕ)) → Stops (item_rank i) w → is_next i w ≡ false
+left_out : (i : Item) (w : List (Terminal ℕ)) → EndsConstruct (item_rank i) w → is_item_next i w ≡ false
 left_out i w s = no_next i w (λ p. no_end (item_rank i) w p s) _ refl
 
-no_statement : (room : ℕ) (z : List (Terminal ℕ)) → Stops 8 z → chosen statement room z ≡ parts []
+no_statement : (room : ℕ) (z : List (Terminal ℕ)) → EndsConstruct 8 z → chosen_production statement room z ≡ parts []
 no_statement room [] s = refl
 no_statement room (x ∷ z) s = chosen_empty room x z (λ e. omega (arith, e, s)) (λ e. let r : rank x ≡ 8 = ap rank e in omega (arith, r, s)) (λ e. let r : rank x ≡ 8 = ap rank e in omega (arith, r, s)) (λ e. let r : rank x ≡ 8 = ap rank e in omega (arith, r, s))
 
-no_field : (room : ℕ) (z : List (Terminal ℕ)) → Stops 7 z → chosen fields room z ≡ parts []
+no_field : (room : ℕ) (z : List (Terminal ℕ)) → EndsConstruct 7 z → chosen_production fields room z ≡ parts []
 no_field room [] s = refl
 no_field room (x ∷ z) s = chosen_no_fields room x z (λ e. omega (arith, e, s))
 
-call_next : (a : Tree ℕ (maybe arguments)) (z : List (Terminal ℕ)) → Stops 8 z → is_assigned (spell a ++ z) ≡ false
+call_next : (a : Tree ℕ (maybe arguments)) (z : List (Terminal ℕ)) → EndsConstruct 8 z → is_assignment_next (spell a ++ z) ≡ false
 call_next none [] s = refl
 call_next none (x ∷ z) s = unassigned x z (λ e. let r : rank x ≡ 8 = ap rank e in omega (arith, r, s)) (λ p. omega (arith, p, s))
 call_next (one no_arguments) z s = refl
 call_next (one (some_arguments e es)) z s = refl
 
-pub finishes : {e : ℕ} {o : Stop} {s : Sort} (t : Tree ℕ s) (room : ℕ) (ps : List Part) (z : List (Terminal ℕ)) → nesting t ≤ room → Stops (level s) z → Finishes e o ps z → Finishes e o (node s room ∷ ps) (spell t ++ z)
+pub finishes : {e : ℕ} {o : Stop} {s : Sort} (t : Tree ℕ s) (room : ℕ) (ps : List ProductionPart) (z : List (Terminal ℕ)) → nesting t ≤ room → EndsConstruct (level s) z → Finishes e o ps z → Finishes e o (node s room ∷ ps) (spell t ++ z)
 finishes (none {i = i}) room ps z n s r = prod {qs = []} (ap (λ b. if b then parts (node (item i) room ∷ []) else parts []) (left_out i z s)) r
 finishes (one {i = i} t) room ps z n s r = prod (some i room _ (starts_item t z)) (finishes t room ps z n (stops_less z (item_level i) (item_rank i) (omega (arith, below i)) s) r)
 finishes (end {i = i}) room ps z n s r = prod {qs = []} (ap (λ b. if b then parts (node (item i) room ∷ node (items i) room ∷ []) else parts []) (left_out i z s)) r
 finishes (more {i = i} t ts) room ps z n s r =
-    prod (further i room _ (subst (λ w. Starts (item_rank i) w) (sym (append_assoc (spell t) (spell ts) z)) (starts_item t (spell ts ++ z))))
+    prod (further i room _ (subst (λ w. NextHasRank (item_rank i) w) (sym (append_assoc (spell t) (spell ts) z)) (starts_item t (spell ts ++ z))))
     (assoc (spell t) (spell ts) z (finishes t room _ _ (omega arith) (stops_items ts z (item_level i) (below i) s) (finishes ts room ps z (omega arith) s r)))
 finishes (compares a c) room ps z n s r = prod refl (assoc (spell a) (spell c) z (finishes a room _ _ (omega arith) (stops_maybe c z 3 (omega arith) s) (finishes c room ps z (omega arith) s r)))
 finishes (relates o a) room ps z n s r = prod refl (tok (finishes a room ps z n s r))
@@ -95,7 +95,7 @@ finishes (index t) zero ps z n s r = absurd (omega arith)
 finishes (index t) (suc inner) ps z n s r = prod refl (tok (assoc (spell t) _ z (finishes t inner _ _ (omega arith) (omega arith) (tok r))))
 finishes empty room ps z n s r = prod {qs = []} (no_statement room z s) r
 finishes (assigns x ss v) room ps z n s r =
-    prod (chosen_named room {n = x} {w = (spell ss ++ (Mark (kind.Symbol symbol.Becomes) ∷ spell v)) ++ z} true refl (ap is_assigned (append_assoc (spell ss) (Mark (kind.Symbol symbol.Becomes) ∷ spell v) z) ∙ assigned_next ss _ (spell v ++ z) refl))
+    prod (chosen_named room {n = x} {w = (spell ss ++ (Mark (kind.Symbol symbol.Becomes) ∷ spell v)) ++ z} true refl (ap is_assignment_next (append_assoc (spell ss) (Mark (kind.Symbol symbol.Becomes) ∷ spell v) z) ∙ assigned_next ss _ (spell v ++ z) refl))
     (nam (assoc (spell ss) _ z (finishes ss room _ _ (omega arith) (omega arith) (tok (finishes v room ps z (omega arith) (stops_less z 4 8 (omega arith) s) r)))))
 finishes (calls x a) room ps z n s r = prod (chosen_named room {n = x} {w = spell a ++ z} false refl (call_next a z s)) (nam (finishes a room ps z n (stops_less z 6 8 (omega arith) s) r))
 finishes (branches c t es l) zero ps z n s r = absurd (omega arith)
@@ -107,7 +107,7 @@ finishes (repeat_loop t c) zero ps z n s r = absurd (omega arith)
 finishes (repeat_loop t c) (suc inner) ps z n s r = prod refl (tok (assoc (spell t) _ z (finishes t inner _ _ (omega arith) (omega arith) (tok (finishes c inner ps z (omega arith) (stops_less z 4 8 (omega arith) s) r)))))
 finishes no_arguments room ps z n s r = prod refl (tok (tok r))
 finishes (some_arguments e es) room ps z n s r =
-    prod (ap (λ b. if b then parts (sign symbol.LeftParen ∷ node expression room ∷ node (items further_argument) room ∷ sign symbol.RightParen ∷ []) else parts (sign symbol.LeftParen ∷ sign symbol.RightParen ∷ [])) (ap is_expression_next (append_assoc (spell e) _ z) ∙ tree_next e _))
+    prod (ap (λ b. if b then parts (symbol_part symbol.LeftParen ∷ node expression room ∷ node (items further_argument) room ∷ symbol_part symbol.RightParen ∷ []) else parts (symbol_part symbol.LeftParen ∷ symbol_part symbol.RightParen ∷ [])) (ap is_expression_next (append_assoc (spell e) _ z) ∙ tree_next e _))
     (tok (assoc (spell e) _ z (finishes e room _ _ (omega arith) (stops_closed es (kind.Symbol symbol.RightParen) z 4 (omega arith) (omega arith)) (assoc (spell es) _ z (finishes es room _ _ (omega arith) (omega arith) (tok r))))))
 finishes (then_argument e) room ps z n s r = prod refl (tok (finishes e room ps z n s r))
 finishes (runs a c) room ps z n s r = prod refl (assoc (spell a) (spell c) z (finishes a room _ _ (omega arith) (stops_items c z 8 (omega arith) s) (finishes c room ps z (omega arith) s r)))
@@ -121,14 +121,14 @@ finishes (array_type c t) zero ps z n s r = absurd (omega arith)
 finishes (array_type c t) (suc inner) ps z n s r = prod refl (tok (assoc (spell c) _ z (finishes c inner _ _ (omega arith) (omega arith) (tok (finishes t inner ps z (omega arith) s r)))))
 finishes (record_type f fs) zero ps z n s r = absurd (omega arith)
 finishes (record_type f fs) (suc inner) ps z n s r =
-    prod refl (tok (assoc (spell f) _ z (finishes f inner _ _ (omega arith) (stops_closed fs (kind.Reserved reserved.End) z 7 (omega arith) (omega arith)) (assoc (spell fs) _ z (finishes fs inner _ _ (omega arith) (omega arith) (tok r))))))
+    prod refl (tok (assoc (spell f) _ z (finishes f inner _ _ (omega arith) (stops_closed fs (kind.ReservedWord reserved.End) z 7 (omega arith) (omega arith)) (assoc (spell fs) _ z (finishes fs inner _ _ (omega arith) (omega arith) (tok r))))))
 finishes no_fields room ps z n s r = prod {qs = []} (no_field room z s) r
 finishes (some_fields ns t) room ps z n s r =
     prod (chosen_fields room ns _ (append_assoc (spell ns) _ z)) (assoc (spell ns) _ z (finishes ns 0 _ _ (unnested ns) (omega arith) (tok (finishes t room ps z n (stops_less z 0 7 (omega arith) s) r))))
 finishes (then_fields f) room ps z n s r = prod refl (tok (finishes f room ps z n s r))
 finishes no_formals room ps z n s r = prod refl (tok (tok r))
 finishes (some_formals f fs) room ps z n s r =
-    prod (ap (λ b. if b then parts (sign symbol.LeftParen ∷ node section room ∷ node (items further_section) room ∷ sign symbol.RightParen ∷ []) else parts (sign symbol.LeftParen ∷ sign symbol.RightParen ∷ [])) (ap is_section_next (append_assoc (spell f) _ z) ∙ section_next f _))
+    prod (ap (λ b. if b then parts (symbol_part symbol.LeftParen ∷ node section room ∷ node (items further_section) room ∷ symbol_part symbol.RightParen ∷ []) else parts (symbol_part symbol.LeftParen ∷ symbol_part symbol.RightParen ∷ [])) (ap is_section_next (append_assoc (spell f) _ z) ∙ section_next f _))
     (tok (assoc (spell f) _ z (finishes f room _ _ (omega arith) (stops_closed fs (kind.Symbol symbol.RightParen) z 0 (omega arith) (omega arith)) (assoc (spell fs) _ z (finishes fs room _ _ (omega arith) (omega arith) (tok r))))))
 finishes (value_section ns t) room ps z n s r =
     prod (chosen_typed room ns _ (append_assoc (spell ns) _ z)) (assoc (spell ns) _ z (finishes ns 0 _ _ (unnested ns) (omega arith) (tok (finishes t room ps z n s r))))

@@ -4,8 +4,8 @@ use Rattle.ob0_scan.specs.declared.lexeme.Token.{Token}
 use Rattle.ob0_tree.specs.Lexeme.{Terminal}
 use Rattle.ob0_tree.specs.Tree.{Item, item, items, Tree, end, more, spell, nesting}
 use Rattle.ob0_tree.specs.View.{items_of}
-use Rattle.ob0_parse_descent.specs.Follow.{item_rank, item_level, Stops, Starts}
-use Rattle.ob0_parse_descent.specs.Reading.{rest, Part, node, Begins, SameHead, ReadAs, Taken, FailsToRead, ItemFails}
+use Rattle.ob0_parse_descent.specs.Follow.{item_rank, item_level, EndsConstruct, NextHasRank}
+use Rattle.ob0_parse_descent.specs.Reading.{rest, ProductionPart, node, BeginsWithParts, SameHead, ReadAs, IsReadTree, FailsToRead, ItemFails}
 use Rattle.ob0_parse_descent.proofs.Descent.{as_is, both, by, read_more, read_end}
 use Rattle.ob0_parse_descent.specs.declared.refusal.ParseRefusal.{ParseRefusal}
 use Rattle.ob0_parse_descent.proofs.Unique.{not_here, starts_item, stops_items, below}
@@ -26,7 +26,7 @@ pub record Ahead {i : Item} (whole front : Tree ℕ (items i)) (z w : List (Term
 pub record Taking {i : Item} (t : Tree ℕ (items i)) (room : ℕ) (ts : List Token) (at next : ℕ) : Type 0 where
   pub spelled : rest ts at ≡ spell t ++ rest ts next
   pub shallow : nesting t ≤ room
-  pub only : (u : Tree ℕ (items i)) (z w : List (Terminal ℕ)) → SameHead (rest ts next) w → Stops (item_rank i) z → spell u ++ z ≡ spell t ++ w → Ahead u t z w
+  pub only : (u : Tree ℕ (items i)) (z w : List (Terminal ℕ)) → SameHead (rest ts next) w → EndsConstruct (item_rank i) z → spell u ++ z ≡ spell t ++ w → Ahead u t z w
   pub reads : ReadAs (node (items i) room ∷ []) (node (items i) room ∷ []) ts at next
   pub within : next ≤ length ts
   pub forward : at ≤ next
@@ -50,14 +50,14 @@ appended_snoc f (y ∷ xs) x us = ap (more (f y)) (appended_snoc f xs x us)
 
 -- If a tree of items continues with the item x, it begins with the items so far and x.
 ahead_more : {A : Type 0} {i : Item} (f : A → Tree ℕ (item i)) (xs : List A) (x : A) (u others : Tree ℕ (items i)) (z w : List (Terminal ℕ))
-    → ((v : Tree ℕ (item i)) (y : List (Terminal ℕ)) → Stops (item_level i) y → spell v ++ y ≡ spell (f x) ++ w → (v ≡ f x) × (y ≡ w))
-    → Stops (item_rank i) z → u ≡ appended (items_of f xs) others → spell others ++ z ≡ spell (f x) ++ w → Ahead u (items_of f (xs ++ (x ∷ []))) z w
+    → ((v : Tree ℕ (item i)) (y : List (Terminal ℕ)) → EndsConstruct (item_level i) y → spell v ++ y ≡ spell (f x) ++ w → (v ≡ f x) × (y ≡ w))
+    → EndsConstruct (item_rank i) z → u ≡ appended (items_of f xs) others → spell others ++ z ≡ spell (f x) ++ w → Ahead u (items_of f (xs ++ (x ∷ []))) z w
 ahead_more f xs x u end z w only p is e = absurd (not_here (f x) z w p e)
 ahead_more {i = i} f xs x u (more v vs) z w only p is e =
     let alike = only v (spell vs ++ z) (stops_items vs z (item_level i) (below i) p) (sym (append_assoc (spell v) (spell vs) z) ∙ e) in
     record { others = vs; is = is ∙ (ap (λ a. appended (items_of f xs) (more a vs)) alike.0 ∙ appended_snoc f xs x vs); spelled = alike.1 }
 
-pub taking_more : {A : Type 0} {i : Item} (f : A → Tree ℕ (item i)) (xs : List A) (x : A) (room : ℕ) (ts : List Token) (at m n : ℕ) → Taking (items_of f xs) room ts at m → Taken (f x) room ts m n → Taking (items_of f (xs ++ (x ∷ []))) room ts at n
+pub taking_more : {A : Type 0} {i : Item} (f : A → Tree ℕ (item i)) (xs : List A) (x : A) (room : ℕ) (ts : List Token) (at m n : ℕ) → Taking (items_of f xs) room ts at m → IsReadTree (f x) room ts m n → Taking (items_of f (xs ++ (x ∷ []))) room ts at n
 taking_more {i = i} f xs x room ts at m n p q = record {
   spelled = p.spelled ∙ (ap (λ z. spell (items_of f xs) ++ z) q.spelled ∙ (sym (append_assoc (spell (items_of f xs)) (spell (f x)) (rest ts n)) ∙ ap (λ z. z ++ rest ts n) (sym (spell_snoc f xs x))));
   shallow = nesting_snoc f xs x room p.shallow q.shallow;
@@ -66,7 +66,7 @@ taking_more {i = i} f xs x room ts at m n p q = record {
       let head : SameHead (rest ts m) (spell (f x) ++ w) = subst (λ y. SameHead y (spell (f x) ++ w)) (sym q.spelled) (head_following (spell (f x)) (rest ts n) w h) in
       let ahead = p.only u z (spell (f x) ++ w) head s e' in
       ahead_more f xs x u ahead.others z w (λ v y t d. q.only v y w h t d) s ahead.is ahead.spelled;
-  reads = by p.reads (by (read_more (subst (λ y. Starts (item_rank i) y) (sym q.spelled) (starts_item (f x) (rest ts n)))) (both q.reads as_is));
+  reads = by p.reads (by (read_more (subst (λ y. NextHasRank (item_rank i) y) (sym q.spelled) (starts_item (f x) (rest ts n)))) (both q.reads as_is));
   within = q.within;
   forward = omega (arith, p.forward, q.forward);
 }
@@ -76,13 +76,13 @@ unfolding appended
 appended_end end = refl
 appended_end (more t ts) = ap (more t) (appended_end ts)
 
-ahead_done : {i : Item} (u t others : Tree ℕ (items i)) (z w : List (Terminal ℕ)) → ¬ Starts (item_rank i) w → u ≡ appended t others → spell others ++ z ≡ w → (u ≡ t) × (z ≡ w)
+ahead_done : {i : Item} (u t others : Tree ℕ (items i)) (z w : List (Terminal ℕ)) → ¬ NextHasRank (item_rank i) w → u ≡ appended t others → spell others ++ z ≡ w → (u ≡ t) × (z ≡ w)
 ahead_done u t end z w absent is e = (is ∙ appended_end t, e)
 ahead_done {i = i} u t (more v vs) z w absent is e =
-    absurd (absent (subst (λ y. Starts (item_rank i) y) (sym (append_assoc (spell v) (spell vs) z) ∙ e) (starts_item v (spell vs ++ z))))
+    absurd (absent (subst (λ y. NextHasRank (item_rank i) y) (sym (append_assoc (spell v) (spell vs) z) ∙ e) (starts_item v (spell vs ++ z))))
 
 -- If no further item comes, the items read so far are the whole tree of items.
-pub taking_done : {i : Item} {room : ℕ} {ts : List Token} {at next : ℕ} (t : Tree ℕ (items i)) → Taking t room ts at next → ¬ Starts (item_rank i) (rest ts next) → Taken t room ts at next
+pub taking_done : {i : Item} {room : ℕ} {ts : List Token} {at next : ℕ} (t : Tree ℕ (items i)) → Taking t room ts at next → ¬ NextHasRank (item_rank i) (rest ts next) → IsReadTree t room ts at next
 taking_done {i = i} {ts = ts} {next = next} t p absent = record {
   spelled = p.spelled;
   shallow = p.shallow;
@@ -99,13 +99,13 @@ unfolding appended
 inner end v vs room n = omega arith
 inner (more t ts) v vs room n = inner ts v vs room (omega arith)
 
-next_item : {i : Item} (room : ℕ) (ts others : Tree ℕ (items i)) (u : Tree ℕ (items i)) (z w : List (Terminal ℕ)) → Starts (item_rank i) w → Stops (item_rank i) z → nesting u ≤ room → u ≡ appended ts others → spell others ++ z ≡ w → Begins (node (item i) room ∷ []) w
-next_item {i = i} room ts end u z w h s n is e = absurd (no_end (item_rank i) w h (subst (λ y. Stops (item_rank i) y) e s))
+next_item : {i : Item} (room : ℕ) (ts others : Tree ℕ (items i)) (u : Tree ℕ (items i)) (z w : List (Terminal ℕ)) → NextHasRank (item_rank i) w → EndsConstruct (item_rank i) z → nesting u ≤ room → u ≡ appended ts others → spell others ++ z ≡ w → BeginsWithParts (node (item i) room ∷ []) w
+next_item {i = i} room ts end u z w h s n is e = absurd (no_end (item_rank i) w h (subst (λ y. EndsConstruct (item_rank i) y) e s))
 next_item {i = i} room ts (more v vs) u z w h s n is e =
     (v, spell vs ++ z, sym e ∙ append_assoc (spell v) (spell vs) z, inner ts v vs room (subst (λ a. nesting a ≤ room) is n), stops_items vs z (item_level i) (below i) s, tt)
 
 -- If the next item is refused, the whole list of items is refused.
-pub taking_fails : {ps : List Part} {i : Item} {room : ℕ} {ts : List Token} {at next : ℕ} {e : ParseRefusal} (t : Tree ℕ (items i)) → Taking t room ts at next → ItemFails i room ts next e → FailsToRead (node (items i) room ∷ ps) ts at e
+pub taking_fails : {ps : List ProductionPart} {i : Item} {room : ℕ} {ts : List Token} {at next : ℕ} {e : ParseRefusal} (t : Tree ℕ (items i)) → Taking t room ts at next → ItemFails i room ts next e → FailsToRead (node (items i) room ∷ ps) ts at e
 taking_fails {ps = ps} {i = i} {room = room} {ts = ts} {at = at} {next = next} t p q = fails_by (λ o r more. p.reads.on o (ps ++ more) ((read_more q.is_here).on o (ps ++ more) (r (node (items i) room ∷ (ps ++ more))))) (λ after r. record {
   passed = spell t ++ r.passed;
   fault = r.fault;

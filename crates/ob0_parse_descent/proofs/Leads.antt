@@ -2,7 +2,7 @@
 use Rattle.std.proofs.Common.{◌≡◌, ℕ, ◌+◌, ◌≤◌, ◌<◌, ◌++◌, ◌==◌, Option, Some, None, option_map, List, [], ◌∷◌, length, refl, sym, ◌∙◌, ap, subst, arith, if◌then◌else◌}
 use Rattle.ob0_scan.specs.declared.lexeme.TokenKind.{TokenKind}
 use Rattle.ob0_scan.specs.declared.lexeme.TokenKind.TheVariants as kind
-use Rattle.ob0_scan.specs.declared.lexeme.Reserved.TheVariants as reserved
+use Rattle.ob0_scan.specs.declared.lexeme.ReservedWord.TheVariants as reserved
 use Rattle.ob0_scan.specs.declared.lexeme.Symbol.TheVariants as symbol
 use Rattle.ob0_scan.specs.declared.lexeme.Token.{Token}
 use Rattle.ob0_tree.specs.Lexeme.{Terminal, Name, Number, Mark, EndOfText}
@@ -10,10 +10,10 @@ use Rattle.ob0_parse_descent.specs.declared.refusal.Expected.{Expected}
 use Rattle.ob0_parse_descent.specs.declared.refusal.ParseRefusal.{ParseRefusal}
 use Rattle.ob0_parse_descent.specs.declared.refusal.ParseRefusal.TheVariants.{Syntax}
 use Rattle.ob0_tree.specs.Tree.{Sort, Tree, spell}
-use Rattle.ob0_parse_descent.specs.Follow.{rank, kind_rank, level, Starts, Stops}
+use Rattle.ob0_parse_descent.specs.Follow.{rank, kind_rank, level, NextHasRank, EndsConstruct}
 use Rattle.ob0_parse_descent.proofs.Unique.{same}
-use Rattle.ob0_parse_descent.specs.Reading.{rest, Part, token, name, Begins, StopsIn, FailsToRead, Other, NoName}
-use Rattle.ob0_parse_descent.specs.Descent.{IsPart, expected_part, expected_token, Expects, Descends, other}
+use Rattle.ob0_parse_descent.specs.Reading.{rest, ProductionPart, token, name, BeginsWithParts, DescentStopsWith, FailsToRead, Other, NoName}
+use Rattle.ob0_parse_descent.specs.Descent.{MatchesPart, expected_part, expected_token, Expects, Descends, other}
 use Rattle.ob0_parse_descent.specs.declared.refusal.Expected.TheVariants as expected
 use Rattle.ob0_parse_descent.proofs.Refusals.{at_once, fails_by, in_name, in_token}
 
@@ -23,38 +23,38 @@ leader r =
     if r == 5 then Some (kind.Symbol symbol.Comma) else
     if r == 6 then Some (kind.Symbol symbol.LeftParen) else
     if r == 9 then Some (kind.Symbol symbol.Semicolon) else
-    if r == 10 then Some (kind.Reserved reserved.Elsif) else
-    if r == 11 then Some (kind.Reserved reserved.Else) else
-    if r == 12 then Some (kind.Reserved reserved.Const) else
-    if r == 13 then Some (kind.Reserved reserved.Type) else
-    if r == 14 then Some (kind.Reserved reserved.Var) else
-    if r == 15 then Some (kind.Reserved reserved.Procedure) else
-    if r == 16 then Some (kind.Reserved reserved.Begin) else None
+    if r == 10 then Some (kind.ReservedWord reserved.Elsif) else
+    if r == 11 then Some (kind.ReservedWord reserved.Else) else
+    if r == 12 then Some (kind.ReservedWord reserved.Const) else
+    if r == 13 then Some (kind.ReservedWord reserved.Type) else
+    if r == 14 then Some (kind.ReservedWord reserved.Var) else
+    if r == 15 then Some (kind.ReservedWord reserved.Procedure) else
+    if r == 16 then Some (kind.ReservedWord reserved.Begin) else None
 
 leads : (k j : TokenKind) → leader (kind_rank k) ≡ Some j → k ≡ j
 leads kind.Identifier j e = cc
 leads (kind.Integer _) j e = cc
-leads (kind.Reserved reserved.Module) j e = cc
-leads (kind.Reserved reserved.Begin) j e = cc
-leads (kind.Reserved reserved.End) j e = cc
-leads (kind.Reserved reserved.Const) j e = cc
-leads (kind.Reserved reserved.Type) j e = cc
-leads (kind.Reserved reserved.Var) j e = cc
-leads (kind.Reserved reserved.Procedure) j e = cc
-leads (kind.Reserved reserved.If) j e = cc
-leads (kind.Reserved reserved.Then) j e = cc
-leads (kind.Reserved reserved.Elsif) j e = cc
-leads (kind.Reserved reserved.Else) j e = cc
-leads (kind.Reserved reserved.While) j e = cc
-leads (kind.Reserved reserved.Do) j e = cc
-leads (kind.Reserved reserved.Array) j e = cc
-leads (kind.Reserved reserved.Of) j e = cc
-leads (kind.Reserved reserved.Record) j e = cc
-leads (kind.Reserved reserved.Div) j e = cc
-leads (kind.Reserved reserved.Mod) j e = cc
-leads (kind.Reserved reserved.Or) j e = cc
-leads (kind.Reserved reserved.Repeat) j e = cc
-leads (kind.Reserved reserved.Until) j e = cc
+leads (kind.ReservedWord reserved.Module) j e = cc
+leads (kind.ReservedWord reserved.Begin) j e = cc
+leads (kind.ReservedWord reserved.End) j e = cc
+leads (kind.ReservedWord reserved.Const) j e = cc
+leads (kind.ReservedWord reserved.Type) j e = cc
+leads (kind.ReservedWord reserved.Var) j e = cc
+leads (kind.ReservedWord reserved.Procedure) j e = cc
+leads (kind.ReservedWord reserved.If) j e = cc
+leads (kind.ReservedWord reserved.Then) j e = cc
+leads (kind.ReservedWord reserved.Elsif) j e = cc
+leads (kind.ReservedWord reserved.Else) j e = cc
+leads (kind.ReservedWord reserved.While) j e = cc
+leads (kind.ReservedWord reserved.Do) j e = cc
+leads (kind.ReservedWord reserved.Array) j e = cc
+leads (kind.ReservedWord reserved.Of) j e = cc
+leads (kind.ReservedWord reserved.Record) j e = cc
+leads (kind.ReservedWord reserved.Div) j e = cc
+leads (kind.ReservedWord reserved.Mod) j e = cc
+leads (kind.ReservedWord reserved.Or) j e = cc
+leads (kind.ReservedWord reserved.Repeat) j e = cc
+leads (kind.ReservedWord reserved.Until) j e = cc
 leads (kind.Symbol symbol.And) j e = cc
 leads (kind.Symbol symbol.Times) j e = cc
 leads (kind.Symbol symbol.Plus) j e = cc
@@ -83,21 +83,21 @@ led (Mark k) j e = ap Mark (leads k j e)
 led EndOfText j e = cc
 
 -- If the only token with an item's rank isn't here, no such item begins here.
-pub no_item : {k : TokenKind} {ts : List Token} {at : ℕ} (r : ℕ) → leader r ≡ Some k → Other (Mark k) ts at → ¬ Starts r (rest ts at)
+pub no_item : {k : TokenKind} {ts : List Token} {at : ℕ} (r : ℕ) → leader r ≡ Some k → Other (Mark k) ts at → ¬ NextHasRank r (rest ts at)
 no_item {k = k} {ts = ts} {at = at} r is o s =
-    let t : rank o.fault ≡ r = subst (λ y. Starts r y) o.here s in
+    let t : rank o.fault ≡ r = subst (λ y. NextHasRank r y) o.here s in
     o.differs (led o.fault k (ap leader t ∙ is))
 
-pub no_named_item : {ts : List Token} {at : ℕ} → NoName ts at → ¬ Starts 7 (rest ts at)
-no_named_item {ts = ts} {at = at} o s = o.ranked (subst (λ y. Starts 7 y) o.here s)
+pub no_named_item : {ts : List Token} {at : ℕ} → NoName ts at → ¬ NextHasRank 7 (rest ts at)
+no_named_item {ts = ts} {at = at} o s = o.ranked (subst (λ y. NextHasRank 7 y) o.here s)
 
 -- If parts can't begin with the next token, and the descent over them stops there, they are refused
 -- at that token.
-pub fails_here : {ps : List Part} {ts : List Token} {at : ℕ} {e : Expected} (x : Terminal ℕ) → at ≤ length ts → rest ts at ≡ x ∷ rest ts (at + 1) → StopsIn ps ts at (Expects at e) → ((u : List (Terminal ℕ)) → Begins ps (x ∷ u) → ⊥) → FailsToRead ps ts at (Syntax at e)
+pub fails_here : {ps : List ProductionPart} {ts : List Token} {at : ℕ} {e : Expected} (x : Terminal ℕ) → at ≤ length ts → rest ts at ≡ x ∷ rest ts (at + 1) → DescentStopsWith ps ts at (Expects at e) → ((u : List (Terminal ℕ)) → BeginsWithParts ps (x ∷ u) → ⊥) → FailsToRead ps ts at (Syntax at e)
 fails_here x l here reads never = record { why = (l, at_once here never); reads = reads }
 
 -- If the next token isn't this part, the descent stops there and expects the part.
-pub stops_here : {p : Part} {x : Terminal ℕ} {e : Expected} (ts : List Token) (at : ℕ) → rest ts at ≡ x ∷ rest ts (at + 1) → ¬ IsPart p x → expected_part p ≡ Some e → StopsIn (p ∷ []) ts at (Expects at e)
+pub stops_here : {p : ProductionPart} {x : Terminal ℕ} {e : Expected} (ts : List Token) (at : ℕ) → rest ts at ≡ x ∷ rest ts (at + 1) → ¬ MatchesPart p x → expected_part p ≡ Some e → DescentStopsWith (p ∷ []) ts at (Expects at e)
 stops_here {p = p} {e = e} ts at here differs is more = subst (λ w. Descends (p ∷ more) at w (Expects at e)) (sym here) (other differs is)
 
 pub fails_token : {k : TokenKind} {ts : List Token} {at : ℕ} {x : Expected} → expected_token k ≡ Some x → Other (Mark k) ts at → FailsToRead (token k ∷ []) ts at (Syntax at x)
@@ -113,14 +113,14 @@ inside : {a b : ParseRefusal} → Some a ≡ Some b → a ≡ b
 inside q = cc
 
 -- If a token is missing, all parts that begin with that token are refused.
-pub fails_in_token : {k : TokenKind} {ps : List Part} {ts : List Token} {at : ℕ} {e : ParseRefusal} → Other (Mark k) ts at × (Some e ≡ option_map (Syntax at) (expected_token k)) → FailsToRead (token k ∷ ps) ts at e
+pub fails_in_token : {k : TokenKind} {ps : List ProductionPart} {ts : List Token} {at : ℕ} {e : ParseRefusal} → Other (Mark k) ts at × (Some e ≡ option_map (Syntax at) (expected_token k)) → FailsToRead (token k ∷ ps) ts at e
 fails_in_token {k = k} {ps = ps} {ts = ts} {at = at} {e = e} q = go (expected_token k) refl q.1
   where
     go : (x : Option Expected) → expected_token k ≡ x → Some e ≡ option_map (Syntax at) x → FailsToRead (token k ∷ ps) ts at e
     go None is same = absurd (some_none same)
     go (Some x) is same = subst (λ e. FailsToRead (token k ∷ ps) ts at e) (sym (inside same)) (fails_by (λ o r more. r (ps ++ more)) (λ after r. in_token r) (fails_token is q.0))
 
-pub fails_in_name : {ps : List Part} {ts : List Token} {at : ℕ} {e : ParseRefusal} → NoName ts at × (e ≡ Syntax at expected.Identifier) → FailsToRead (name ∷ ps) ts at e
+pub fails_in_name : {ps : List ProductionPart} {ts : List Token} {at : ℕ} {e : ParseRefusal} → NoName ts at × (e ≡ Syntax at expected.Identifier) → FailsToRead (name ∷ ps) ts at e
 fails_in_name {ps = ps} {ts = ts} {at = at} q = subst (λ e. FailsToRead (name ∷ ps) ts at e) (sym q.1) (fails_by (λ o r more. r (ps ++ more)) (λ after r. in_name r) (fails_name q.0))
 
 positive : (x : Terminal ℕ) → 0 < rank x
@@ -129,27 +129,27 @@ positive (Number n) = omega arith
 positive EndOfText = omega arith
 positive (Mark kind.Identifier) = omega arith
 positive (Mark (kind.Integer _)) = omega arith
-positive (Mark (kind.Reserved reserved.Module)) = omega arith
-positive (Mark (kind.Reserved reserved.Begin)) = omega arith
-positive (Mark (kind.Reserved reserved.End)) = omega arith
-positive (Mark (kind.Reserved reserved.Const)) = omega arith
-positive (Mark (kind.Reserved reserved.Type)) = omega arith
-positive (Mark (kind.Reserved reserved.Var)) = omega arith
-positive (Mark (kind.Reserved reserved.Procedure)) = omega arith
-positive (Mark (kind.Reserved reserved.If)) = omega arith
-positive (Mark (kind.Reserved reserved.Then)) = omega arith
-positive (Mark (kind.Reserved reserved.Elsif)) = omega arith
-positive (Mark (kind.Reserved reserved.Else)) = omega arith
-positive (Mark (kind.Reserved reserved.While)) = omega arith
-positive (Mark (kind.Reserved reserved.Do)) = omega arith
-positive (Mark (kind.Reserved reserved.Array)) = omega arith
-positive (Mark (kind.Reserved reserved.Of)) = omega arith
-positive (Mark (kind.Reserved reserved.Record)) = omega arith
-positive (Mark (kind.Reserved reserved.Div)) = omega arith
-positive (Mark (kind.Reserved reserved.Mod)) = omega arith
-positive (Mark (kind.Reserved reserved.Or)) = omega arith
-positive (Mark (kind.Reserved reserved.Repeat)) = omega arith
-positive (Mark (kind.Reserved reserved.Until)) = omega arith
+positive (Mark (kind.ReservedWord reserved.Module)) = omega arith
+positive (Mark (kind.ReservedWord reserved.Begin)) = omega arith
+positive (Mark (kind.ReservedWord reserved.End)) = omega arith
+positive (Mark (kind.ReservedWord reserved.Const)) = omega arith
+positive (Mark (kind.ReservedWord reserved.Type)) = omega arith
+positive (Mark (kind.ReservedWord reserved.Var)) = omega arith
+positive (Mark (kind.ReservedWord reserved.Procedure)) = omega arith
+positive (Mark (kind.ReservedWord reserved.If)) = omega arith
+positive (Mark (kind.ReservedWord reserved.Then)) = omega arith
+positive (Mark (kind.ReservedWord reserved.Elsif)) = omega arith
+positive (Mark (kind.ReservedWord reserved.Else)) = omega arith
+positive (Mark (kind.ReservedWord reserved.While)) = omega arith
+positive (Mark (kind.ReservedWord reserved.Do)) = omega arith
+positive (Mark (kind.ReservedWord reserved.Array)) = omega arith
+positive (Mark (kind.ReservedWord reserved.Of)) = omega arith
+positive (Mark (kind.ReservedWord reserved.Record)) = omega arith
+positive (Mark (kind.ReservedWord reserved.Div)) = omega arith
+positive (Mark (kind.ReservedWord reserved.Mod)) = omega arith
+positive (Mark (kind.ReservedWord reserved.Or)) = omega arith
+positive (Mark (kind.ReservedWord reserved.Repeat)) = omega arith
+positive (Mark (kind.ReservedWord reserved.Until)) = omega arith
 positive (Mark (kind.Symbol symbol.And)) = omega arith
 positive (Mark (kind.Symbol symbol.Times)) = omega arith
 positive (Mark (kind.Symbol symbol.Plus)) = omega arith
@@ -172,9 +172,9 @@ positive (Mark (kind.Symbol symbol.LeftBracket)) = omega arith
 positive (Mark (kind.Symbol symbol.RightBracket)) = omega arith
 
 -- A construct of level 0 is never continued.
-pub stops_zero : (x : List (Terminal ℕ)) → Stops 0 x
+pub stops_zero : (x : List (Terminal ℕ)) → EndsConstruct 0 x
 stops_zero [] = tt
 stops_zero (c ∷ x) = positive c
 
-pub only_zero : {s : Sort} (t u : Tree ℕ s) (z w : List (Terminal ℕ)) → level s ≡ 0 → Stops (level s) z → spell u ++ z ≡ spell t ++ w → (u ≡ t) × (z ≡ w)
-only_zero t u z w is p e = same u t z w p (subst (λ n. Stops n w) (sym is) (stops_zero w)) e
+pub only_zero : {s : Sort} (t u : Tree ℕ s) (z w : List (Terminal ℕ)) → level s ≡ 0 → EndsConstruct (level s) z → spell u ++ z ≡ spell t ++ w → (u ≡ t) × (z ≡ w)
+only_zero t u z w is p e = same u t z w p (subst (λ n. EndsConstruct n w) (sym is) (stops_zero w)) e

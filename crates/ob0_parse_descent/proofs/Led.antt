@@ -2,14 +2,14 @@
 use Rattle.std.proofs.Common.{◌≡◌, ℕ, ◌+◌, ◌≤◌, List, [], ◌∷◌, ◌++◌, refl, sym, ◌∙◌, ap, subst, arith}
 use Rattle.ob0_scan.specs.declared.lexeme.TokenKind.{TokenKind}
 use Rattle.ob0_scan.specs.declared.lexeme.TokenKind.TheVariants as kind
-use Rattle.ob0_scan.specs.declared.lexeme.Reserved.TheVariants as reserved
+use Rattle.ob0_scan.specs.declared.lexeme.ReservedWord.TheVariants as reserved
 use Rattle.ob0_scan.specs.declared.lexeme.Symbol.TheVariants as symbol
 use Rattle.ob0_scan.specs.declared.lexeme.Token.{Token}
 use Rattle.ob0_tree.specs.Lexeme.{Terminal, Mark}
 use Rattle.ob0_tree.specs.Tree.{Item, then_argument, then_statement, else_branch, then_fields, then_section, begins, declares_constants, declares_types, declares_variables, further_argument, further_statement, else_part, further_fields, further_section, body, constants, type_names, variables, constant, type_name, variable, expression, statement, sequence, fields, section, Sort, item, items, Tree, spell, nesting}
-use Rattle.ob0_parse_descent.specs.Follow.{kind_rank, item_rank, item_level, level, Starts}
-use Rattle.ob0_parse_descent.specs.Reading.{rest, token, node, Begins, ReadAs, Taken, FailsToRead, ItemFails}
-use Rattle.ob0_parse_descent.specs.Descent.{parts, chosen_item}
+use Rattle.ob0_parse_descent.specs.Follow.{kind_rank, item_rank, item_level, level, NextHasRank}
+use Rattle.ob0_parse_descent.specs.Reading.{rest, token, node, BeginsWithParts, ReadAs, IsReadTree, FailsToRead, ItemFails}
+use Rattle.ob0_parse_descent.specs.Descent.{parts, chosen_item_production}
 use Rattle.ob0_parse_descent.proofs.Descent.{by, read_led}
 use Rattle.ob0_parse_descent.specs.declared.refusal.ParseRefusal.{ParseRefusal}
 use Rattle.ob0_parse_descent.proofs.Unique.{stops_less, tail_of}
@@ -21,7 +21,7 @@ pub record Leads {s : Sort} {i : Item} (k : TokenKind) (make : Tree ℕ s → Tr
   pub back : (u : Tree ℕ (item i)) → (v : Tree ℕ s) × (u ≡ make v)
   pub lower : level s ≤ item_level i
   pub ranked : kind_rank k ≡ item_rank i
-  pub chosen : (room : ℕ) (w : List (Terminal ℕ)) → chosen_item i room (Mark k ∷ w) ≡ parts (token k ∷ node s room ∷ [])
+  pub chosen_production : (room : ℕ) (w : List (Terminal ℕ)) → chosen_item_production i room (Mark k ∷ w) ≡ parts (token k ∷ node s room ∷ [])
 
 led_back : {s : Sort} {i : Item} {k : TokenKind} {make : Tree ℕ s → Tree ℕ (item i)} → Leads k make → (u : Tree ℕ (item i)) (z w : List (Terminal ℕ)) → spell u ++ z ≡ Mark k ∷ w → (v : Tree ℕ s) × (u ≡ make v) × (spell v ++ z ≡ w)
 led_back {k = k} l u z w e =
@@ -30,9 +30,9 @@ led_back {k = k} l u z w e =
     (b.0, b.1, tail_of (ap (λ x. x ++ z) (sym spelled) ∙ e))
 
 led_read : {s : Sort} {i : Item} {k : TokenKind} {make : Tree ℕ s → Tree ℕ (item i)} {room : ℕ} {ts : List Token} {at : ℕ} → Leads k make → rest ts at ≡ Mark k ∷ rest ts (at + 1) → ReadAs (node (item i) room ∷ []) (node s room ∷ []) ts at (at + 1)
-led_read {s = s} {room = room} {ts = ts} {at = at} l here = read_led (node s room ∷ []) (l.chosen room (rest ts (at + 1))) here
+led_read {s = s} {room = room} {ts = ts} {at = at} l here = read_led (node s room ∷ []) (l.chosen_production room (rest ts (at + 1))) here
 
-pub taken_led : {s : Sort} {i : Item} {k : TokenKind} {make : Tree ℕ s → Tree ℕ (item i)} {room : ℕ} {ts : List Token} {at n : ℕ} → Leads k make → (t : Tree ℕ s) → rest ts at ≡ Mark k ∷ rest ts (at + 1) → Taken t room ts (at + 1) n → Taken (make t) room ts at n
+pub taken_led : {s : Sort} {i : Item} {k : TokenKind} {make : Tree ℕ s → Tree ℕ (item i)} {room : ℕ} {ts : List Token} {at n : ℕ} → Leads k make → (t : Tree ℕ s) → rest ts at ≡ Mark k ∷ rest ts (at + 1) → IsReadTree t room ts (at + 1) n → IsReadTree (make t) room ts at n
 taken_led {s = s} {i = i} {k = k} {make = make} {room = room} {ts = ts} {n = n} l t here p = record {
   spelled = here ∙ (ap (λ y. Mark k ∷ y) p.spelled ∙ ap (λ y. y ++ rest ts n) (sym (l.spelled t)));
   shallow = subst (λ y. y ≤ room) (sym (l.deep t)) p.shallow;
@@ -45,14 +45,14 @@ taken_led {s = s} {i = i} {k = k} {make = make} {room = room} {ts = ts} {n = n} 
   forward = omega (arith, p.forward);
 }
 
-led_parts : {s : Sort} {i : Item} {k : TokenKind} {make : Tree ℕ s → Tree ℕ (item i)} (room : ℕ) → Leads k make → (w : List (Terminal ℕ)) → Begins (node (item i) room ∷ []) (Mark k ∷ w) → Begins (node s room ∷ []) w
+led_parts : {s : Sort} {i : Item} {k : TokenKind} {make : Tree ℕ s → Tree ℕ (item i)} (room : ℕ) → Leads k make → (w : List (Terminal ℕ)) → BeginsWithParts (node (item i) room ∷ []) (Mark k ∷ w) → BeginsWithParts (node s room ∷ []) w
 led_parts {s = s} {i = i} room l w (u, z, e, n, stop, b) =
     let v = led_back l u z w (sym e) in
     (v.0, z, sym v.2, subst (λ y. y ≤ room) (ap nesting v.1 ∙ l.deep v.0) n, stops_less z (level s) (item_level i) l.lower stop, tt)
 
 pub led_fails : {s : Sort} {i : Item} {k : TokenKind} {make : Tree ℕ s → Tree ℕ (item i)} {room : ℕ} {ts : List Token} {at : ℕ} {e : ParseRefusal} → Leads k make → rest ts at ≡ Mark k ∷ rest ts (at + 1) → FailsToRead (node s room ∷ []) ts (at + 1) e → ItemFails i room ts at e
 led_fails {s = s} {i = i} {k = k} {room = room} l here q = record {
-  is_here = subst (λ y. Starts (item_rank i) y) (sym here) l.ranked;
+  is_here = subst (λ y. NextHasRank (item_rank i) y) (sym here) l.ranked;
   fails = fails_following {qs = node s room ∷ []} (led_read l here) here (led_parts room l) q;
 }
 
@@ -60,52 +60,52 @@ back_then_argument : (u : Tree ℕ (item further_argument)) → (v : Tree ℕ ex
 back_then_argument (then_argument v) = (v, refl)
 
 pub leads_then_argument : Leads (kind.Symbol symbol.Comma) then_argument
-leads_then_argument = record { spelled = λ t. refl; deep = λ t. refl; back = back_then_argument; lower = omega arith; ranked = refl; chosen = λ room w. refl }
+leads_then_argument = record { spelled = λ t. refl; deep = λ t. refl; back = back_then_argument; lower = omega arith; ranked = refl; chosen_production = λ room w. refl }
 
 back_then_statement : (u : Tree ℕ (item further_statement)) → (v : Tree ℕ statement) × (u ≡ then_statement v)
 back_then_statement (then_statement v) = (v, refl)
 
 pub leads_then_statement : Leads (kind.Symbol symbol.Semicolon) then_statement
-leads_then_statement = record { spelled = λ t. refl; deep = λ t. refl; back = back_then_statement; lower = omega arith; ranked = refl; chosen = λ room w. refl }
+leads_then_statement = record { spelled = λ t. refl; deep = λ t. refl; back = back_then_statement; lower = omega arith; ranked = refl; chosen_production = λ room w. refl }
 
 back_else_branch : (u : Tree ℕ (item else_part)) → (v : Tree ℕ sequence) × (u ≡ else_branch v)
 back_else_branch (else_branch v) = (v, refl)
 
-pub leads_else_branch : Leads (kind.Reserved reserved.Else) else_branch
-leads_else_branch = record { spelled = λ t. refl; deep = λ t. refl; back = back_else_branch; lower = omega arith; ranked = refl; chosen = λ room w. refl }
+pub leads_else_branch : Leads (kind.ReservedWord reserved.Else) else_branch
+leads_else_branch = record { spelled = λ t. refl; deep = λ t. refl; back = back_else_branch; lower = omega arith; ranked = refl; chosen_production = λ room w. refl }
 
 back_then_fields : (u : Tree ℕ (item further_fields)) → (v : Tree ℕ fields) × (u ≡ then_fields v)
 back_then_fields (then_fields v) = (v, refl)
 
 pub leads_then_fields : Leads (kind.Symbol symbol.Semicolon) then_fields
-leads_then_fields = record { spelled = λ t. refl; deep = λ t. refl; back = back_then_fields; lower = omega arith; ranked = refl; chosen = λ room w. refl }
+leads_then_fields = record { spelled = λ t. refl; deep = λ t. refl; back = back_then_fields; lower = omega arith; ranked = refl; chosen_production = λ room w. refl }
 
 back_then_section : (u : Tree ℕ (item further_section)) → (v : Tree ℕ section) × (u ≡ then_section v)
 back_then_section (then_section v) = (v, refl)
 
 pub leads_then_section : Leads (kind.Symbol symbol.Semicolon) then_section
-leads_then_section = record { spelled = λ t. refl; deep = λ t. refl; back = back_then_section; lower = omega arith; ranked = refl; chosen = λ room w. refl }
+leads_then_section = record { spelled = λ t. refl; deep = λ t. refl; back = back_then_section; lower = omega arith; ranked = refl; chosen_production = λ room w. refl }
 
 back_begins : (u : Tree ℕ (item body)) → (v : Tree ℕ sequence) × (u ≡ begins v)
 back_begins (begins v) = (v, refl)
 
-pub leads_begins : Leads (kind.Reserved reserved.Begin) begins
-leads_begins = record { spelled = λ t. refl; deep = λ t. refl; back = back_begins; lower = omega arith; ranked = refl; chosen = λ room w. refl }
+pub leads_begins : Leads (kind.ReservedWord reserved.Begin) begins
+leads_begins = record { spelled = λ t. refl; deep = λ t. refl; back = back_begins; lower = omega arith; ranked = refl; chosen_production = λ room w. refl }
 
 back_declares_constants : (u : Tree ℕ (item constants)) → (v : Tree ℕ (items constant)) × (u ≡ declares_constants v)
 back_declares_constants (declares_constants v) = (v, refl)
 
-pub leads_declares_constants : Leads (kind.Reserved reserved.Const) declares_constants
-leads_declares_constants = record { spelled = λ t. refl; deep = λ t. refl; back = back_declares_constants; lower = omega arith; ranked = refl; chosen = λ room w. refl }
+pub leads_declares_constants : Leads (kind.ReservedWord reserved.Const) declares_constants
+leads_declares_constants = record { spelled = λ t. refl; deep = λ t. refl; back = back_declares_constants; lower = omega arith; ranked = refl; chosen_production = λ room w. refl }
 
 back_declares_types : (u : Tree ℕ (item type_names)) → (v : Tree ℕ (items type_name)) × (u ≡ declares_types v)
 back_declares_types (declares_types v) = (v, refl)
 
-pub leads_declares_types : Leads (kind.Reserved reserved.Type) declares_types
-leads_declares_types = record { spelled = λ t. refl; deep = λ t. refl; back = back_declares_types; lower = omega arith; ranked = refl; chosen = λ room w. refl }
+pub leads_declares_types : Leads (kind.ReservedWord reserved.Type) declares_types
+leads_declares_types = record { spelled = λ t. refl; deep = λ t. refl; back = back_declares_types; lower = omega arith; ranked = refl; chosen_production = λ room w. refl }
 
 back_declares_variables : (u : Tree ℕ (item variables)) → (v : Tree ℕ (items variable)) × (u ≡ declares_variables v)
 back_declares_variables (declares_variables v) = (v, refl)
 
-pub leads_declares_variables : Leads (kind.Reserved reserved.Var) declares_variables
-leads_declares_variables = record { spelled = λ t. refl; deep = λ t. refl; back = back_declares_variables; lower = omega arith; ranked = refl; chosen = λ room w. refl }
+pub leads_declares_variables : Leads (kind.ReservedWord reserved.Var) declares_variables
+leads_declares_variables = record { spelled = λ t. refl; deep = λ t. refl; back = back_declares_variables; lower = omega arith; ranked = refl; chosen_production = λ room w. refl }

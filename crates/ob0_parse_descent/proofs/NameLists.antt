@@ -5,8 +5,8 @@ use Rattle.ob0_scan.specs.declared.lexeme.Symbol.TheVariants as symbol
 use Rattle.ob0_scan.specs.declared.lexeme.Token.{Token}
 use Rattle.ob0_tree.specs.Lexeme.{Terminal, Name, Mark}
 use Rattle.ob0_tree.specs.Tree.{item, items, further_name, names, Tree, end, more, listed, then_name, spell, nesting}
-use Rattle.ob0_parse_descent.specs.Follow.{Stops, Starts}
-use Rattle.ob0_parse_descent.specs.Reading.{rest, name, node, Begins, SameHead, Taken, FailsToRead, ItemFails, NoName}
+use Rattle.ob0_parse_descent.specs.Follow.{EndsConstruct, NextHasRank}
+use Rattle.ob0_parse_descent.specs.Reading.{rest, name, node, BeginsWithParts, SameHead, IsReadTree, FailsToRead, ItemFails, NoName}
 use Rattle.ob0_parse_descent.proofs.Descent.{both, by, read_name, read_made, read_led}
 use Rattle.ob0_parse_descent.specs.declared.refusal.Expected.TheVariants as expected
 use Rattle.ob0_parse_descent.specs.declared.refusal.ParseRefusal.{ParseRefusal}
@@ -19,8 +19,8 @@ use Rattle.ob0_parse_descent.proofs.Items.{Taking, taking_fails}
 then_name_only : (i : ℕ) (u : Tree ℕ (item further_name)) (z w : List (Terminal ℕ)) → spell u ++ z ≡ Mark (kind.Symbol symbol.Comma) ∷ Name i ∷ w → (u ≡ then_name i) × (z ≡ w)
 then_name_only i (then_name n) z w e = (ap then_name (name_of (tail_of e)), tail_of (tail_of e))
 
-pub taken_then_name : {ts : List Token} {at n : ℕ} (x : ℕ) → rest ts at ≡ Mark (kind.Symbol symbol.Comma) ∷ rest ts (at + 1) → (rest ts (at + 1) ≡ Name (at + 1) ∷ rest ts n) × (at + 1 < length ts) × (x ≡ at + 1) × (n ≡ at + 1 + 1) → Taken (then_name x) 0 ts at n
-taken_then_name {ts = ts} {at = at} {n = n} x here p = subst (λ y. Taken (then_name y) 0 ts at n) (sym p.2) record {
+pub taken_then_name : {ts : List Token} {at n : ℕ} (x : ℕ) → rest ts at ≡ Mark (kind.Symbol symbol.Comma) ∷ rest ts (at + 1) → (rest ts (at + 1) ≡ Name (at + 1) ∷ rest ts n) × (at + 1 < length ts) × (x ≡ at + 1) × (n ≡ at + 1 + 1) → IsReadTree (then_name x) 0 ts at n
+taken_then_name {ts = ts} {at = at} {n = n} x here p = subst (λ y. IsReadTree (then_name y) 0 ts at n) (sym p.2) record {
   spelled = here ∙ ap (λ y. Mark (kind.Symbol symbol.Comma) ∷ y) p.0;
   shallow = omega arith;
   only = λ u z w h s e. then_name_only (at + 1) u z w e;
@@ -29,29 +29,29 @@ taken_then_name {ts = ts} {at = at} {n = n} x here p = subst (λ y. Taken (then_
   forward = omega (arith, p.3);
 }
 
-then_name_parts : (w : List (Terminal ℕ)) → Begins (node (item further_name) 0 ∷ []) (Mark (kind.Symbol symbol.Comma) ∷ w) → Begins (name ∷ []) w
+then_name_parts : (w : List (Terminal ℕ)) → BeginsWithParts (node (item further_name) 0 ∷ []) (Mark (kind.Symbol symbol.Comma) ∷ w) → BeginsWithParts (name ∷ []) w
 then_name_parts w (then_name n, z, e, l, s, b) = (n, z, tail_of e, tt)
 
 pub then_name_fails : {ts : List Token} {at : ℕ} {e : ParseRefusal} → rest ts at ≡ Mark (kind.Symbol symbol.Comma) ∷ rest ts (at + 1) → FailsToRead (name ∷ []) ts (at + 1) e → ItemFails further_name 0 ts at e
 then_name_fails here q = record {
-  is_here = subst (λ y. Starts 5 y) (sym here) refl;
+  is_here = subst (λ y. NextHasRank 5 y) (sym here) refl;
   fails = fails_following {qs = name ∷ []} (read_led (name ∷ []) refl here) here then_name_parts q;
 }
 
-listed_only : {ts : List Token} {m n : ℕ} (i : ℕ) (others : Tree ℕ (items further_name)) → Taken others 0 ts m n → (u : Tree ℕ names) (z w : List (Terminal ℕ)) → SameHead (rest ts n) w → Stops 5 z → spell u ++ z ≡ Name i ∷ (spell others ++ w) → (u ≡ listed i others) × (z ≡ w)
+listed_only : {ts : List Token} {m n : ℕ} (i : ℕ) (others : Tree ℕ (items further_name)) → IsReadTree others 0 ts m n → (u : Tree ℕ names) (z w : List (Terminal ℕ)) → SameHead (rest ts n) w → EndsConstruct 5 z → spell u ++ z ≡ Name i ∷ (spell others ++ w) → (u ≡ listed i others) × (z ≡ w)
 listed_only i others p (listed k us) z w h s e =
     let r = p.only us z w h s (tail_of e) in
     let same : k ≡ i = name_of e in
     (cc (same, r.0), r.1)
 
-pub taken_listed : {ts : List Token} {at m n : ℕ} (others : Tree ℕ (items further_name)) → rest ts at ≡ Name at ∷ rest ts m → m ≡ at + 1 → Taken others 0 ts m n → Taken (listed at others) 0 ts at n
+pub taken_listed : {ts : List Token} {at m n : ℕ} (others : Tree ℕ (items further_name)) → rest ts at ≡ Name at ∷ rest ts m → m ≡ at + 1 → IsReadTree others 0 ts m n → IsReadTree (listed at others) 0 ts at n
 taken_listed {at = at} others here l p = record { spelled = here ∙ ap (λ y. Name at ∷ y) p.spelled; shallow = omega arith; only = listed_only at others p; reads = by (read_made refl) (both (read_name here l) p.reads); within = p.within; forward = omega (arith, p.forward) }
 
 pub nameless : (t : Tree ℕ (items further_name)) → nesting t ≤ 0
 nameless end = omega arith
 nameless (more (then_name n) ts) = let h = nameless ts in omega arith
 
-names_parts : (w : List (Terminal ℕ)) → Begins (node names 0 ∷ []) w → Begins (name ∷ node (items further_name) 0 ∷ []) w
+names_parts : (w : List (Terminal ℕ)) → BeginsWithParts (node names 0 ∷ []) w → BeginsWithParts (name ∷ node (items further_name) 0 ∷ []) w
 names_parts w (listed k us, z, e, l, s, b) = (k, spell us ++ z, e, (us, z, refl, nameless us, s, tt))
 
 pub names_fails_first : {ts : List Token} {at : ℕ} {e : ParseRefusal} → NoName ts at × (e ≡ Syntax at expected.Identifier) → FailsToRead (node names 0 ∷ []) ts at e

@@ -8,55 +8,55 @@ use Rattle.ob0_scan.specs.declared.lexeme.TokenKind.{TokenKind}
 use Rattle.ob0_scan.specs.declared.lexeme.TokenKind.TheVariants as kind
 use Rattle.ob0_scan.specs.declared.lexeme.Symbol.TheVariants as symbol
 use Rattle.ob0_scan.specs.declared.lexeme.Token.{Token}
-use Rattle.ob0_tree.specs.Lexeme.{Terminal, Name, Number, Mark, EndOfText, sign_marks}
+use Rattle.ob0_tree.specs.Lexeme.{Terminal, Name, Number, Mark, EndOfText, sign_tokens}
 use Rattle.ob0_tree.specs.declared.tree.Sign.{Sign}
 use Rattle.ob0_tree.specs.declared.tree.Designator.{Designator}
 use Rattle.ob0_tree.specs.declared.tree.Names.{Names}
 use Rattle.ob0_tree.specs.declared.tree.WrittenType.{WrittenType}
-use Rattle.ob0_scan.specs.declared.lexeme.Reserved.TheVariants as reserved
+use Rattle.ob0_scan.specs.declared.lexeme.ReservedWord.TheVariants as reserved
 use Rattle.ob0_tree.specs.Tree.{Item, Sort, item, items, selector, factor, names, written_type, Tree, designator, some_fields, spell, nesting}
-use Rattle.ob0_tree.specs.Places.{lexeme_of, lexemes}
+use Rattle.ob0_tree.specs.Places.{index_terminal, index_terminals}
 use Rattle.ob0_tree.specs.View.{items_of, selector_of, names_of, type_of}
-pub use Rattle.ob0_parse_descent.specs.Descent.{Part, token, name, number, node, finish}
+pub use Rattle.ob0_parse_descent.specs.Descent.{ProductionPart, token, name, number, node, finish}
 use Rattle.ob0_parse_descent.specs.Descent.{Stop, Expects, Deep, Descends, expected_token, is_section_next}
-use Rattle.ob0_parse_descent.specs.Follow.{rank, kind_rank, item_rank, level, Stops, Starts}
+use Rattle.ob0_parse_descent.specs.Follow.{rank, kind_rank, item_rank, level, EndsConstruct, NextHasRank}
 use Rattle.ob0_parse_descent.specs.declared.refusal.Expected.TheVariants as expected
 use Rattle.ob0_parse_descent.specs.declared.refusal.ParseRefusal.{ParseRefusal}
 use Rattle.ob0_parse_descent.specs.declared.refusal.ParseRefusal.TheVariants.{Syntax, TooDeep, Memory}
 
 -- Returns the token at the index `i`, in the form in which a tree over indexes spells it. For None
 -- it is the end of the text.
-abbrev pub lexeme_at : ℕ → Option TokenKind → Terminal ℕ
-lexeme_at i None = EndOfText
-lexeme_at i (Some k) = lexeme_of i k
+abbrev pub terminal_or_end : ℕ → Option TokenKind → Terminal ℕ
+terminal_or_end i None = EndOfText
+terminal_or_end i (Some k) = index_terminal i k
 
 -- Returns the tokens from the index `i` to the end of the text, which counts as a token.
 unfoldable pub rest : List Token → ℕ → List (Terminal ℕ)
-rest ts i = drop i (lexemes ts)
+rest ts i = drop i (index_terminals ts)
 
 -- Holds if the tokens begin with these parts, and each tree among the parts is followed by a token
 -- that can't continue it.
-abbrev pub Begins : List Part → List (Terminal ℕ) → Type 0
-Begins [] w = Unit {0}
-Begins (token k ∷ ps) w = (z : List (Terminal ℕ)) × (w ≡ Mark k ∷ z) × Begins ps z
-Begins (name ∷ ps) w = (n : ℕ) × (z : List (Terminal ℕ)) × (w ≡ Name n ∷ z) × Begins ps z
-Begins (number ∷ ps) w = (n : ℕ) × (z : List (Terminal ℕ)) × (w ≡ Number n ∷ z) × Begins ps z
-Begins (node s room ∷ ps) w =
+abbrev pub BeginsWithParts : List ProductionPart → List (Terminal ℕ) → Type 0
+BeginsWithParts [] w = Unit {0}
+BeginsWithParts (token k ∷ ps) w = (z : List (Terminal ℕ)) × (w ≡ Mark k ∷ z) × BeginsWithParts ps z
+BeginsWithParts (name ∷ ps) w = (n : ℕ) × (z : List (Terminal ℕ)) × (w ≡ Name n ∷ z) × BeginsWithParts ps z
+BeginsWithParts (number ∷ ps) w = (n : ℕ) × (z : List (Terminal ℕ)) × (w ≡ Number n ∷ z) × BeginsWithParts ps z
+BeginsWithParts (node s room ∷ ps) w =
     (t : Tree ℕ s)
     × (z : List (Terminal ℕ))
     × (w ≡ spell t ++ z)
     × (nesting t ≤ room)
-    × Stops (level s) z
-    × Begins ps z
-Begins (finish ∷ ps) w = (z : List (Terminal ℕ)) × (w ≡ EndOfText ∷ z) × Begins ps z
+    × EndsConstruct (level s) z
+    × BeginsWithParts ps z
+BeginsWithParts (finish ∷ ps) w = (z : List (Terminal ℕ)) × (w ≡ EndOfText ∷ z) × BeginsWithParts ps z
 
 -- Holds if the tokens before `after` can't be the beginning of these parts, whatever follows those
 -- tokens.
-pub record Refused (parts : List Part) (tokens after : List (Terminal ℕ)) : Type 0 where
+pub record Refused (parts : List ProductionPart) (tokens after : List (Terminal ℕ)) : Type 0 where
   pub passed : List (Terminal ℕ)
   pub fault : Terminal ℕ
   pub here : tokens ≡ passed ++ (fault ∷ after)
-  pub never : (unseen : List (Terminal ℕ)) → Begins parts (passed ++ (fault ∷ unseen)) → ⊥
+  pub never : (unseen : List (Terminal ℕ)) → BeginsWithParts parts (passed ++ (fault ∷ unseen)) → ⊥
 
 -- Holds if both lists begin with the same token.
 pub record SameHead (xs w : List (Terminal ℕ)) : Type 0 where
@@ -68,19 +68,19 @@ pub record SameHead (xs w : List (Terminal ℕ)) : Type 0 where
 
 -- Holds if the descent reads the parts `ps` from index `at` whenever it reads the parts `following`
 -- from index `next`. The stop is the same, whatever parts come after them.
-pub record ReadAs (ps following : List Part) (ts : List Token) (at next : ℕ) : Type 0 where
-  pub on : (o : Stop) (more : List Part)
+pub record ReadAs (ps following : List ProductionPart) (ts : List Token) (at next : ℕ) : Type 0 where
+  pub on : (o : Stop) (more : List ProductionPart)
       → Descends (following ++ more) next (rest ts next) o
       → Descends (ps ++ more) at (rest ts at) o
 
 -- Holds if the tokens from index `at` to index `next` are the tokens of this tree, whose nesting is
 -- at most `room`. Together with the next token they allow no other tree of the same sort at `at`.
-pub record Taken {s : Sort} (t : Tree ℕ s) (room : ℕ) (ts : List Token) (at next : ℕ) : Type 0 where
+pub record IsReadTree {s : Sort} (t : Tree ℕ s) (room : ℕ) (ts : List Token) (at next : ℕ) : Type 0 where
   pub spelled : rest ts at ≡ spell t ++ rest ts next
   pub shallow : nesting t ≤ room
   pub only : (u : Tree ℕ s) (z w : List (Terminal ℕ))
       → SameHead (rest ts next) w
-      → Stops (level s) z
+      → EndsConstruct (level s) z
       → spell u ++ z ≡ spell t ++ w
       → (u ≡ t) × (z ≡ w)
   pub reads : ReadAs (node s room ∷ []) [] ts at next
@@ -89,28 +89,28 @@ pub record Taken {s : Sort} (t : Tree ℕ s) (room : ℕ) (ts : List Token) (at 
 
 -- Holds for a syntax error or too deep nesting if the tokens up to its index can't be the beginning
 -- of these parts. Always holds for a failed allocation.
-abbrev pub Why : List Part → List Token → ℕ → ParseRefusal → Type 0
-Why parts ts at (Syntax i expected) = (i ≤ length ts) × Refused parts (rest ts at) (rest ts (i + 1))
-Why parts ts at (TooDeep i) = (i ≤ length ts) × Refused parts (rest ts at) (rest ts (i + 1))
-Why parts ts at Memory = Unit {0}
+abbrev pub IsRightRefusalOfParts : List ProductionPart → List Token → ℕ → ParseRefusal → Type 0
+IsRightRefusalOfParts parts ts at (Syntax i expected) = (i ≤ length ts) × Refused parts (rest ts at) (rest ts (i + 1))
+IsRightRefusalOfParts parts ts at (TooDeep i) = (i ≤ length ts) × Refused parts (rest ts at) (rest ts (i + 1))
+IsRightRefusalOfParts parts ts at Memory = Unit {0}
 
 -- Holds if the descent over the parts ends with this stop, whatever follows the parts.
-abbrev pub StopsIn : List Part → List Token → ℕ → Stop → Type 0
-StopsIn parts ts at o = (more : List Part) → Descends (parts ++ more) at (rest ts at) o
+abbrev pub DescentStopsWith : List ProductionPart → List Token → ℕ → Stop → Type 0
+DescentStopsWith parts ts at o = (more : List ProductionPart) → Descends (parts ++ more) at (rest ts at) o
 
 -- Holds for a syntax error or too deep nesting if the descent over the parts ends with the stop
 -- that the refusal describes. Always holds for a failed allocation.
-abbrev pub StopsBy : List Part → List Token → ℕ → ParseRefusal → Type 0
-StopsBy parts ts at (Syntax i expected) = StopsIn parts ts at (Expects i expected)
-StopsBy parts ts at (TooDeep i) = StopsIn parts ts at (Deep i)
-StopsBy parts ts at Memory = Unit {0}
+abbrev pub DescentStopsByRefusal : List ProductionPart → List Token → ℕ → ParseRefusal → Type 0
+DescentStopsByRefusal parts ts at (Syntax i expected) = DescentStopsWith parts ts at (Expects i expected)
+DescentStopsByRefusal parts ts at (TooDeep i) = DescentStopsWith parts ts at (Deep i)
+DescentStopsByRefusal parts ts at Memory = Unit {0}
 
 -- Holds if no tree of these parts begins at this index, and the descent over the parts stops as the
 -- refusal says.
 pub record FailsToRead
-    (parts : List Part) (ts : List Token) (at : ℕ) (e : ParseRefusal) : Type 0 where
-  pub why : Why parts ts at e
-  pub reads : StopsBy parts ts at e
+    (parts : List ProductionPart) (ts : List Token) (at : ℕ) (e : ParseRefusal) : Type 0 where
+  pub why : IsRightRefusalOfParts parts ts at e
+  pub reads : DescentStopsByRefusal parts ts at e
 
 -- Holds for a parsed construct if it is the tree that begins at the index `at`. Holds for a refusal
 -- if no construct of this sort can be read at `at`, as the refusal says. `view` gives the tree that
@@ -122,7 +122,7 @@ abbrev pub Reads : {A : Type 0} {s : Sort}
     → ℕ
     → Result (A × ℕ) ParseRefusal
     → Type 0
-Reads view room ts at (Ok x) = Taken (view x.0) room ts at x.1
+Reads view room ts at (Ok x) = IsReadTree (view x.0) room ts at x.1
 Reads {s = s} view room ts at (Err e) = FailsToRead (node s room ∷ []) ts at e
 
 -- Holds if the token at the index `at` isn't `x`.
@@ -140,14 +140,14 @@ pub record NoName (ts : List Token) (at : ℕ) : Type 0 where
   pub within : at ≤ length ts
 
 -- Holds if the Bool says whether this reserved word or symbol is at the index `at`.
-abbrev pub TokenIs : TokenKind → List Token → ℕ → Bool → Type 0
-TokenIs k ts at true = (rest ts at ≡ Mark k ∷ rest ts (at + 1)) × (at < length ts)
-TokenIs k ts at false = Other (Mark k) ts at
+abbrev pub TellsIfTokenAt : TokenKind → List Token → ℕ → Bool → Type 0
+TellsIfTokenAt k ts at true = (rest ts at ≡ Mark k ∷ rest ts (at + 1)) × (at < length ts)
+TellsIfTokenAt k ts at false = Other (Mark k) ts at
 
 -- Holds if the Bool says whether an identifier is at the index `at`.
-abbrev pub NameIs : List Token → ℕ → Bool → Type 0
-NameIs ts at true = (rest ts at ≡ Name at ∷ rest ts (at + 1)) × (at < length ts)
-NameIs ts at false = NoName ts at
+abbrev pub TellsIfNameAt : List Token → ℕ → Bool → Type 0
+TellsIfNameAt ts at true = (rest ts at ≡ Name at ∷ rest ts (at + 1)) × (at < length ts)
+TellsIfNameAt ts at false = NoName ts at
 
 -- Holds for a returned index if this reserved word or symbol is at `at`, and the index is the next
 -- one. Holds for a refusal if another token is at `at`, and this one is reported as expected.
@@ -166,20 +166,20 @@ ReadsName ts at (Err e) = NoName ts at × (e ≡ Syntax at expected.Identifier)
 
 -- Holds for a returned number if it is one less than `room`. Holds for a refusal if `room` is 0 and
 -- the refusal is `TooDeep`.
-abbrev pub Opens : ℕ → ℕ → Result ℕ ParseRefusal → Type 0
-Opens at room (Ok inner) = room ≡ inner + 1
-Opens at room (Err e) = (room ≡ 0) × (e ≡ TooDeep at)
+abbrev pub OpensLevel : ℕ → ℕ → Result ℕ ParseRefusal → Type 0
+OpensLevel at room (Ok inner) = room ≡ inner + 1
+OpensLevel at room (Err e) = (room ≡ 0) × (e ≡ TooDeep at)
 
 -- Holds if the factor `f` of one token is at this index, and the token after it doesn't continue a
 -- construct of this level.
-pub record IsLone (level : ℕ) (f : Tree ℕ factor) (ts : List Token) (at : ℕ) : Type 0 where
-  pub taken : (room : ℕ) → Taken f room ts at (at + 1)
-  pub stops : Stops level (rest ts (at + 1))
+pub record IsSingleTokenFactor (level : ℕ) (f : Tree ℕ factor) (ts : List Token) (at : ℕ) : Type 0 where
+  pub taken : (room : ℕ) → IsReadTree f room ts at (at + 1)
+  pub stops : EndsConstruct level (rest ts (at + 1))
 
 -- Holds if an item begins at this index and can't be read, as the refusal says.
 pub record ItemFails
     (i : Item) (room : ℕ) (ts : List Token) (at : ℕ) (e : ParseRefusal) : Type 0 where
-  pub is_here : Starts (item_rank i) (rest ts at)
+  pub is_here : NextHasRank (item_rank i) (rest ts at)
   pub fails : FailsToRead (node (item i) room ∷ []) ts at e
 
 -- Holds for a parsed item if it is the tree that begins at the index `at`. Holds for None if no
@@ -191,8 +191,8 @@ abbrev pub ReadsItem : {A : Type 0} {i : Item}
     → ℕ
     → Result (Option (A × ℕ)) ParseRefusal
     → Type 0
-ReadsItem {i = i} view room ts at (Ok None) = ¬ Starts (item_rank i) (rest ts at)
-ReadsItem view room ts at (Ok (Some x)) = Taken (view x.0) room ts at x.1 × (at < x.1)
+ReadsItem {i = i} view room ts at (Ok None) = ¬ NextHasRank (item_rank i) (rest ts at)
+ReadsItem view room ts at (Ok (Some x)) = IsReadTree (view x.0) room ts at x.1 × (at < x.1)
 ReadsItem {i = i} view room ts at (Err e) = ItemFails i room ts at e
 
 -- Holds if the tokens don't begin with a sign.
@@ -202,26 +202,26 @@ pub record Unsigned (w : List (Terminal ℕ)) : Type 0 where
 
 -- Holds if `sign` is the sign at this index, or None if there is none, and `next` is the index
 -- after it.
-pub record SignTaken (ts : List Token) (at : ℕ) (sign : Option Sign) (next : ℕ) : Type 0 where
-  pub spelled : rest ts at ≡ sign_marks sign ++ rest ts next
+pub record IsSignAt (ts : List Token) (at : ℕ) (sign : Option Sign) (next : ℕ) : Type 0 where
+  pub spelled : rest ts at ≡ sign_tokens sign ++ rest ts next
   pub forward : at ≤ next
   pub within : next ≤ length ts
   pub unsigned : IfNone sign (Unsigned (rest ts at))
-  pub counted : next ≡ at + length (sign_marks {N = ℕ} sign)
+  pub counted : next ≡ at + length (sign_tokens {N = ℕ} sign)
 
 -- Holds for a name with its selectors if they are the factor that begins at this index, and no
 -- further selector follows. Holds for a refusal if no such name and selectors can be read.
 abbrev pub ReadsDesignator : ℕ → List Token → ℕ → Result (Designator × ℕ) ParseRefusal → Type 0
 ReadsDesignator room ts at (Ok x) =
-    Taken (designator x.0.name (items_of selector_of x.0.selectors.items)) room ts at x.1
-    × ¬ Starts 1 (rest ts x.1)
+    IsReadTree (designator x.0.name (items_of selector_of x.0.selectors.items)) room ts at x.1
+    × ¬ NextHasRank 1 (rest ts x.1)
 ReadsDesignator room ts at (Err e) = FailsToRead (name ∷ node (items selector) room ∷ []) ts at e
 
 -- Holds for an operator if the token `k` spells it. Holds for None if the rank of the token `k`
 -- isn't `r`, the rank of these operators.
-abbrev pub IsMarkOf : {A : Type 0} → (A → TokenKind) → ℕ → TokenKind → Option A → Type 0
-IsMarkOf mark r k (Some a) = k ≡ mark a
-IsMarkOf mark r k None = kind_rank k ≢ r
+abbrev pub IsOperatorOf : {A : Type 0} → (A → TokenKind) → ℕ → TokenKind → Option A → Type 0
+IsOperatorOf mark r k (Some a) = k ≡ mark a
+IsOperatorOf mark r k None = kind_rank k ≢ r
 
 -- Holds if the tokens from `at` to `next` are a list: its first element, then the further elements
 -- with the separators before them.
@@ -232,8 +232,8 @@ pub record ListRead
   pub others : List A
   pub is : xs ≡ first ∷ others
   pub middle : ℕ
-  pub head : Taken (view first) room ts at middle
-  pub tail : Taken (items_of further others) room ts middle next
+  pub head : IsReadTree (view first) room ts at middle
+  pub tail : IsReadTree (items_of further others) room ts middle next
 
 -- Holds for a list of one or more elements if it begins at this index. Holds for a refusal if no
 -- list of such elements can be read at this index.
@@ -251,18 +251,18 @@ ReadsList {s = s} {i = i} view further room ts at (Err e) =
 
 -- Holds for names and a type if they begin at this index with a colon between them. Holds for a
 -- refusal if these parts can't be read.
-abbrev pub ReadsTyped : ℕ
+abbrev pub ReadsTypedNames : ℕ
     → List Token
     → ℕ
     → Result ((Names × WrittenType) × ℕ) ParseRefusal
     → Type 0
-ReadsTyped room ts at (Ok x) = Taken (some_fields (names_of x.0.0) (type_of x.0.1)) room ts at x.1
-ReadsTyped room ts at (Err e) =
+ReadsTypedNames room ts at (Ok x) = IsReadTree (some_fields (names_of x.0.0) (type_of x.0.1)) room ts at x.1
+ReadsTypedNames room ts at (Err e) =
     FailsToRead (node names 0 ∷ token (kind.Symbol symbol.Colon) ∷ node written_type room ∷ []) ts
     at e
 
 -- Holds if the Bool says whether a section of formal parameters may begin at this index.
-abbrev pub SectionMayBegin : List Token → ℕ → Bool → Type 0
-SectionMayBegin ts at true =
+abbrev pub TellsIfSectionMayBegin : List Token → ℕ → Bool → Type 0
+TellsIfSectionMayBegin ts at true =
     Other (Mark (kind.Symbol symbol.RightParen)) ts at × (is_section_next (rest ts at) ≡ true)
-SectionMayBegin ts at false = NoName ts at × Other (Mark (kind.Reserved reserved.Var)) ts at
+TellsIfSectionMayBegin ts at false = NoName ts at × Other (Mark (kind.ReservedWord reserved.Var)) ts at

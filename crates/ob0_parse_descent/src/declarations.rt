@@ -1,38 +1,39 @@
 //! Parses declarations and blocks.
 
 ghost use Rattle.std.specs.Prelude.{◌≤◌, length};
-ghost use Rattle.ob0_tree.specs.View.{section_of, further_section_of, formals_of, constant_of, constants_of, constants_in, type_declaration_of, types_of, types_in, variable_of, variables_of, variables_in, body_of, block_of, procedure_of, procedures_in};
-ghost use Rattle.ob0_parse_descent.specs.Reading.{Reads, ReadsList, ReadsItem, ReadsTyped, SectionMayBegin};
+ghost use Rattle.ob0_tree.specs.View.{section_of, further_section_of, formals_of, constant_of, constants_of, constants_of_vec, type_declaration_of, types_of, types_of_vec, variable_of, variables_of, variables_of_vec, body_of, block_of, procedure_of, procedures_of_vec};
+ghost use Rattle.ob0_parse_descent.specs.Reading.{Reads, ReadsList, ReadsItem, ReadsTypedNames, TellsIfSectionMayBegin};
 
-use crate::growth::add;
-use crate::parser::{Parsed, ParsedItem, Parser, levels_inside};
-use ob0_scan::{Reserved, Symbol};
+use crate::growth::push_doubling;
+use crate::parser::{ConstructResult, ItemResult, Parser, levels_inside};
+use ob0_scan::{ReservedWord, Symbol};
 use ob0_tree::{
-    Block, Constant, Names, Procedure, Section, Statement, TypeDeclaration, Variables, WrittenType,
+    Block, Constant, Names, ParameterSection, Procedure, Statement, TypeDeclaration,
+    VariableDeclaration, WrittenType,
 };
 
 impl<'t> Parser<'t> {
     /// Parses `names ":" type`.
-    fn typed_names(&self, at: usize, room: u32) -> Parsed<(Names, WrittenType)>
+    fn parse_typed_names(&self, at: usize, room: u32) -> ConstructResult<(Names, WrittenType)>
         requires { at ≤ length self.now.tokens.now }
-        ensures { ReadsTyped room self.now.tokens.now at result }
+        ensures { ReadsTypedNames room self.now.tokens.now at result }
     {
-        let (names, next) = self.names(at)?;
+        let (names, next) = self.parse_names(at)?;
         let start = self.expect_symbol(next, Symbol::Colon)?;
-        let (written, end) = self.written_type(start, room)?;
+        let (written, end) = self.parse_type(start, room)?;
         Ok(((names, written), end))
     }
 
     /// Parses `[VAR] names ":" type`.
-    fn section(&self, at: usize, room: u32) -> Parsed<Section>
+    fn parse_section(&self, at: usize, room: u32) -> ConstructResult<ParameterSection>
         requires { at ≤ length self.now.tokens.now }
         ensures { Reads section_of room self.now.tokens.now at result }
     {
-        if self.at_word(at, Reserved::Var) {
-            let ((names, written), end) = self.typed_names(at + 1, room)?;
+        if self.has_word_at(at, ReservedWord::Var) {
+            let ((names, written), end) = self.parse_typed_names(at + 1, room)?;
             let by_reference = true;
             return Ok((
-                Section {
+                ParameterSection {
                     by_reference,
                     names,
                     written,
@@ -40,10 +41,10 @@ impl<'t> Parser<'t> {
                 end,
             ));
         }
-        let ((names, written), end) = self.typed_names(at, room)?;
+        let ((names, written), end) = self.parse_typed_names(at, room)?;
         let by_reference = false;
         Ok((
-            Section {
+            ParameterSection {
                 by_reference,
                 names,
                 written,
@@ -55,201 +56,205 @@ impl<'t> Parser<'t> {
     /// Returns true if a section of formal parameters may begin at this token.
     fn section_may_begin(&self, at: usize) -> bool
         requires { at ≤ length self.now.tokens.now }
-        ensures { SectionMayBegin self.now.tokens.now at result }
+        ensures { TellsIfSectionMayBegin self.now.tokens.now at result }
     {
-        if self.at_name(at) {
+        if self.has_name_at(at) {
             return true;
         }
-        self.at_word(at, Reserved::Var)
+        self.has_word_at(at, ReservedWord::Var)
     }
 
     /// Parses an optional `";" section`. Returns None if no `;` comes next.
-    fn further_section(&self, at: usize, room: u32) -> ParsedItem<Section>
+    fn parse_further_section(&self, at: usize, room: u32) -> ItemResult<ParameterSection>
         requires { at ≤ length self.now.tokens.now }
         ensures { ReadsItem further_section_of room self.now.tokens.now at result }
     {
-        if !self.at_symbol(at, Symbol::Semicolon) {
+        if !self.has_symbol_at(at, Symbol::Semicolon) {
             return Ok(None);
         }
-        let (section, next) = self.section(at + 1, room)?;
+        let (section, next) = self.parse_section(at + 1, room)?;
         Ok(Some((section, next)))
     }
 
     /// Parses `section {";" section}`.
-    fn section_list(&self, at: usize, room: u32) -> Parsed<Vec<Section>>
+    fn parse_section_list(&self, at: usize, room: u32) -> ConstructResult<Vec<ParameterSection>>
         requires { at ≤ length self.now.tokens.now }
         ensures { ReadsList section_of further_section_of room self.now.tokens.now at result }
     {
         let mut sections = Vec::new(self.alloc);
-        let (first, mut next) = self.section(at, room)?;
-        add(&mut sections, first)?;
-        while let Some((section, end)) = self.further_section(next, room)? {
-            add(&mut sections, section)?;
+        let (first, mut next) = self.parse_section(at, room)?;
+        push_doubling(&mut sections, first)?;
+        while let Some((section, end)) = self.parse_further_section(next, room)? {
+            push_doubling(&mut sections, section)?;
             next = end;
         }
         Ok((sections, next))
     }
 
     /// Parses `"(" [section {";" section}] ")"`.
-    fn formals(&self, at: usize, room: u32) -> Parsed<Option<Vec<Section>>>
+    fn parse_formals(&self, at: usize, room: u32) -> ConstructResult<Option<Vec<ParameterSection>>>
         requires { at ≤ length self.now.tokens.now }
         ensures { Reads formals_of room self.now.tokens.now at result }
     {
-        if !self.at_symbol(at, Symbol::LeftParen) {
+        if !self.has_symbol_at(at, Symbol::LeftParen) {
             return Ok((None, at));
         }
         if !self.section_may_begin(at + 1) {
             let end = self.expect_symbol(at + 1, Symbol::RightParen)?;
             return Ok((Some(Vec::new(self.alloc)), end));
         }
-        let (sections, next) = self.section_list(at + 1, room)?;
+        let (sections, next) = self.parse_section_list(at + 1, room)?;
         let end = self.expect_symbol(next, Symbol::RightParen)?;
         Ok((Some(sections), end))
     }
 
     /// Parses `[CONST {constant}]`.
-    pub fn constants(&self, at: usize, room: u32) -> Parsed<Option<Vec<Constant>>>
+    pub fn parse_constants(&self, at: usize, room: u32) -> ConstructResult<Option<Vec<Constant>>>
         requires { at ≤ length self.now.tokens.now }
         ensures { Reads constants_of room self.now.tokens.now at result }
     {
-        if !self.at_word(at, Reserved::Const) {
+        if !self.has_word_at(at, ReservedWord::Const) {
             return Ok((None, at));
         }
-        let (constants, next) = self.constant_list(at + 1, room)?;
+        let (constants, next) = self.parse_constant_list(at + 1, room)?;
         Ok((Some(constants), next))
     }
 
-    /// Parses `{identifier "=" expression ";"}`.
-    fn constant_list(&self, at: usize, room: u32) -> Parsed<Vec<Constant>>
+    /// Parses `{expect_identifier "=" expression ";"}`.
+    fn parse_constant_list(&self, at: usize, room: u32) -> ConstructResult<Vec<Constant>>
         requires { at ≤ length self.now.tokens.now }
-        ensures { Reads constants_in room self.now.tokens.now at result }
+        ensures { Reads constants_of_vec room self.now.tokens.now at result }
     {
         let mut constants = Vec::new(self.alloc);
         let mut next = at;
-        while let Some((constant, end)) = self.constant(next, room)? {
-            add(&mut constants, constant)?;
+        while let Some((constant, end)) = self.parse_constant(next, room)? {
+            push_doubling(&mut constants, constant)?;
             next = end;
         }
         Ok((constants, next))
     }
 
-    /// Parses an optional `identifier "=" expression ";"`. Returns None if no identifier comes
+    /// Parses an optional `expect_identifier "=" expression ";"`. Returns None if no identifier comes
     /// next.
-    fn constant(&self, at: usize, room: u32) -> ParsedItem<Constant>
+    fn parse_constant(&self, at: usize, room: u32) -> ItemResult<Constant>
         requires { at ≤ length self.now.tokens.now }
         ensures { ReadsItem constant_of room self.now.tokens.now at result }
     {
-        if !self.at_name(at) {
+        if !self.has_name_at(at) {
             return Ok(None);
         }
         let start = self.expect_symbol(at + 1, Symbol::Equal)?;
-        let (value, next) = self.expression(start, room)?;
+        let (value, next) = self.parse_expression(start, room)?;
         let end = self.expect_symbol(next, Symbol::Semicolon)?;
         Ok(Some((Constant { name: at, value }, end)))
     }
 
     /// Parses `[TYPE {type declaration}]`.
-    pub fn types(&self, at: usize, room: u32) -> Parsed<Option<Vec<TypeDeclaration>>>
+    pub fn parse_types(&self, at: usize, room: u32) -> ConstructResult<Option<Vec<TypeDeclaration>>>
         requires { at ≤ length self.now.tokens.now }
         ensures { Reads types_of room self.now.tokens.now at result }
     {
-        if !self.at_word(at, Reserved::Type) {
+        if !self.has_word_at(at, ReservedWord::Type) {
             return Ok((None, at));
         }
-        let (types, next) = self.type_list(at + 1, room)?;
+        let (types, next) = self.parse_type_list(at + 1, room)?;
         Ok((Some(types), next))
     }
 
-    /// Parses `{identifier "=" type ";"}`.
-    fn type_list(&self, at: usize, room: u32) -> Parsed<Vec<TypeDeclaration>>
+    /// Parses `{expect_identifier "=" type ";"}`.
+    fn parse_type_list(&self, at: usize, room: u32) -> ConstructResult<Vec<TypeDeclaration>>
         requires { at ≤ length self.now.tokens.now }
-        ensures { Reads types_in room self.now.tokens.now at result }
+        ensures { Reads types_of_vec room self.now.tokens.now at result }
     {
         let mut types = Vec::new(self.alloc);
         let mut next = at;
-        while let Some((declaration, end)) = self.type_declaration(next, room)? {
-            add(&mut types, declaration)?;
+        while let Some((declaration, end)) = self.parse_type_declaration(next, room)? {
+            push_doubling(&mut types, declaration)?;
             next = end;
         }
         Ok((types, next))
     }
 
-    /// Parses an optional `identifier "=" type ";"`. Returns None if no identifier comes next.
-    fn type_declaration(&self, at: usize, room: u32) -> ParsedItem<TypeDeclaration>
+    /// Parses an optional `expect_identifier "=" type ";"`. Returns None if no identifier comes next.
+    fn parse_type_declaration(&self, at: usize, room: u32) -> ItemResult<TypeDeclaration>
         requires { at ≤ length self.now.tokens.now }
         ensures { ReadsItem type_declaration_of room self.now.tokens.now at result }
     {
-        if !self.at_name(at) {
+        if !self.has_name_at(at) {
             return Ok(None);
         }
         let start = self.expect_symbol(at + 1, Symbol::Equal)?;
-        let (written, next) = self.written_type(start, room)?;
+        let (written, next) = self.parse_type(start, room)?;
         let end = self.expect_symbol(next, Symbol::Semicolon)?;
         Ok(Some((TypeDeclaration { name: at, written }, end)))
     }
 
     /// Parses `[VAR {variables}]`.
-    pub fn variables(&self, at: usize, room: u32) -> Parsed<Option<Vec<Variables>>>
+    pub fn parse_variables(
+        &self,
+        at: usize,
+        room: u32,
+    ) -> ConstructResult<Option<Vec<VariableDeclaration>>>
         requires { at ≤ length self.now.tokens.now }
         ensures { Reads variables_of room self.now.tokens.now at result }
     {
-        if !self.at_word(at, Reserved::Var) {
+        if !self.has_word_at(at, ReservedWord::Var) {
             return Ok((None, at));
         }
-        let (variables, next) = self.variable_list(at + 1, room)?;
+        let (variables, next) = self.parse_variable_list(at + 1, room)?;
         Ok((Some(variables), next))
     }
 
     /// Parses `{names ":" type ";"}`.
-    fn variable_list(&self, at: usize, room: u32) -> Parsed<Vec<Variables>>
+    fn parse_variable_list(&self, at: usize, room: u32) -> ConstructResult<Vec<VariableDeclaration>>
         requires { at ≤ length self.now.tokens.now }
-        ensures { Reads variables_in room self.now.tokens.now at result }
+        ensures { Reads variables_of_vec room self.now.tokens.now at result }
     {
         let mut variables = Vec::new(self.alloc);
         let mut next = at;
-        while let Some((declared, end)) = self.variable(next, room)? {
-            add(&mut variables, declared)?;
+        while let Some((declared, end)) = self.parse_variable(next, room)? {
+            push_doubling(&mut variables, declared)?;
             next = end;
         }
         Ok((variables, next))
     }
 
     /// Parses an optional `names ":" type ";"`. Returns None if no identifier comes next.
-    fn variable(&self, at: usize, room: u32) -> ParsedItem<Variables>
+    fn parse_variable(&self, at: usize, room: u32) -> ItemResult<VariableDeclaration>
         requires { at ≤ length self.now.tokens.now }
         ensures { ReadsItem variable_of room self.now.tokens.now at result }
     {
-        if !self.at_name(at) {
+        if !self.has_name_at(at) {
             return Ok(None);
         }
-        let ((names, written), next) = self.typed_names(at, room)?;
+        let ((names, written), next) = self.parse_typed_names(at, room)?;
         let end = self.expect_symbol(next, Symbol::Semicolon)?;
-        Ok(Some((Variables { names, written }, end)))
+        Ok(Some((VariableDeclaration { names, written }, end)))
     }
 
     /// Parses `[BEGIN sequence]`.
-    pub fn body(&self, at: usize, room: u32) -> Parsed<Option<Vec<Statement>>>
+    pub fn parse_body(&self, at: usize, room: u32) -> ConstructResult<Option<Vec<Statement>>>
         requires { at ≤ length self.now.tokens.now }
         ensures { Reads body_of room self.now.tokens.now at result }
     {
-        if !self.at_word(at, Reserved::Begin) {
+        if !self.has_word_at(at, ReservedWord::Begin) {
             return Ok((None, at));
         }
-        let (statements, next) = self.sequence(at + 1, room)?;
+        let (statements, next) = self.parse_sequence(at + 1, room)?;
         Ok((Some(statements), next))
     }
 
     /// Parses a block: declarations and an optional body.
     #[cycle(blocks)]
-    fn block(&self, at: usize, room: u32) -> Parsed<Block>
+    fn parse_block(&self, at: usize, room: u32) -> ConstructResult<Block>
         requires { at ≤ length self.now.tokens.now }
         ensures { Reads block_of room self.now.tokens.now at result }
     {
-        let (constants, next) = self.constants(at, room)?;
-        let (types, next) = self.types(next, room)?;
-        let (variables, next) = self.variables(next, room)?;
-        let (procedures, next) = self.procedures(next, room)?;
-        let (body, next) = self.body(next, room)?;
+        let (constants, next) = self.parse_constants(at, room)?;
+        let (types, next) = self.parse_types(next, room)?;
+        let (variables, next) = self.parse_variables(next, room)?;
+        let (procedures, next) = self.parse_procedures(next, room)?;
+        let (body, next) = self.parse_body(next, room)?;
         Ok((
             Block {
                 constants,
@@ -264,36 +269,36 @@ impl<'t> Parser<'t> {
 
     /// Parses `{procedure ";"}`.
     #[cycle(blocks)]
-    fn procedures(&self, at: usize, room: u32) -> Parsed<Vec<Procedure>>
+    fn parse_procedures(&self, at: usize, room: u32) -> ConstructResult<Vec<Procedure>>
         requires { at ≤ length self.now.tokens.now }
-        ensures { Reads procedures_in room self.now.tokens.now at result }
+        ensures { Reads procedures_of_vec room self.now.tokens.now at result }
     {
         let mut procedures = Vec::new(self.alloc);
         let mut next = at;
-        while let Some((procedure, end)) = self.procedure(next, room)? {
-            add(&mut procedures, procedure)?;
+        while let Some((procedure, end)) = self.parse_procedure(next, room)? {
+            push_doubling(&mut procedures, procedure)?;
             next = end;
         }
         Ok((procedures, next))
     }
 
-    /// Parses an optional `PROCEDURE identifier [formals] ";" block END identifier ";"`. Returns
+    /// Parses an optional `PROCEDURE expect_identifier [formals] ";" block END expect_identifier ";"`. Returns
     /// None if PROCEDURE doesn't come next.
     #[cycle(blocks)]
-    pub fn procedure(&self, at: usize, room: u32) -> ParsedItem<Procedure>
+    pub fn parse_procedure(&self, at: usize, room: u32) -> ItemResult<Procedure>
         requires { at ≤ length self.now.tokens.now }
         ensures { ReadsItem procedure_of room self.now.tokens.now at result }
     {
-        if !self.at_word(at, Reserved::Procedure) {
+        if !self.has_word_at(at, ReservedWord::Procedure) {
             return Ok(None);
         }
         let inner = levels_inside(at, room)?;
-        let (name, next) = self.identifier(at + 1)?;
-        let (formals, next) = self.formals(next, inner)?;
+        let (name, next) = self.expect_identifier(at + 1)?;
+        let (formals, next) = self.parse_formals(next, inner)?;
         let start = self.expect_symbol(next, Symbol::Semicolon)?;
-        let (block, next) = self.block(start, inner)?;
-        let last = self.expect_word(next, Reserved::End)?;
-        let (closing, next) = self.identifier(last)?;
+        let (block, next) = self.parse_block(start, inner)?;
+        let last = self.expect_word(next, ReservedWord::End)?;
+        let (closing, next) = self.expect_identifier(last)?;
         let end = self.expect_symbol(next, Symbol::Semicolon)?;
         Ok(Some((
             Procedure {

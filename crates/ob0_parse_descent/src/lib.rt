@@ -10,6 +10,6 @@ mod refusal;
 mod statements;
 mod types;
 
-pub use growth::add;
-pub use parser::{Parsed, ParsedItem, Parser, missing};
+pub use growth::push_doubling;
+pub use parser::{ConstructResult, ItemResult, Parser, syntax_error};
 pub use refusal::{Expected, ParseRefusal};

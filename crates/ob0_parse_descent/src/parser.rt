@@ -5,45 +5,45 @@
 ghost use Rattle.std.specs.Prelude.{true, ◌≡◌, ◌+◌, ◌<◌, ◌≤◌, ◌∷◌, length, IfSome, IfNone, IfOk, IfErr};
 ghost use Rattle.ob0_scan.specs.declared.lexeme.TokenKind.TheVariants as kind;
 ghost use Rattle.ob0_scan.specs.declared.lexeme.Symbol.TheVariants as symbol;
-ghost use Rattle.ob0_tree.specs.Lexeme.{add_mark, multiply_mark, relation_mark};
+ghost use Rattle.ob0_tree.specs.Lexeme.{add_operator_token, multiply_operator_token, relation_token};
 ghost use Rattle.ob0_tree.specs.Tree.{then_name, compares, none};
 ghost use Rattle.ob0_tree.specs.View.{names_of, expression_of, comparison_of, simple_of, addend_of, term_of, multiplier_of, factor_of, selector_of};
-ghost use Rattle.ob0_parse_descent.specs.Follow.{binding};
-ghost use Rattle.ob0_parse_descent.specs.Reading.{lexeme_at, rest, Reads, ReadsItem, ReadsToken, ReadsName, TokenIs, NameIs, SignTaken, ReadsDesignator, IsMarkOf, IsLone, Opens};
+ghost use Rattle.ob0_parse_descent.specs.Follow.{binding_strength};
+ghost use Rattle.ob0_parse_descent.specs.Reading.{terminal_or_end, rest, Reads, ReadsItem, ReadsToken, ReadsName, TellsIfTokenAt, TellsIfNameAt, IsSignAt, ReadsDesignator, IsOperatorOf, IsSingleTokenFactor, OpensLevel};
 ghost use Rattle.ob0_parse_descent.specs.declared.refusal.Expected.TheVariants as expected;
 ghost use Rattle.ob0_parse_descent.specs.declared.refusal.ParseRefusal.TheVariants.{Syntax};
 
-use crate::growth::add;
+use crate::growth::push_doubling;
 use crate::refusal::{Expected, ParseRefusal};
-use ob0_scan::{Reserved, Symbol, Token, TokenKind};
+use ob0_scan::{ReservedWord, Symbol, Token, TokenKind};
 use ob0_tree::{
-    AddOperator, Addend, Comparison, Compound, Designator, Expression, Factor, Multiplier,
-    MultiplyOperator, Names, Relation, Selector, Sign, Simple, Term,
+    AddOperator, Addend, Comparison, CompoundExpression, Designator, Expression, Factor,
+    Multiplier, MultiplyOperator, Names, Relation, Selector, Sign, SimpleExpression, Term,
 };
 use std::alloc::{AllocError, Global};
 
-/// The strength with which a selector binds the operand before it (see `binding`). A smaller number
+/// The strength with which a selector binds the operand before it (see `binding_strength`). A smaller number
 /// binds more strongly.
-const BY_SELECTOR: u8 = 1;
+const SELECTOR_STRENGTH: u8 = 1;
 
 /// The strength with which `*`, DIV, MOD and `&` bind the operand before them.
-const BY_MULTIPLICATION: u8 = 2;
+const MULTIPLICATION_STRENGTH: u8 = 2;
 
 /// The strength with which `+`, `-` and OR bind the operand before them.
-const BY_ADDITION: u8 = 3;
+const ADDITION_STRENGTH: u8 = 3;
 
 /// The strength with which a relation binds the operand before it.
-const BY_COMPARISON: u8 = 4;
+const COMPARISON_STRENGTH: u8 = 4;
 
 /// The strength of all other tokens, which bind no operand before them.
-const NOT_AT_ALL: u8 = 5;
+const WEAKEST_STRENGTH: u8 = 5;
 
 /// A parsed construct with the index of the token after it, or the refusal.
-pub type Parsed<T> = Result<(T, usize), ParseRefusal>;
+pub type ConstructResult<T> = Result<(T, usize), ParseRefusal>;
 
 /// A parsed item with the index of the token after it, None if no such item begins at the token, or
 /// the refusal.
-pub type ParsedItem<T> = Result<Option<(T, usize)>, ParseRefusal>;
+pub type ItemResult<T> = Result<Option<(T, usize)>, ParseRefusal>;
 
 /// The parser: the tokens to parse, and the allocator for the trees.
 #[derive(Clone, Copy)]
@@ -57,7 +57,7 @@ impl<'t> Parser<'t> {
     pub fn kind(&self, at: usize) -> Option<TokenKind>
         requires { at ≤ length self.now.tokens.now }
         ensures here { rest self.now.tokens.now at
-            ≡ lexeme_at at result ∷ rest self.now.tokens.now (at + 1) }
+            ≡ terminal_or_end at result ∷ rest self.now.tokens.now (at + 1) }
         ensures within { IfSome result (λ _. at < length self.now.tokens.now) }
         ensures end { IfNone result (at ≡ length self.now.tokens.now) }
     {
@@ -69,31 +69,31 @@ impl<'t> Parser<'t> {
     }
 
     /// Returns true if the token at `at` is this reserved word.
-    pub(crate) fn at_word(&self, at: usize, word: Reserved) -> bool
+    pub(crate) fn has_word_at(&self, at: usize, word: ReservedWord) -> bool
         requires { at ≤ length self.now.tokens.now }
-        ensures { TokenIs (kind.Reserved word) self.now.tokens.now at result }
+        ensures { TellsIfTokenAt (kind.ReservedWord word) self.now.tokens.now at result }
     {
-        self.kind(at) == Some(TokenKind::Reserved(word))
+        self.kind(at) == Some(TokenKind::ReservedWord(word))
     }
 
     /// Returns true if the token at `at` is this symbol.
-    pub(crate) fn at_symbol(&self, at: usize, symbol: Symbol) -> bool
+    pub(crate) fn has_symbol_at(&self, at: usize, symbol: Symbol) -> bool
         requires { at ≤ length self.now.tokens.now }
-        ensures { TokenIs (kind.Symbol symbol) self.now.tokens.now at result }
+        ensures { TellsIfTokenAt (kind.Symbol symbol) self.now.tokens.now at result }
     {
         self.kind(at) == Some(TokenKind::Symbol(symbol))
     }
 
     /// Returns the index after this reserved word. If another token is at `at`, returns a syntax
     /// error.
-    pub fn expect_word(&self, at: usize, word: Reserved) -> Result<usize, ParseRefusal>
+    pub fn expect_word(&self, at: usize, word: ReservedWord) -> Result<usize, ParseRefusal>
         requires { at ≤ length self.now.tokens.now }
-        ensures { ReadsToken (kind.Reserved word) self.now.tokens.now at result }
+        ensures { ReadsToken (kind.ReservedWord word) self.now.tokens.now at result }
     {
-        if self.at_word(at, word) {
+        if self.has_word_at(at, word) {
             Ok(at + 1)
         } else {
-            missing(at, Expected::Word(word))
+            syntax_error(at, Expected::Word(word))
         }
     }
 
@@ -102,57 +102,57 @@ impl<'t> Parser<'t> {
         requires { at ≤ length self.now.tokens.now }
         ensures { ReadsToken (kind.Symbol symbol) self.now.tokens.now at result }
     {
-        if self.at_symbol(at, symbol) {
+        if self.has_symbol_at(at, symbol) {
             Ok(at + 1)
         } else {
-            missing(at, Expected::Symbol(symbol))
+            syntax_error(at, Expected::Symbol(symbol))
         }
     }
 
     /// Returns the index of the identifier at `at` and the index after it. If another token is at
     /// `at`, returns a syntax error.
-    pub fn identifier(&self, at: usize) -> Parsed<usize>
+    pub fn expect_identifier(&self, at: usize) -> ConstructResult<usize>
         requires { at ≤ length self.now.tokens.now }
         ensures { ReadsName self.now.tokens.now at result }
     {
-        if self.at_name(at) {
+        if self.has_name_at(at) {
             Ok((at, at + 1))
         } else {
-            missing(at, Expected::Identifier)
+            syntax_error(at, Expected::Identifier)
         }
     }
 
     /// Returns true if the token at `at` is an identifier.
-    pub(crate) fn at_name(&self, at: usize) -> bool
+    pub(crate) fn has_name_at(&self, at: usize) -> bool
         requires { at ≤ length self.now.tokens.now }
-        ensures { NameIs self.now.tokens.now at result }
+        ensures { TellsIfNameAt self.now.tokens.now at result }
     {
         self.kind(at) == Some(TokenKind::Identifier)
     }
 
-    /// Parses an optional `"," identifier`. Returns None if no comma comes next.
-    fn further_name(&self, at: usize) -> ParsedItem<usize>
+    /// Parses an optional `"," expect_identifier`. Returns None if no comma comes next.
+    fn parse_further_name(&self, at: usize) -> ItemResult<usize>
         requires { at ≤ length self.now.tokens.now }
         ensures read { ReadsItem then_name 0 self.now.tokens.now at result }
         ensures refusal { IfErr result (λ e. e ≡ Syntax (at + 1) expected.Identifier) }
     {
-        if self.at_symbol(at, Symbol::Comma) {
-            let (name, next) = self.identifier(at + 1)?;
+        if self.has_symbol_at(at, Symbol::Comma) {
+            let (name, next) = self.expect_identifier(at + 1)?;
             Ok(Some((name, next)))
         } else {
             Ok(None)
         }
     }
 
-    /// Parses `identifier {"," identifier}`.
-    pub(crate) fn names(&self, at: usize) -> Parsed<Names>
+    /// Parses `expect_identifier {"," expect_identifier}`.
+    pub(crate) fn parse_names(&self, at: usize) -> ConstructResult<Names>
         requires { at ≤ length self.now.tokens.now }
         ensures { Reads names_of 0 self.now.tokens.now at result }
     {
-        let (first, mut next) = self.identifier(at)?;
+        let (first, mut next) = self.expect_identifier(at)?;
         let mut more = Vec::new(self.alloc);
-        while let Some((name, end)) = self.further_name(next)? {
-            add(&mut more, name)?;
+        while let Some((name, end)) = self.parse_further_name(next)? {
+            push_doubling(&mut more, name)?;
             next = end;
         }
         Ok((Names { first, more }, next))
@@ -162,12 +162,12 @@ impl<'t> Parser<'t> {
     /// directly.
     #[cycle(expressions)]
     #[inline(always)]
-    pub(crate) fn expression(&self, at: usize, room: u32) -> Parsed<Expression>
+    pub(crate) fn parse_expression(&self, at: usize, room: u32) -> ConstructResult<Expression>
         requires { at ≤ length self.now.tokens.now }
         ensures { Reads expression_of room self.now.tokens.now at result }
     {
-        let Some(factor) = self.lone(at, BY_COMPARISON) else {
-            return self.sides(at, room);
+        let Some(factor) = self.single_token_factor(at, COMPARISON_STRENGTH) else {
+            return self.parse_expression_parts(at, room);
         };
         Ok((Expression::Factor(factor), at + 1))
     }
@@ -175,25 +175,25 @@ impl<'t> Parser<'t> {
     /// Parses an expression, `simple [relation simple]`, by its parts.
     #[cycle(expressions)]
     #[inline(never)]
-    fn sides(&self, at: usize, room: u32) -> Parsed<Expression>
+    fn parse_expression_parts(&self, at: usize, room: u32) -> ConstructResult<Expression>
         requires { at ≤ length self.now.tokens.now }
         ensures { Reads expression_of room self.now.tokens.now at result }
     {
-        let (left, next) = self.side(at, room)?;
-        let Some((comparison, end)) = self.comparison(next, room)? else {
-            let lone = self.lone_side(left)?;
+        let (left, next) = self.parse_simple_fast(at, room)?;
+        let Some((comparison, end)) = self.parse_comparison(next, room)? else {
+            let lone = self.expression_without_relation(left)?;
             return Ok((lone, next));
         };
         let boxed = Box::new(self.alloc, comparison)?;
         let compared = Some(boxed);
-        let compound = Box::new(self.alloc, Compound { left, compared })?;
-        Ok((Expression::Compound(compound), end))
+        let compound = Box::new(self.alloc, CompoundExpression { left, compared })?;
+        Ok((Expression::CompoundExpression(compound), end))
     }
 
     /// Returns the expression that consists only of this simple expression, without a relation. If
     /// it is a single factor, the factor isn't boxed.
     #[inline(always)]
-    fn lone_side(&self, side: Simple) -> Result<Expression, AllocError>
+    fn expression_without_relation(&self, side: SimpleExpression) -> Result<Expression, AllocError>
         ensures { IfOk result (λ e. expression_of e ≡ compares (simple_of side) none) }
     {
         if side.sign.is_none() && side.first.more.is_empty() && side.more.is_empty() {
@@ -201,17 +201,17 @@ impl<'t> Parser<'t> {
         }
         let compound = Box::new(
             self.alloc,
-            Compound {
+            CompoundExpression {
                 left: side,
                 compared: None,
             },
         )?;
-        Ok(Expression::Compound(compound))
+        Ok(Expression::CompoundExpression(compound))
     }
 
     /// Parses an optional `relation simple`. Returns None if no relation comes next.
     #[cycle(expressions)]
-    fn comparison(&self, at: usize, room: u32) -> ParsedItem<Comparison>
+    fn parse_comparison(&self, at: usize, room: u32) -> ItemResult<Comparison>
         requires { at ≤ length self.now.tokens.now }
         ensures { ReadsItem comparison_of room self.now.tokens.now at result }
     {
@@ -221,7 +221,7 @@ impl<'t> Parser<'t> {
         let Some(relation) = relation_of(kind) else {
             return Ok(None);
         };
-        let (right, next) = self.side(at + 1, room)?;
+        let (right, next) = self.parse_simple_fast(at + 1, room)?;
         Ok(Some((Comparison { relation, right }, next)))
     }
 
@@ -229,17 +229,17 @@ impl<'t> Parser<'t> {
     /// an identifier nor an integer. Also returns None if the next token binds it with the strength
     /// `level` or more strongly.
     #[inline(always)]
-    fn lone(&self, at: usize, level: u8) -> Option<Factor>
+    fn single_token_factor(&self, at: usize, level: u8) -> Option<Factor>
         requires within { at ≤ length self.now.tokens.now }
-        requires level { BY_SELECTOR ≤ level }
+        requires level { SELECTOR_STRENGTH ≤ level }
         ensures within { IfSome result (λ _. at < length self.now.tokens.now) }
-        ensures alone { IfSome result (λ f. IsLone level (factor_of f) self.now.tokens.now at) }
+        ensures alone { IfSome result (λ f. IsSingleTokenFactor level (factor_of f) self.now.tokens.now at) }
     {
         let Some(kind) = self.kind(at) else {
             return None;
         };
         let next = self.kind(at + 1);
-        let bound = binding(next);
+        let bound = binding_strength(next);
         if bound <= level {
             return None;
         }
@@ -259,12 +259,12 @@ impl<'t> Parser<'t> {
     /// Parses a simple expression. If it is a single token, its tree is made directly.
     #[cycle(expressions)]
     #[inline(always)]
-    fn side(&self, at: usize, room: u32) -> Parsed<Simple>
+    fn parse_simple_fast(&self, at: usize, room: u32) -> ConstructResult<SimpleExpression>
         requires { at ≤ length self.now.tokens.now }
         ensures { Reads simple_of room self.now.tokens.now at result }
     {
-        let Some(factor) = self.lone(at, BY_ADDITION) else {
-            return self.simple(at, room);
+        let Some(factor) = self.single_token_factor(at, ADDITION_STRENGTH) else {
+            return self.parse_simple(at, room);
         };
         let multipliers = Vec::new(self.alloc);
         let addends = Vec::new(self.alloc);
@@ -273,7 +273,7 @@ impl<'t> Parser<'t> {
             more: multipliers,
         };
         Ok((
-            Simple {
+            SimpleExpression {
                 sign: None,
                 first,
                 more: addends,
@@ -285,12 +285,12 @@ impl<'t> Parser<'t> {
     /// Parses a term. If it is a single token, its tree is made directly.
     #[cycle(expressions)]
     #[inline(always)]
-    fn summand(&self, at: usize, room: u32) -> Parsed<Term>
+    fn parse_term_fast(&self, at: usize, room: u32) -> ConstructResult<Term>
         requires { at ≤ length self.now.tokens.now }
         ensures { Reads term_of room self.now.tokens.now at result }
     {
-        let Some(first) = self.lone(at, BY_MULTIPLICATION) else {
-            return self.term(at, room);
+        let Some(first) = self.single_token_factor(at, MULTIPLICATION_STRENGTH) else {
+            return self.parse_term(at, room);
         };
         let more = Vec::new(self.alloc);
         Ok((Term { first, more }, at + 1))
@@ -299,12 +299,12 @@ impl<'t> Parser<'t> {
     /// Parses a factor. If it is a single token, its tree is made directly.
     #[cycle(expressions)]
     #[inline(always)]
-    fn operand(&self, at: usize, room: u32) -> Parsed<Factor>
+    fn parse_factor_fast(&self, at: usize, room: u32) -> ConstructResult<Factor>
         requires { at ≤ length self.now.tokens.now }
         ensures { Reads factor_of room self.now.tokens.now at result }
     {
-        let Some(factor) = self.lone(at, BY_SELECTOR) else {
-            return self.factor(at, room);
+        let Some(factor) = self.single_token_factor(at, SELECTOR_STRENGTH) else {
+            return self.parse_factor(at, room);
         };
         Ok((factor, at + 1))
     }
@@ -312,25 +312,25 @@ impl<'t> Parser<'t> {
     /// Parses `[sign] term {operator term}`.
     #[cycle(expressions)]
     #[inline(never)]
-    fn simple(&self, at: usize, room: u32) -> Parsed<Simple>
+    fn parse_simple(&self, at: usize, room: u32) -> ConstructResult<SimpleExpression>
         requires { at ≤ length self.now.tokens.now }
         ensures { Reads simple_of room self.now.tokens.now at result }
     {
-        let (sign, start) = self.sign(at);
-        let (first, mut next) = self.summand(start, room)?;
+        let (sign, start) = self.parse_sign(at);
+        let (first, mut next) = self.parse_term_fast(start, room)?;
         let mut more = Vec::new(self.alloc);
-        while let Some((addend, end)) = self.addend(next, room)? {
-            add(&mut more, addend)?;
+        while let Some((addend, end)) = self.parse_addend(next, room)? {
+            push_doubling(&mut more, addend)?;
             next = end;
         }
-        Ok((Simple { sign, first, more }, next))
+        Ok((SimpleExpression { sign, first, more }, next))
     }
 
     /// Returns the sign at the index `at` and the index after it. If there is no sign, returns None
     /// and `at`.
-    fn sign(&self, at: usize) -> (Option<Sign>, usize)
+    fn parse_sign(&self, at: usize) -> (Option<Sign>, usize)
         requires { at ≤ length self.now.tokens.now }
-        ensures { SignTaken self.now.tokens.now at result.0 result.1 }
+        ensures { IsSignAt self.now.tokens.now at result.0 result.1 }
     {
         match self.kind(at) {
             Some(TokenKind::Symbol(Symbol::Plus)) => (Some(Sign::Plus), at + 1),
@@ -341,7 +341,7 @@ impl<'t> Parser<'t> {
 
     /// Parses an optional `("+" | "-" | OR) term`. Returns None if no such operator comes next.
     #[cycle(expressions)]
-    fn addend(&self, at: usize, room: u32) -> ParsedItem<Addend>
+    fn parse_addend(&self, at: usize, room: u32) -> ItemResult<Addend>
         requires { at ≤ length self.now.tokens.now }
         ensures { ReadsItem addend_of room self.now.tokens.now at result }
     {
@@ -351,21 +351,21 @@ impl<'t> Parser<'t> {
         let Some(operator) = add_operator_of(kind) else {
             return Ok(None);
         };
-        let (term, next) = self.summand(at + 1, room)?;
+        let (term, next) = self.parse_term_fast(at + 1, room)?;
         Ok(Some((Addend { operator, term }, next)))
     }
 
     /// Parses `factor {operator factor}`.
     #[cycle(expressions)]
     #[inline(never)]
-    fn term(&self, at: usize, room: u32) -> Parsed<Term>
+    fn parse_term(&self, at: usize, room: u32) -> ConstructResult<Term>
         requires { at ≤ length self.now.tokens.now }
         ensures { Reads term_of room self.now.tokens.now at result }
     {
-        let (first, mut next) = self.operand(at, room)?;
+        let (first, mut next) = self.parse_factor_fast(at, room)?;
         let mut more = Vec::new(self.alloc);
-        while let Some((multiplier, end)) = self.multiplier(next, room)? {
-            add(&mut more, multiplier)?;
+        while let Some((multiplier, end)) = self.parse_multiplier(next, room)? {
+            push_doubling(&mut more, multiplier)?;
             next = end;
         }
         Ok((Term { first, more }, next))
@@ -374,7 +374,7 @@ impl<'t> Parser<'t> {
     /// Parses an optional `("*" | DIV | MOD | "&") factor`. Returns None if no such operator comes
     /// next.
     #[cycle(expressions)]
-    fn multiplier(&self, at: usize, room: u32) -> ParsedItem<Multiplier>
+    fn parse_multiplier(&self, at: usize, room: u32) -> ItemResult<Multiplier>
         requires { at ≤ length self.now.tokens.now }
         ensures { ReadsItem multiplier_of room self.now.tokens.now at result }
     {
@@ -384,44 +384,44 @@ impl<'t> Parser<'t> {
         let Some(operator) = multiply_operator_of(kind) else {
             return Ok(None);
         };
-        let (factor, next) = self.operand(at + 1, room)?;
+        let (factor, next) = self.parse_factor_fast(at + 1, room)?;
         Ok(Some((Multiplier { operator, factor }, next)))
     }
 
-    /// Parses `identifier selector | integer | "(" expression ")" | "~" factor`.
+    /// Parses `expect_identifier selector | integer | "(" expression ")" | "~" factor`.
     #[cycle(expressions)]
     #[inline(never)]
-    fn factor(&self, at: usize, room: u32) -> Parsed<Factor>
+    fn parse_factor(&self, at: usize, room: u32) -> ConstructResult<Factor>
         requires { at ≤ length self.now.tokens.now }
         ensures { Reads factor_of room self.now.tokens.now at result }
     {
-        if self.at_symbol(at, Symbol::LeftParen) {
-            return self.parenthesised_factor(at, room);
+        if self.has_symbol_at(at, Symbol::LeftParen) {
+            return self.parse_parenthesised_factor(at, room);
         }
-        if self.at_symbol(at, Symbol::Not) {
-            return self.negation(at, room);
+        if self.has_symbol_at(at, Symbol::Not) {
+            return self.parse_negation(at, room);
         }
         let Some(kind) = self.kind(at) else {
-            return missing(at, Expected::Expression);
+            return syntax_error(at, Expected::Expression);
         };
         match kind {
             TokenKind::Identifier => {
-                let (designator, next) = self.designator(at, room)?;
+                let (designator, next) = self.parse_designator(at, room)?;
                 Ok((Factor::Designator(designator), next))
             }
             TokenKind::Integer(_) => Ok((Factor::Integer(at), at + 1)),
-            _ => missing(at, Expected::Expression),
+            _ => syntax_error(at, Expected::Expression),
         }
     }
 
     /// Parses `"(" expression ")"`.
     #[cycle(expressions)]
-    fn parenthesised_factor(&self, at: usize, room: u32) -> Parsed<Factor>
-        requires { TokenIs (kind.Symbol symbol.LeftParen) self.now.tokens.now at true }
+    fn parse_parenthesised_factor(&self, at: usize, room: u32) -> ConstructResult<Factor>
+        requires { TellsIfTokenAt (kind.Symbol symbol.LeftParen) self.now.tokens.now at true }
         ensures { Reads factor_of room self.now.tokens.now at result }
     {
         let inner = levels_inside(at, room)?;
-        let (expression, next) = self.expression(at + 1, inner)?;
+        let (expression, next) = self.parse_expression(at + 1, inner)?;
         let next = self.expect_symbol(next, Symbol::RightParen)?;
         let boxed = Box::new(self.alloc, expression)?;
         Ok((Factor::Parenthesised(boxed), next))
@@ -429,45 +429,45 @@ impl<'t> Parser<'t> {
 
     /// Parses `"~" factor`.
     #[cycle(expressions)]
-    fn negation(&self, at: usize, room: u32) -> Parsed<Factor>
-        requires { TokenIs (kind.Symbol symbol.Not) self.now.tokens.now at true }
+    fn parse_negation(&self, at: usize, room: u32) -> ConstructResult<Factor>
+        requires { TellsIfTokenAt (kind.Symbol symbol.Not) self.now.tokens.now at true }
         ensures { Reads factor_of room self.now.tokens.now at result }
     {
         let inner = levels_inside(at, room)?;
-        let (factor, next) = self.factor(at + 1, inner)?;
+        let (factor, next) = self.parse_factor(at + 1, inner)?;
         let boxed = Box::new(self.alloc, factor)?;
         Ok((Factor::Not(boxed), next))
     }
 
     /// Parses a name and its selectors.
     #[cycle(expressions)]
-    pub(crate) fn designator(&self, at: usize, room: u32) -> Parsed<Designator>
+    pub(crate) fn parse_designator(&self, at: usize, room: u32) -> ConstructResult<Designator>
         requires { at ≤ length self.now.tokens.now }
         ensures { ReadsDesignator room self.now.tokens.now at result }
     {
-        let (name, mut next) = self.identifier(at)?;
+        let (name, mut next) = self.expect_identifier(at)?;
         let mut selectors = Vec::new(self.alloc);
-        while let Some((selector, end)) = self.selector(next, room)? {
-            add(&mut selectors, selector)?;
+        while let Some((selector, end)) = self.parse_selector(next, room)? {
+            push_doubling(&mut selectors, selector)?;
             next = end;
         }
         Ok((Designator { name, selectors }, next))
     }
 
-    /// Parses an optional `"." identifier | "[" expression "]"`. Returns None if neither `.` nor
+    /// Parses an optional `"." expect_identifier | "[" expression "]"`. Returns None if neither `.` nor
     /// `[` comes next.
     #[cycle(expressions)]
-    fn selector(&self, at: usize, room: u32) -> ParsedItem<Selector>
+    fn parse_selector(&self, at: usize, room: u32) -> ItemResult<Selector>
         requires { at ≤ length self.now.tokens.now }
         ensures { ReadsItem selector_of room self.now.tokens.now at result }
     {
-        if self.at_symbol(at, Symbol::Dot) {
-            let (name, next) = self.identifier(at + 1)?;
+        if self.has_symbol_at(at, Symbol::Dot) {
+            let (name, next) = self.expect_identifier(at + 1)?;
             return Ok(Some((Selector::Field(name), next)));
         }
-        if self.at_symbol(at, Symbol::LeftBracket) {
+        if self.has_symbol_at(at, Symbol::LeftBracket) {
             let inner = levels_inside(at, room)?;
-            let (index, next) = self.expression(at + 1, inner)?;
+            let (index, next) = self.parse_expression(at + 1, inner)?;
             let next = self.expect_symbol(next, Symbol::RightBracket)?;
             return Ok(Some((Selector::Index(index), next)));
         }
@@ -478,32 +478,32 @@ impl<'t> Parser<'t> {
 /// Returns the strength with which the token `next` binds the operand before it. A smaller number
 /// binds more strongly.
 #[inline(always)]
-fn binding(next: Option<TokenKind>) -> u8
-    ensures { result ≡ binding next }
+fn binding_strength(next: Option<TokenKind>) -> u8
+    ensures { result ≡ binding_strength next }
 {
     match next {
-        Some(TokenKind::Symbol(Symbol::Dot)) => BY_SELECTOR,
-        Some(TokenKind::Symbol(Symbol::LeftBracket)) => BY_SELECTOR,
-        Some(TokenKind::Symbol(Symbol::Times)) => BY_MULTIPLICATION,
-        Some(TokenKind::Symbol(Symbol::And)) => BY_MULTIPLICATION,
-        Some(TokenKind::Reserved(Reserved::Div)) => BY_MULTIPLICATION,
-        Some(TokenKind::Reserved(Reserved::Mod)) => BY_MULTIPLICATION,
-        Some(TokenKind::Symbol(Symbol::Plus)) => BY_ADDITION,
-        Some(TokenKind::Symbol(Symbol::Minus)) => BY_ADDITION,
-        Some(TokenKind::Reserved(Reserved::Or)) => BY_ADDITION,
-        Some(TokenKind::Symbol(Symbol::Equal)) => BY_COMPARISON,
-        Some(TokenKind::Symbol(Symbol::NotEqual)) => BY_COMPARISON,
-        Some(TokenKind::Symbol(Symbol::Less)) => BY_COMPARISON,
-        Some(TokenKind::Symbol(Symbol::LessEqual)) => BY_COMPARISON,
-        Some(TokenKind::Symbol(Symbol::Greater)) => BY_COMPARISON,
-        Some(TokenKind::Symbol(Symbol::GreaterEqual)) => BY_COMPARISON,
-        _ => NOT_AT_ALL,
+        Some(TokenKind::Symbol(Symbol::Dot)) => SELECTOR_STRENGTH,
+        Some(TokenKind::Symbol(Symbol::LeftBracket)) => SELECTOR_STRENGTH,
+        Some(TokenKind::Symbol(Symbol::Times)) => MULTIPLICATION_STRENGTH,
+        Some(TokenKind::Symbol(Symbol::And)) => MULTIPLICATION_STRENGTH,
+        Some(TokenKind::ReservedWord(ReservedWord::Div)) => MULTIPLICATION_STRENGTH,
+        Some(TokenKind::ReservedWord(ReservedWord::Mod)) => MULTIPLICATION_STRENGTH,
+        Some(TokenKind::Symbol(Symbol::Plus)) => ADDITION_STRENGTH,
+        Some(TokenKind::Symbol(Symbol::Minus)) => ADDITION_STRENGTH,
+        Some(TokenKind::ReservedWord(ReservedWord::Or)) => ADDITION_STRENGTH,
+        Some(TokenKind::Symbol(Symbol::Equal)) => COMPARISON_STRENGTH,
+        Some(TokenKind::Symbol(Symbol::NotEqual)) => COMPARISON_STRENGTH,
+        Some(TokenKind::Symbol(Symbol::Less)) => COMPARISON_STRENGTH,
+        Some(TokenKind::Symbol(Symbol::LessEqual)) => COMPARISON_STRENGTH,
+        Some(TokenKind::Symbol(Symbol::Greater)) => COMPARISON_STRENGTH,
+        Some(TokenKind::Symbol(Symbol::GreaterEqual)) => COMPARISON_STRENGTH,
+        _ => WEAKEST_STRENGTH,
     }
 }
 
 /// Returns the relation that a token of this kind spells, or None if it spells no relation.
 fn relation_of(kind: TokenKind) -> Option<Relation>
-    ensures { IsMarkOf relation_mark BY_COMPARISON kind result }
+    ensures { IsOperatorOf relation_token COMPARISON_STRENGTH kind result }
 {
     match kind {
         TokenKind::Symbol(Symbol::Equal) => Some(Relation::Equal),
@@ -518,31 +518,31 @@ fn relation_of(kind: TokenKind) -> Option<Relation>
 
 /// Returns the operator if a token of this kind is `+`, `-` or OR, otherwise None.
 fn add_operator_of(kind: TokenKind) -> Option<AddOperator>
-    ensures { IsMarkOf add_mark BY_ADDITION kind result }
+    ensures { IsOperatorOf add_operator_token ADDITION_STRENGTH kind result }
 {
     match kind {
         TokenKind::Symbol(Symbol::Plus) => Some(AddOperator::Add),
         TokenKind::Symbol(Symbol::Minus) => Some(AddOperator::Subtract),
-        TokenKind::Reserved(Reserved::Or) => Some(AddOperator::Or),
+        TokenKind::ReservedWord(ReservedWord::Or) => Some(AddOperator::Or),
         _ => None,
     }
 }
 
 /// Returns the operator if a token of this kind is `*`, DIV, MOD or `&`, otherwise None.
 fn multiply_operator_of(kind: TokenKind) -> Option<MultiplyOperator>
-    ensures { IsMarkOf multiply_mark BY_MULTIPLICATION kind result }
+    ensures { IsOperatorOf multiply_operator_token MULTIPLICATION_STRENGTH kind result }
 {
     match kind {
         TokenKind::Symbol(Symbol::Times) => Some(MultiplyOperator::Multiply),
-        TokenKind::Reserved(Reserved::Div) => Some(MultiplyOperator::Divide),
-        TokenKind::Reserved(Reserved::Mod) => Some(MultiplyOperator::Modulo),
+        TokenKind::ReservedWord(ReservedWord::Div) => Some(MultiplyOperator::Divide),
+        TokenKind::ReservedWord(ReservedWord::Mod) => Some(MultiplyOperator::Modulo),
         TokenKind::Symbol(Symbol::And) => Some(MultiplyOperator::And),
         _ => None,
     }
 }
 
 /// Returns a syntax error: `expected` is expected at the token with this index.
-pub fn missing<T>(token: usize, expected: Expected) -> Result<T, ParseRefusal>
+pub fn syntax_error<T>(token: usize, expected: Expected) -> Result<T, ParseRefusal>
     ensures { result ≡ Err (Syntax token expected) }
 {
     Err(ParseRefusal::Syntax { token, expected })
@@ -551,7 +551,7 @@ pub fn missing<T>(token: usize, expected: Expected) -> Result<T, ParseRefusal>
 /// Returns the number of nesting levels left inside the construct that the token at `at` opens. If
 /// no level is left for that construct, returns `TooDeep`.
 pub(crate) fn levels_inside(at: usize, room: u32) -> Result<u32, ParseRefusal>
-    ensures { Opens at room result }
+    ensures { OpensLevel at room result }
 {
     if room == 0 {
         Err(ParseRefusal::TooDeep { token: at })

@@ -3,7 +3,7 @@
 ghost use Rattle.std.specs.Prelude.{◌≡◌};
 ghost use Rattle.ob0_parse_descent.specs.declared.refusal.ParseRefusal.TheVariants.{Memory};
 
-use ob0_scan::{Reserved, Symbol};
+use ob0_scan::{ReservedWord, Symbol};
 use std::alloc::{AllocError, AllocFailed};
 use thiserror::Error;
 
@@ -14,7 +14,7 @@ pub enum Expected {
     Expression,
     Identifier,
     EndOfText,
-    Word(Reserved),
+    Word(ReservedWord),
     Symbol(Symbol),
 }
 

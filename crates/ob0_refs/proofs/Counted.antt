@@ -1,11 +1,11 @@
 -- The number of fields of a record in the table is the number of fields of its shape.
 use Rattle.std.proofs.Common.{◌≡◌, List, [], ◌∷◌, length, refl, arith}
-use Rattle.ob0_refs.specs.Hovers.{fields_count}
-use Rattle.ob0_types_table.specs.Tables.{fields_shape}
+use Rattle.ob0_refs.specs.Hovers.{field_count}
+use Rattle.ob0_types_table.specs.Tables.{field_shapes}
 use Rattle.ob0_types_table.specs.declared.known.Field.{Field}
 use Rattle.ob0_language_values.specs.Values.{Shape}
 
-pub fields_counted : (shapes : List Shape) (fs : List Field) → length fs ≡ fields_count (fields_shape shapes fs)
+pub fields_counted : (shapes : List Shape) (fs : List Field) → length fs ≡ field_count (field_shapes shapes fs)
 fields_counted shapes [] = refl
 fields_counted shapes (f ∷ fs) =
     let rest = fields_counted shapes fs in omega (arith, rest)

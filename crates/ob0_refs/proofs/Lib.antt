@@ -1,4 +1,4 @@
 pub mod AtFields
 pub mod Counted
 pub mod Parameters
-pub mod ParametersFollow
+pub mod ParametersFollowProcedure

@@ -1,7 +1,7 @@
 -- The answer to a question about a name: its span, and the thing it refers to.
 -- Rule: docs/PROTOCOL.md, Requests on documents 3, 4.
 use Rattle.std.specs.Prelude.{ℕ, nat_lt, if◌then◌else◌}
-use Rattle.ob0_tree.specs.Parsed.{Parsed}
+use Rattle.ob0_tree.specs.ParsedModule.{ParsedModule}
 use Rattle.ob0_language_names.specs.Scopes.{predeclared_count}
 use Rattle.ob0_scope_table.specs.Resolution.{span_at}
 use Rattle.ob0_scope.specs.declared.naming.Named as named
@@ -10,9 +10,9 @@ use Rattle.ob0_refs.specs.declared.answers.Of as of
 use Rattle.ob0_refs.specs.declared.answers.Of.TheVariants as answer_of
 
 -- returns Predeclared for the ordinals 0 to 6, and the declaration of the text for all others
-abbrev pub of_ordinal : ℕ → of.Of
-of_ordinal ordinal = if nat_lt ordinal predeclared_count then answer_of.Predeclared else answer_of.Declared ordinal
+abbrev pub referent_of_ordinal : ℕ → of.Of
+referent_of_ordinal ordinal = if nat_lt ordinal predeclared_count then answer_of.Predeclared else answer_of.Declared ordinal
 
 -- returns the answer about a name: its span and its declaration
-abbrev pub at_name : Parsed → named.Named → answer.At
-at_name m n = record { span = span_at m.source n.token; of = of_ordinal n.ordinal }
+abbrev pub name_answer : ParsedModule → named.Named → answer.At
+name_answer m n = record { span = span_at m.source n.token; of = referent_of_ordinal n.ordinal }

@@ -2,31 +2,31 @@
 -- Rule: docs/PROTOCOL.md, Refusals of edits.
 use Rattle.std.specs.Prelude.{ℕ, Option, Some, None, option_map, slice_get}
 use Rattle.ob0_scan.specs.declared.lexeme.Span.{Span}
-use Rattle.ob0_tree.specs.Parsed.{Parsed, named_tree_of, tree_of}
+use Rattle.ob0_tree.specs.ParsedModule.{ParsedModule, named_tree_of, tree_of}
 use Rattle.ob0_tree.specs.Tree.{occurrences}
 use Rattle.ob0_language_names.specs.Names.{Name}
-use Rattle.ob0_language_names.specs.Occurrences.{Capture, at_declaration, at_occurrence, first_captured}
+use Rattle.ob0_language_names.specs.Occurrences.{NameConflict, at_declaration, at_occurrence, first_name_conflict}
 use Rattle.ob0_scope_table.specs.Resolution.{span_at}
 use Rattle.ob0_refs.specs.Places.{declaring_span}
 
 -- returns the span of the occurrence with this number, counted from 0; None if there is no such
 -- occurrence
-abbrev pub occurrence_span : Parsed → ℕ → Option Span
+abbrev pub occurrence_span : ParsedModule → ℕ → Option Span
 occurrence_span m k = option_map (span_at m.source) (slice_get (occurrences (tree_of m)) k)
 
 -- returns a span, or an empty span at the text's start if there is none
-abbrev pub or_start : Option Span → Span
-or_start None = record { start = 0; end = 0 }
-or_start (Some span) = span
+abbrev pub span_or_text_start : Option Span → Span
+span_or_text_start None = record { start = 0; end = 0 }
+span_or_text_start (Some span) = span
 
 -- returns the span of a conflict of a new name for `d`: of the identifier that declares `d`, or of
 -- the occurrence with this number
-abbrev pub capture_span : Parsed → ℕ → Capture → Span
-capture_span m d at_declaration = or_start (declaring_span m d)
-capture_span m d (at_occurrence k) = or_start (occurrence_span m k)
+abbrev pub conflict_span : ParsedModule → ℕ → NameConflict → Span
+conflict_span m d at_declaration = span_or_text_start (declaring_span m d)
+conflict_span m d (at_occurrence k) = span_or_text_start (occurrence_span m k)
 
 -- Returns the span of the first conflict of the name `new` for `d`, or None if there is none. If
 -- another declaration of the block has the name, it is the span of the identifier that declares
 -- `d`. Otherwise it is the span of the first occurrence that would be bound to another declaration.
-abbrev pub captured_span : Parsed → ℕ → Name → Option Span
-captured_span m d new = option_map (capture_span m d) (first_captured (named_tree_of m) d new)
+abbrev pub first_conflict_span : ParsedModule → ℕ → Name → Option Span
+first_conflict_span m d new = option_map (conflict_span m d) (first_name_conflict (named_tree_of m) d new)

@@ -1,19 +1,19 @@
 -- The declarations and parameters of the code as values of the definitions.
 -- Rule: none; for contracts: what values of the code mean.
 use Rattle.std.specs.Prelude.{List, map, Option}
-use Rattle.ob0_types_table.specs.declared.known.Formal as formal
+use Rattle.ob0_types_table.specs.declared.known.FormalParameter as formal
 use Rattle.ob0_types_table.specs.declared.known.Object as declaration
 use Rattle.ob0_types_table.specs.KnownTables.{Tables, shapes_of}
-use Rattle.ob0_types_table.specs.Tables.{formal_in, object_in}
+use Rattle.ob0_types_table.specs.Tables.{formal_view, object_view}
 use Rattle.ob0_language_types.specs.Expressions.{Object}
 use Rattle.ob0_language_types.specs.WellTyped.{Signature}
 use Rattle.ob0_language_values.specs.Values.{Shape}
 
 -- returns a declaration of the code's table as an object of the definitions; None for a constant
 -- with a fault
-abbrev pub object_of : Tables → declaration.Object → Option (Object Shape Signature)
-object_of t o = object_in (shapes_of t) o
+abbrev pub declared_object_view : Tables → declaration.Object → Option (Object Shape Signature)
+declared_object_view t o = object_view (shapes_of t) o
 
 -- returns a procedure's parameters in the code's table as a signature of the definitions
-abbrev pub signature_in : Tables → List formal.Formal → Signature
-signature_in t fs = map (formal_in (shapes_of t)) fs
+abbrev pub signature_view : Tables → List formal.FormalParameter → Signature
+signature_view t fs = map (formal_view (shapes_of t)) fs

@@ -3,12 +3,12 @@
 use Rattle.std.specs.Prelude.{◌≡◌, ℕ, List, [], ◌++◌, ◌∷◌, Some, length, map, take}
 use Rattle.std.specs.List.{All}
 use Rattle.ob0_tree.specs.declared.tree.Role.TheVariants as role
-use Rattle.ob0_tree.specs.Parsed.{Parsed, tree_of}
+use Rattle.ob0_tree.specs.ParsedModule.{ParsedModule, tree_of}
 use Rattle.ob0_tree.specs.Places.{text_at}
 use Rattle.ob0_tree.specs.Tree.{Tree, block, declares, declares_procedure, end, has_body, identifiers, item, items, more, procedure}
 use Rattle.ob0_language_names.specs.Parts.{formal_names, formal_sections, module_block}
-use Rattle.ob0_scope_table.specs.Resolution.{declaring_only, token_declaring}
-use Rattle.ob0_refs.specs.Declarations.{names_after}
+use Rattle.ob0_scope_table.specs.Resolution.{declaring_names, declaration_token}
+use Rattle.ob0_refs.specs.Declarations.{names_declared_after}
 
 -- Returns the headings of procedures in text order: each procedure's name with the names of its
 -- formal parameters.
@@ -30,13 +30,13 @@ abbrev mutual
 -- Holds for the heading of a procedure if the first names declared after the procedure's name are
 -- the names of its parameters. A heading has the token of the procedure's name and the tokens of
 -- the parameters' names.
-pub record HasParametersAfter (m : Parsed) (heading : ℕ × List ℕ) : Type 0 where
+pub record HasParametersAfter (m : ParsedModule) (heading : ℕ × List ℕ) : Type 0 where
   pub ordinal : ℕ
-  pub declares : token_declaring (declaring_only (identifiers role.Declaring (tree_of m))) ordinal
+  pub declares : declaration_token (declaring_names (identifiers role.Declaring (tree_of m))) ordinal
       ≡ Some heading.0
-  pub following : take (length heading.1) (names_after m ordinal) ≡ map (text_at m.source) heading.1
+  pub following : take (length heading.1) (names_declared_after m ordinal) ≡ map (text_at m.source) heading.1
 
 -- The first names declared after each procedure's name are the names of its parameters, in order.
-abbrev pub ParametersFollow : Type 0
-ParametersFollow =
-    (m : Parsed) → All (HasParametersAfter m) (block_headings (module_block (tree_of m)))
+abbrev pub ParametersFollowProcedure : Type 0
+ParametersFollowProcedure =
+    (m : ParsedModule) → All (HasParametersAfter m) (block_headings (module_block (tree_of m)))

@@ -18,9 +18,9 @@ scalar_text (scalar.Number n) = signed_decimal n
 scalar_text (scalar.Truth b) = truth_text b
 
 -- returns the number of fields of a record
-abbrev pub fields_count : FieldShapes → ℕ
-fields_count no_field_shape = 0
-fields_count (next_field_shape x s rest) = fields_count rest + 1
+abbrev pub field_count : FieldShapes → ℕ
+field_count no_field_shape = 0
+field_count (next_field_shape x s rest) = field_count rest + 1
 
 -- returns a type's text; an array is `ARRAY n OF T`, and a record is `RECORD with k fields`
 abbrev pub type_text : Shape → List ℕ
@@ -28,7 +28,7 @@ type_text integer_shape = codes "INTEGER"
 type_text boolean_shape = codes "BOOLEAN"
 type_text (array_shape k n s) = codes "ARRAY " ++ (decimal n ++ (codes " OF " ++ type_text s))
 type_text (record_shape k fs) =
-    codes "RECORD with " ++ (decimal (fields_count fs) ++ codes " fields")
+    codes "RECORD with " ++ (decimal (field_count fs) ++ codes " fields")
 
 -- returns the hover text of a constant: `CONST c = V`
 abbrev pub constant_text : List ℕ → Scalar → List ℕ
@@ -54,23 +54,23 @@ pub record HoverParameter : Type 0 where
   pub of : List ℕ
 
 -- returns `VAR ` for a VAR parameter, otherwise the empty text
-abbrev pub by_text : Bool → List ℕ
-by_text true = codes "VAR "
-by_text false = []
+abbrev pub var_prefix_text : Bool → List ℕ
+var_prefix_text true = codes "VAR "
+var_prefix_text false = []
 
 -- returns the text of a parameter: `a: T` or `VAR a: T`
 abbrev pub parameter_text : HoverParameter → List ℕ
-parameter_text p = by_text p.by_place ++ (p.name ++ (codes ": " ++ p.of))
+parameter_text p = var_prefix_text p.by_place ++ (p.name ++ (codes ": " ++ p.of))
 
 -- returns the texts of further parameters, each after a `; `
-abbrev pub further_text : List HoverParameter → List ℕ
-further_text [] = []
-further_text (p ∷ ps) = codes "; " ++ (parameter_text p ++ further_text ps)
+abbrev pub further_parameters_text : List HoverParameter → List ℕ
+further_parameters_text [] = []
+further_parameters_text (p ∷ ps) = codes "; " ++ (parameter_text p ++ further_parameters_text ps)
 
 -- returns the texts of all parameters, with `; ` between them
 abbrev pub parameters_text : List HoverParameter → List ℕ
 parameters_text [] = []
-parameters_text (p ∷ ps) = parameter_text p ++ further_text ps
+parameters_text (p ∷ ps) = parameter_text p ++ further_parameters_text ps
 
 -- returns the hover text of a procedure: `PROCEDURE p(a: T; VAR b: T)`
 abbrev pub procedure_text : List ℕ → List HoverParameter → List ℕ

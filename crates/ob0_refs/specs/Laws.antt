@@ -18,8 +18,8 @@ IsOnField r offset span k index =
     identified_at r offset ≡ Some record { span = span; of = answer_of.Field k index }
 
 -- A field of a valid module has a definition, both at its declaration and at each selector.
-abbrev pub FieldsAreDefined : Type 0
-FieldsAreDefined =
+abbrev pub FieldsHaveDefinitions : Type 0
+FieldsHaveDefinitions =
     (r : Resolution) (offset k index : ℕ) (span : Span)
     → IsWellTyped r
     → IsOnField r offset span k index
@@ -28,7 +28,7 @@ FieldsAreDefined =
 -- Holds if renaming at a place finds a field of the record `k` there, and the place isn't on a
 -- name. Renaming changes exactly the references, including the declaration, and the place's
 -- identifier is among them.
-pub record IsRenamedThere (r : Resolution) (offset : ℕ) (span : Span) (k : ℕ) : Type 0 where
+pub record IsRenamedAtPlace (r : Resolution) (offset : ℕ) (span : Span) (k : ℕ) : Type 0 where
   pub token : ℕ
   pub no_name : name_on r.module_read offset ≡ None
   pub field : field_at r offset ≡ Some record { token = token; owner = k }
@@ -38,11 +38,11 @@ pub record IsRenamedThere (r : Resolution) (offset : ℕ) (span : Span) (k : ℕ
   pub itself : Contains (references_at r offset true) span
 
 -- If a place is on a field, renaming finds that field there and changes exactly its references.
-abbrev pub FieldsAreRenamedThere : Type 0
-FieldsAreRenamedThere =
+abbrev pub FieldRenamingChangesReferences : Type 0
+FieldRenamingChangesReferences =
     (r : Resolution) (offset k index : ℕ) (span : Span)
     → IsOnField r offset span k index
-    → IsRenamedThere r offset span k
+    → IsRenamedAtPlace r offset span k
 
 -- A field of a valid module has a hover text, both at its declaration and at each selector.
 abbrev pub FieldsHaveHovers : Type 0

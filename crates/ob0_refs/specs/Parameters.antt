@@ -5,5 +5,5 @@ use Rattle.ob0_refs.specs.Hovers as hovers
 use Rattle.ob0_refs.specs.declared.hovers.Parameter.{Parameter}
 
 -- returns a parameter of the code as a parameter of the definitions
-abbrev pub parameter_in : Parameter → hovers.HoverParameter
-parameter_in p = record { by_place = p.by_place; name = p.name.now; of = string_bytes p.of }
+abbrev pub parameter_view : Parameter → hovers.HoverParameter
+parameter_view p = record { by_place = p.by_place; name = p.name.now; of = string_bytes p.of }

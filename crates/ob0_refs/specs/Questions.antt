@@ -3,82 +3,82 @@
 use Rattle.std.specs.Prelude.{◌≡◌, ◌==◌, ℕ, Bool, true, false, not, nat_lt, List, [], map, if◌then◌else◌, Option, Some, None, option_map, option_and_then, unwrap_or}
 use Rattle.std.specs.List.{filter}
 use Rattle.ob0_scan.specs.declared.lexeme.Span.{Span}
-use Rattle.ob0_tree.specs.Parsed.{Parsed}
+use Rattle.ob0_tree.specs.ParsedModule.{ParsedModule}
 use Rattle.ob0_tree.specs.Places.{text_at}
 use Rattle.ob0_language_names.specs.Scopes.{predeclared_count}
 use Rattle.ob0_language_values.specs.Values.{Shape}
 use Rattle.ob0_scope_table.specs.Resolution.{Resolution, span_at}
 use Rattle.ob0_types_fields.specs.FieldTypes.{typed_field}
 use Rattle.ob0_types_fields.specs.declared.field_name.FieldName.{FieldName}
-use Rattle.ob0_types_fields.specs.Identifiers.{declaring_field, field_place, field_tokens}
-use Rattle.ob0_types.specs.MeantAtPlaces.{meant_at}
-use Rattle.ob0_types.specs.declared.meant.Identified.{Identified}
-use Rattle.ob0_types.specs.declared.meant.Meant.{Meant}
-use Rattle.ob0_types.specs.declared.meant.Meant.TheVariants.{Name, Field}
-use Rattle.ob0_refs.specs.Answered.{at_name}
+use Rattle.ob0_types_fields.specs.Identifiers.{field_declaring_token, field_position, field_tokens}
+use Rattle.ob0_types.specs.IdentifierMeanings.{identifier_meaning_at}
+use Rattle.ob0_types.specs.declared.meant.ResolvedIdentifier.{ResolvedIdentifier}
+use Rattle.ob0_types.specs.declared.meant.IdentifierMeaning.{IdentifierMeaning}
+use Rattle.ob0_types.specs.declared.meant.IdentifierMeaning.TheVariants.{Name, Field}
+use Rattle.ob0_refs.specs.Answered.{name_answer}
 use Rattle.ob0_refs.specs.Places.{declaring_span, references_to}
 use Rattle.ob0_refs.specs.Hovers.{field_text, type_text}
-use Rattle.ob0_refs.specs.Shown.{HoverText, hover_of}
+use Rattle.ob0_refs.specs.Shown.{HoverText, hover_of_name}
 use Rattle.ob0_refs.specs.declared.answers.At as answer
 use Rattle.ob0_refs.specs.declared.answers.Of.TheVariants as answer_of
 
 -- ---- the name or field at a place
 
 -- returns the index of a field in its record, found by its name; 0 if it isn't found
-abbrev pub index_of : Parsed → FieldName → ℕ
-index_of m x = unwrap_or (field_place m x.owner (text_at m.source x.token)) 0
+abbrev pub field_index : ParsedModule → FieldName → ℕ
+field_index m x = unwrap_or (field_position m x.owner (text_at m.source x.token)) 0
 
 -- returns the answer about a field identifier: its span, the field's record and the field's index
 -- in the record
-abbrev pub at_field : Parsed → FieldName → answer.At
-at_field m x =
-    record { span = span_at m.source x.token; of = answer_of.Field x.owner (index_of m x) }
+abbrev pub field_answer : ParsedModule → FieldName → answer.At
+field_answer m x =
+    record { span = span_at m.source x.token; of = answer_of.Field x.owner (field_index m x) }
 
 -- returns the answer about the identifier at a token with this meaning: its span and the thing it
 -- refers to
-abbrev pub at_meant : Parsed → ℕ → Meant → answer.At
-at_meant m token (Name ordinal) = at_name m (record { token = token; ordinal = ordinal })
-at_meant m token (Field k) = at_field m (record { token = token; owner = k })
+abbrev pub answer_of_identified : ParsedModule → ℕ → IdentifierMeaning → answer.At
+answer_of_identified m token (Name ordinal) = name_answer m (record { token = token; ordinal = ordinal })
+answer_of_identified m token (Field k) = field_answer m (record { token = token; owner = k })
 
 -- returns the answer about the name or field at a byte offset; None if there is none
 abbrev pub identified_at : Resolution → ℕ → Option answer.At
 identified_at r offset =
-    option_map (λ (x : Identified). at_meant r.module_read x.token x.means) (meant_at r offset)
+    option_map (λ (x : ResolvedIdentifier). answer_of_identified r.module_read x.token x.means) (identifier_meaning_at r offset)
 
 -- ---- the name or field that can be renamed
 
 -- returns the span of the identifier at a token with this meaning; None if its name is predeclared
-abbrev pub renamable_meant : Parsed → ℕ → Meant → Option Span
-renamable_meant m token (Name ordinal) =
+abbrev pub renamable_span_of_identified : ParsedModule → ℕ → IdentifierMeaning → Option Span
+renamable_span_of_identified m token (Name ordinal) =
     if nat_lt ordinal predeclared_count then None else Some (span_at m.source token)
-renamable_meant m token (Field k) = Some (span_at m.source token)
+renamable_span_of_identified m token (Field k) = Some (span_at m.source token)
 
 -- returns the span of the name or field at a byte offset; None if it can't be renamed or there is
 -- none
-abbrev pub renamable_at : Resolution → ℕ → Option Span
-renamable_at r offset =
-    option_and_then (λ (x : Identified). renamable_meant r.module_read x.token x.means)
-    (meant_at r offset)
+abbrev pub renamable_span_at : Resolution → ℕ → Option Span
+renamable_span_at r offset =
+    option_and_then (λ (x : ResolvedIdentifier). renamable_span_of_identified r.module_read x.token x.means)
+    (identifier_meaning_at r offset)
 
 -- ---- the declaration
 
 -- returns the span of the identifier that declares a field; None if it isn't found
-abbrev pub field_declared : Parsed → FieldName → Option Span
-field_declared m x =
-    option_map (span_at m.source) (declaring_field m x.owner (text_at m.source x.token))
+abbrev pub field_definition : ParsedModule → FieldName → Option Span
+field_definition m x =
+    option_map (span_at m.source) (field_declaring_token m x.owner (text_at m.source x.token))
 
 -- returns the span of the identifier that declares the name or field that an identifier refers to;
 -- None for a predeclared name
-abbrev pub declared_meant : Parsed → ℕ → Meant → Option Span
-declared_meant m token (Name ordinal) = declaring_span m ordinal
-declared_meant m token (Field k) = field_declared m (record { token = token; owner = k })
+abbrev pub definition_of_identified : ParsedModule → ℕ → IdentifierMeaning → Option Span
+definition_of_identified m token (Name ordinal) = declaring_span m ordinal
+definition_of_identified m token (Field k) = field_definition m (record { token = token; owner = k })
 
 -- returns the span of the identifier that declares the name or field at a byte offset; None if
 -- there is none
 abbrev pub definition_at : Resolution → ℕ → Option Span
 definition_at r offset =
-    option_and_then (λ (x : Identified). declared_meant r.module_read x.token x.means)
-    (meant_at r offset)
+    option_and_then (λ (x : ResolvedIdentifier). definition_of_identified r.module_read x.token x.means)
+    (identifier_meaning_at r offset)
 
 -- ---- the references
 
@@ -89,33 +89,33 @@ other_tokens (Some token) tokens = filter (λ other. not (other == token)) token
 
 -- returns the tokens of a field's identifiers, in text order; if the Bool is false, without the
 -- declaring token
-abbrev pub field_references : Resolution → FieldName → Bool → List ℕ
-field_references r x true = field_tokens r x.owner (text_at r.module_read.source x.token)
-field_references r x false =
-    other_tokens (declaring_field r.module_read x.owner (text_at r.module_read.source x.token))
+abbrev pub field_reference_tokens : Resolution → FieldName → Bool → List ℕ
+field_reference_tokens r x true = field_tokens r x.owner (text_at r.module_read.source x.token)
+field_reference_tokens r x false =
+    other_tokens (field_declaring_token r.module_read x.owner (text_at r.module_read.source x.token))
     (field_tokens r x.owner (text_at r.module_read.source x.token))
 
 -- returns the spans of a field's identifiers, in text order; if `include` is false, without the
 -- declaring identifier
-abbrev pub field_named : Resolution → Bool → FieldName → List Span
-field_named r include x = map (span_at r.module_read.source) (field_references r x include)
+abbrev pub field_reference_spans : Resolution → Bool → FieldName → List Span
+field_reference_spans r include x = map (span_at r.module_read.source) (field_reference_tokens r x include)
 
 -- returns the spans of the references to the name or field that an identifier refers to; if
 -- `include` is false, without the declaring identifier
-abbrev pub named_meant : Resolution → Bool → ℕ → Meant → List Span
-named_meant r include token (Name ordinal) = references_to r.module_read ordinal include
-named_meant r include token (Field k) = field_named r include (record { token = token; owner = k })
+abbrev pub references_of_identified : Resolution → Bool → ℕ → IdentifierMeaning → List Span
+references_of_identified r include token (Name ordinal) = references_to r.module_read ordinal include
+references_of_identified r include token (Field k) = field_reference_spans r include (record { token = token; owner = k })
 
 -- returns the spans of the references to the name or field that an optional identifier refers to;
 -- the empty list for None
-abbrev pub named_by : Resolution → Bool → Option Identified → List Span
-named_by r include None = []
-named_by r include (Some x) = named_meant r include x.token x.means
+abbrev pub references_of_optional : Resolution → Bool → Option ResolvedIdentifier → List Span
+references_of_optional r include None = []
+references_of_optional r include (Some x) = references_of_identified r include x.token x.means
 
 -- returns the spans of the references to the name or field at a byte offset; if `include` is false,
 -- without the declaring identifier
 abbrev pub references_at : Resolution → ℕ → Bool → List Span
-references_at r offset include = named_by r include (meant_at r offset)
+references_at r offset include = references_of_optional r include (identifier_meaning_at r offset)
 
 -- holds if these are the spans of the references to the name or field at a byte offset; if
 -- `include` is false, without the declaring identifier
@@ -125,8 +125,8 @@ AreReferencesAt r offset include spans = spans ≡ references_at r offset includ
 -- ---- hover texts
 
 -- returns the hover text of a field's identifier, given the field's type
-abbrev pub typed_hover : Resolution → ℕ → Shape → HoverText
-typed_hover r token s =
+abbrev pub field_hover_with_type : Resolution → ℕ → Shape → HoverText
+field_hover_with_type r token s =
     record {
       span = span_at r.module_read.source token;
       text = field_text (text_at r.module_read.source token) (type_text s);
@@ -135,15 +135,15 @@ typed_hover r token s =
 -- returns the hover text of a field, which shows its type, at the declaration and at each selector;
 -- None if the field isn't found
 abbrev pub field_hover : Resolution → FieldName → Option HoverText
-field_hover r x = option_map (λ f. typed_hover r x.token f.shape) (typed_field r x)
+field_hover r x = option_map (λ f. field_hover_with_type r x.token f.shape) (typed_field r x)
 
 -- returns the hover text of an identifier with this meaning; None if its declaration isn't found
-abbrev pub meant_hover : Resolution → ℕ → Meant → Option HoverText
-meant_hover r token (Name ordinal) =
-    hover_of r.module_read (record { token = token; ordinal = ordinal })
-meant_hover r token (Field k) = field_hover r (record { token = token; owner = k })
+abbrev pub hover_of_identified : Resolution → ℕ → IdentifierMeaning → Option HoverText
+hover_of_identified r token (Name ordinal) =
+    hover_of_name r.module_read (record { token = token; ordinal = ordinal })
+hover_of_identified r token (Field k) = field_hover r (record { token = token; owner = k })
 
 -- returns the hover text at a byte offset; None if there is no name and no field
 abbrev pub hover_at_place : Resolution → ℕ → Option HoverText
 hover_at_place r offset =
-    option_and_then (λ (x : Identified). meant_hover r x.token x.means) (meant_at r offset)
+    option_and_then (λ (x : ResolvedIdentifier). hover_of_identified r x.token x.means) (identifier_meaning_at r offset)

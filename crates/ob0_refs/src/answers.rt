@@ -30,6 +30,6 @@ pub struct Hover {
 /// A conflict of a new name for a declaration: the span, in bytes, of the identifier at which the
 /// new name isn't free.
 #[derive(Clone, Copy, PartialEq, Eq)]
-pub struct Capture {
+pub struct NameConflict {
     pub span: Span,
 }

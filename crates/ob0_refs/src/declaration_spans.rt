@@ -5,13 +5,13 @@ ghost use Rattle.ob0_scope_table.specs.Resolution.{span_at};
 ghost use Rattle.ob0_refs.specs.Places.{declaring_span, references_to};
 
 use ob0_scan::{Span, Tokens};
-use ob0_scope::tokens_bound;
+use ob0_scope::tokens_bound_to;
 use ob0_scope_table::{Resolved, token_span};
 use std::alloc::{AllocError, Global};
 
 /// Returns the span of the identifier that declares the declaration with this ordinal. Returns None for a predeclared
 /// name.
-pub(crate) fn declared_at(names: &Resolved, ordinal: usize) -> Option<Span>
+pub(crate) fn declaration_span(names: &Resolved, ordinal: usize) -> Option<Span>
     ensures { result ≡ declaring_span names.now.module_read ordinal }
 {
     let tokens = names.module().tokens();
@@ -32,7 +32,7 @@ pub(crate) fn references_to(
     ensures { IfOk result
         (λ spans. spans.items ≡ references_to names.now.module_read declaration include) }
 {
-    let found = tokens_bound(alloc, names, declaration, include)?;
+    let found = tokens_bound_to(alloc, names, declaration, include)?;
     spans_of(alloc, names.tokens(), &found)
 }
 

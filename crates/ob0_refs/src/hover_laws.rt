@@ -1,8 +1,8 @@
 //! The laws of hover texts. Each function does nothing; its contract is the law.
 
-ghost use Rattle.ob0_refs.specs.HoverLaws.{ParametersFollow};
+ghost use Rattle.ob0_refs.specs.HoverLaws.{ParametersFollowProcedure};
 
 /// Proves that the first names declared after a procedure's name are the names of its parameters, in order.
-pub fn parameters_follow()
-    ensures { ParametersFollow }
+pub fn parameters_follow_procedure()
+    ensures { ParametersFollowProcedure }
 {}

@@ -2,8 +2,8 @@
 
 ghost use Rattle.std.specs.Prelude.{◌≡◌, ◌++◌, ℕ, IfOk, OnOk, map, string_bytes};
 ghost use Rattle.ob0_language_values.specs.Values.{FieldShapes, Shape, array_shape, record_shape};
-ghost use Rattle.ob0_refs.specs.Hovers.{by_text, constant_text, fields_count, named_type_text, parameter_text, parameters_text, predeclared_text, procedure_text, truth_text, type_text, variable_text};
-ghost use Rattle.ob0_refs.specs.Parameters.{parameter_in};
+ghost use Rattle.ob0_refs.specs.Hovers.{var_prefix_text, constant_text, field_count, named_type_text, parameter_text, parameters_text, predeclared_text, procedure_text, truth_text, type_text, variable_text};
+ghost use Rattle.ob0_refs.specs.Parameters.{parameter_view};
 
 use ob0_language_values::Scalar;
 use std::alloc::{AllocError, Global};
@@ -28,7 +28,7 @@ pub(crate) fn array_text(alloc: Global, length: usize, element: &str) -> Result<
 /// Returns the text of a record type with this number of fields.
 pub(crate) fn record_text(alloc: Global, fields: usize) -> Result<String, AllocError>
     ensures { IfOk result (λ text. (k : ℕ) (fs : FieldShapes)
-        → fields ≡ fields_count fs
+        → fields ≡ field_count fs
         → string_bytes text ≡ type_text (record_shape k fs)) }
 {
     format!(in alloc; "RECORD with {fields} fields")
@@ -82,7 +82,7 @@ pub(crate) fn procedure_text(
     parameters: &[Parameter<'_>],
 ) -> Result<String, AllocError>
     ensures { IfOk result
-        (λ text. string_bytes text ≡ procedure_text name.now (map parameter_in parameters.now)) }
+        (λ text. string_bytes text ≡ procedure_text name.now (map parameter_view parameters.now)) }
 {
     let list = parameters_text(alloc, parameters)?;
     let list = list.as_str();
@@ -91,7 +91,7 @@ pub(crate) fn procedure_text(
 
 fn parameters_text(alloc: Global, parameters: &[Parameter<'_>]) -> Result<String, AllocError>
     ensures { IfOk result
-        (λ text. string_bytes text ≡ parameters_text (map parameter_in parameters.now)) }
+        (λ text. string_bytes text ≡ parameters_text (map parameter_view parameters.now)) }
 {
     let mut text = String::new(alloc);
     let Some((first, others)) = parameters.split_first() else {
@@ -107,17 +107,17 @@ fn parameters_text(alloc: Global, parameters: &[Parameter<'_>]) -> Result<String
 
 fn push_parameter(text: &mut String, parameter: &Parameter<'_>) -> Result<(), AllocError>
     ensures { OnOk result (string_bytes text.new
-        ≡ string_bytes text.old ++ parameter_text (parameter_in parameter.now)) }
+        ≡ string_bytes text.old ++ parameter_text (parameter_view parameter.now)) }
 {
-    text.push_str(by_word(parameter.by_place))?;
+    text.push_str(var_prefix(parameter.by_place))?;
     text.push_str(parameter.name)?;
     text.push_str(": ")?;
     text.push_str(parameter.of.as_str())
 }
 
 /// Returns `VAR ` for a VAR parameter, otherwise the empty text.
-fn by_word(by_place: bool) -> &'static str
-    ensures { result.now ≡ by_text by_place }
+fn var_prefix(by_place: bool) -> &'static str
+    ensures { result.now ≡ var_prefix_text by_place }
 {
     if by_place { "VAR " } else { "" }
 }

@@ -4,19 +4,19 @@
 #![tactic(auto)]
 
 mod answers;
-mod capture_spans;
-mod capturing;
+mod conflict_spans;
 mod declaration_spans;
+mod declaration_texts;
 pub mod hover_laws;
 mod hovers;
 pub mod laws;
 mod names;
+mod new_name_conflicts;
 mod place_hovers;
 mod questions;
-mod showing;
-mod typing;
+mod type_texts;
 
-pub use answers::{At, Capture, Hover, Of};
-pub use capturing::captures;
+pub use answers::{At, Hover, NameConflict, Of};
+pub use new_name_conflicts::captures;
 pub use place_hovers::hover;
-pub use questions::{at, definition, references, renamable};
+pub use questions::{at, definition, references, renamable_span};

@@ -1,27 +1,27 @@
 //! Answers a question about a name with its span and the thing it refers to.
 
 ghost use Rattle.std.specs.Prelude.{◌≡◌};
-ghost use Rattle.ob0_refs.specs.Answered.{at_name, of_ordinal};
+ghost use Rattle.ob0_refs.specs.Answered.{name_answer, referent_of_ordinal};
 
 use crate::answers::{At, Of};
 use ob0_scope::Named;
-use ob0_scope_table::{PREDECLARED, Resolved, token_span};
+use ob0_scope_table::{PREDECLARED_COUNT, Resolved, token_span};
 
 /// Returns the span of a name, in bytes, and the thing it refers to.
-pub(crate) fn at_name(names: &Resolved, name: Named) -> At
-    ensures { result ≡ at_name names.now.module_read name }
+pub(crate) fn name_answer(names: &Resolved, name: Named) -> At
+    ensures { result ≡ name_answer names.now.module_read name }
 {
     At {
         span: token_span(names.tokens(), name.token),
-        of: of_ordinal(name.ordinal),
+        of: referent_of_ordinal(name.ordinal),
     }
 }
 
 /// Returns Predeclared for the ordinals 0 to 6, and the declaration of the text for all others.
-fn of_ordinal(ordinal: usize) -> Of
-    ensures { result ≡ of_ordinal ordinal }
+fn referent_of_ordinal(ordinal: usize) -> Of
+    ensures { result ≡ referent_of_ordinal ordinal }
 {
-    if ordinal < PREDECLARED {
+    if ordinal < PREDECLARED_COUNT {
         Of::Predeclared
     } else {
         Of::Declared(ordinal)

@@ -1,6 +1,6 @@
 //! Answers questions about the name or the field at a place.
 //!
-//! Each public function finds the meaning of the identifier at the place (`meant_at` of
+//! Each public function finds the meaning of the identifier at the place (`identifier_meaning_at` of
 //! `ob0_types`) and has one case for a name and one for a field. The hover text does the same
 //! (`place_hovers`). Renaming also uses this meaning, so it renames the name or field of these
 //! answers.
@@ -10,17 +10,18 @@
 //! take one pass over the module's fields.
 
 ghost use Rattle.std.specs.Prelude.{◌≡◌, IfOk, Some};
-ghost use Rattle.ob0_refs.specs.Questions.{AreReferencesAt, at_field, at_meant, declared_meant, definition_at, field_declared, field_named, field_references, index_of, identified_at, named_meant, other_tokens, renamable_at, renamable_meant};
+ghost use Rattle.ob0_refs.specs.Questions.{AreReferencesAt, field_answer, answer_of_identified, definition_of_identified, definition_at, field_definition, field_reference_spans, field_reference_tokens, field_index, identified_at, references_of_identified, other_tokens, renamable_span_at, renamable_span_of_identified};
 
 use crate::answers::{At, Of};
-use crate::declaration_spans::{declared_at, references_to, spans_of};
-use crate::names::at_name;
+use crate::declaration_spans::{declaration_span, references_to, spans_of};
+use crate::names::name_answer;
 use ob0_scan::Span;
 use ob0_scope::Named;
-use ob0_scope_table::{PREDECLARED, token_span};
+use ob0_scope_table::{PREDECLARED_COUNT, token_span};
 use ob0_tree::text_at;
 use ob0_types::{
-    Identified, Meant, WellTyped, declaring_field, field_place, field_tokens, meant_at,
+    IdentifierMeaning, ResolvedIdentifier, WellTyped, field_declaring_token, field_position,
+    field_tokens, identifier_meaning_at,
 };
 use ob0_types_fields::FieldName;
 use std::alloc::{AllocError, Global};
@@ -31,44 +32,47 @@ use std::alloc::{AllocError, Global};
 pub fn at(well_typed: &WellTyped<'_>, offset: usize) -> Option<At>
     ensures { result ≡ identified_at well_typed.now offset }
 {
-    match meant_at(well_typed, offset) {
+    match identifier_meaning_at(well_typed, offset) {
         None => None,
-        Some(found) => Some(at_meant(well_typed, found)),
+        Some(found) => Some(answer_of_identified(well_typed, found)),
     }
 }
 
 /// Returns the answer about an identifier: its span and the thing that it refers to.
-fn at_meant(well_typed: &WellTyped<'_>, found: Identified) -> At
-    ensures { result ≡ at_meant well_typed.now.module_read found.token found.means }
+fn answer_of_identified(well_typed: &WellTyped<'_>, found: ResolvedIdentifier) -> At
+    ensures { result ≡ answer_of_identified well_typed.now.module_read found.token found.means }
 {
     let token = found.token;
     match found.means {
-        Meant::Name(ordinal) => at_name(well_typed.resolved(), Named { token, ordinal }),
-        Meant::Field(owner) => at_field(well_typed, FieldName { token, owner }),
+        IdentifierMeaning::Name(ordinal) => name_answer(
+            well_typed.resolved(),
+            Named { token, ordinal },
+        ),
+        IdentifierMeaning::Field(owner) => field_answer(well_typed, FieldName { token, owner }),
     }
 }
 
 /// Returns the answer about a field's identifier: its span, its record and its index in the record.
-fn at_field(well_typed: &WellTyped<'_>, field: FieldName) -> At
-    ensures { result ≡ at_field well_typed.now.module_read field }
+fn field_answer(well_typed: &WellTyped<'_>, field: FieldName) -> At
+    ensures { result ≡ field_answer well_typed.now.module_read field }
 {
     At {
         span: token_span(well_typed.resolved().tokens(), field.token),
         of: Of::Field {
             ordinal: field.owner,
-            index: index_of(well_typed, field),
+            index: field_index(well_typed, field),
         },
     }
 }
 
 /// Returns the index of the field that an identifier belongs to among the fields of its record, or
 /// 0 if the field isn't found.
-fn index_of(well_typed: &WellTyped<'_>, field: FieldName) -> usize
-    ensures { result ≡ index_of well_typed.now.module_read field }
+fn field_index(well_typed: &WellTyped<'_>, field: FieldName) -> usize
+    ensures { result ≡ field_index well_typed.now.module_read field }
 {
     let names = well_typed.resolved();
     let name = text_at(names.tokens(), field.token);
-    match field_place(well_typed, field.owner, name) {
+    match field_position(well_typed, field.owner, name) {
         Some(index) => index,
         None => 0,
     }
@@ -76,29 +80,32 @@ fn index_of(well_typed: &WellTyped<'_>, field: FieldName) -> usize
 
 /// Returns the span of the identifier at a place if it can be renamed: a field, or a name that
 /// isn't predeclared. Otherwise returns None.
-pub fn renamable(well_typed: &WellTyped<'_>, offset: usize) -> Option<Span>
-    ensures { result ≡ renamable_at well_typed.now offset }
+pub fn renamable_span(well_typed: &WellTyped<'_>, offset: usize) -> Option<Span>
+    ensures { result ≡ renamable_span_at well_typed.now offset }
 {
-    match meant_at(well_typed, offset) {
+    match identifier_meaning_at(well_typed, offset) {
         None => None,
-        Some(found) => renamable_meant(well_typed, found),
+        Some(found) => renamable_span_of_identified(well_typed, found),
     }
 }
 
 /// Returns the span of an identifier, or None if its name is predeclared.
-fn renamable_meant(well_typed: &WellTyped<'_>, found: Identified) -> Option<Span>
-    ensures { result ≡ renamable_meant well_typed.now.module_read found.token found.means }
+fn renamable_span_of_identified(
+    well_typed: &WellTyped<'_>,
+    found: ResolvedIdentifier,
+) -> Option<Span>
+    ensures { result ≡ renamable_span_of_identified well_typed.now.module_read found.token found.means }
 {
     let span = token_span(well_typed.resolved().tokens(), found.token);
     match found.means {
-        Meant::Name(ordinal) => {
-            if ordinal < PREDECLARED {
+        IdentifierMeaning::Name(ordinal) => {
+            if ordinal < PREDECLARED_COUNT {
                 None
             } else {
                 Some(span)
             }
         }
-        Meant::Field(_) => Some(span),
+        IdentifierMeaning::Field(_) => Some(span),
     }
 }
 
@@ -108,32 +115,32 @@ fn renamable_meant(well_typed: &WellTyped<'_>, found: Identified) -> Option<Span
 pub fn definition(well_typed: &WellTyped<'_>, offset: usize) -> Option<Span>
     ensures { result ≡ definition_at well_typed.now offset }
 {
-    match meant_at(well_typed, offset) {
+    match identifier_meaning_at(well_typed, offset) {
         None => None,
-        Some(found) => declared_meant(well_typed, found),
+        Some(found) => definition_of_identified(well_typed, found),
     }
 }
 
 /// Returns the span of the identifier that declares the name or field that an identifier refers to. Returns None for a
 /// predeclared name.
-fn declared_meant(well_typed: &WellTyped<'_>, found: Identified) -> Option<Span>
-    ensures { result ≡ declared_meant well_typed.now.module_read found.token found.means }
+fn definition_of_identified(well_typed: &WellTyped<'_>, found: ResolvedIdentifier) -> Option<Span>
+    ensures { result ≡ definition_of_identified well_typed.now.module_read found.token found.means }
 {
     let token = found.token;
     match found.means {
-        Meant::Name(ordinal) => declared_at(well_typed.resolved(), ordinal),
-        Meant::Field(owner) => field_declared(well_typed, FieldName { token, owner }),
+        IdentifierMeaning::Name(ordinal) => declaration_span(well_typed.resolved(), ordinal),
+        IdentifierMeaning::Field(owner) => field_definition(well_typed, FieldName { token, owner }),
     }
 }
 
 /// Returns the span of the identifier that declares the field of an identifier, or None if it isn't
 /// found.
-fn field_declared(well_typed: &WellTyped<'_>, field: FieldName) -> Option<Span>
-    ensures { result ≡ field_declared well_typed.now.module_read field }
+fn field_definition(well_typed: &WellTyped<'_>, field: FieldName) -> Option<Span>
+    ensures { result ≡ field_definition well_typed.now.module_read field }
 {
     let names = well_typed.resolved();
     let name = text_at(names.tokens(), field.token);
-    match declaring_field(well_typed, field.owner, name) {
+    match field_declaring_token(well_typed, field.owner, name) {
         None => None,
         Some(token) => Some(token_span(names.tokens(), token)),
     }
@@ -150,55 +157,65 @@ pub fn references(
 ) -> Result<Vec<Span>, AllocError>
     ensures { IfOk result (λ spans. AreReferencesAt well_typed.now offset include spans.items) }
 {
-    match meant_at(well_typed, offset) {
+    match identifier_meaning_at(well_typed, offset) {
         None => Ok(Vec::new(alloc)),
-        Some(found) => named_meant(alloc, well_typed, found, include),
+        Some(found) => references_of_identified(alloc, well_typed, found, include),
     }
 }
 
 /// Returns the spans of the references to the name or field that an identifier refers to. The declaring identifier is
 /// among them if `include` is true.
-fn named_meant(
+fn references_of_identified(
     alloc: Global,
     well_typed: &WellTyped<'_>,
-    found: Identified,
+    found: ResolvedIdentifier,
     include: bool,
 ) -> Result<Vec<Span>, AllocError>
     ensures { IfOk result
-        (λ spans. spans.items ≡ named_meant well_typed.now include found.token found.means) }
+        (λ spans. spans.items ≡ references_of_identified well_typed.now include found.token found.means) }
 {
     let token = found.token;
     match found.means {
-        Meant::Name(ordinal) => references_to(alloc, well_typed.resolved(), ordinal, include),
-        Meant::Field(owner) => field_named(alloc, well_typed, FieldName { token, owner }, include),
+        IdentifierMeaning::Name(ordinal) => references_to(
+            alloc,
+            well_typed.resolved(),
+            ordinal,
+            include,
+        ),
+        IdentifierMeaning::Field(owner) => field_reference_spans(
+            alloc,
+            well_typed,
+            FieldName { token, owner },
+            include,
+        ),
     }
 }
 
 /// Returns the spans of the identifiers of the field that `field` belongs to, in text order. The
 /// declaring identifier is among them if `include` is true.
-fn field_named(
+fn field_reference_spans(
     alloc: Global,
     well_typed: &WellTyped<'_>,
     field: FieldName,
     include: bool,
 ) -> Result<Vec<Span>, AllocError>
     ensures { IfOk result
-        (λ spans. spans.items ≡ field_named well_typed.now include field) }
+        (λ spans. spans.items ≡ field_reference_spans well_typed.now include field) }
 {
-    let tokens = field_references(alloc, well_typed, field, include)?;
+    let tokens = field_reference_tokens(alloc, well_typed, field, include)?;
     let spans = spans_of(alloc, well_typed.resolved().tokens(), &tokens)?;
     Ok(spans)
 }
 
 /// Returns the tokens of a field's identifiers, in text order. The declaring token is among them if
 /// `include` is true.
-fn field_references(
+fn field_reference_tokens(
     alloc: Global,
     well_typed: &WellTyped<'_>,
     field: FieldName,
     include: bool,
 ) -> Result<Vec<usize>, AllocError>
-    ensures { IfOk result (λ tokens. tokens.items ≡ field_references well_typed.now field include) }
+    ensures { IfOk result (λ tokens. tokens.items ≡ field_reference_tokens well_typed.now field include) }
 {
     let names = well_typed.resolved();
     let name = text_at(names.tokens(), field.token);
@@ -206,13 +223,13 @@ fn field_references(
     if include {
         return Ok(tokens);
     }
-    let declaring = declaring_field(well_typed, field.owner, name);
-    let uses = without(alloc, declaring, tokens)?;
+    let declaring = field_declaring_token(well_typed, field.owner, name);
+    let uses = without_optional_token(alloc, declaring, tokens)?;
     Ok(uses)
 }
 
 /// Returns the list `tokens` without `token`, or the whole list if `token` is None.
-fn without(
+fn without_optional_token(
     alloc: Global,
     token: Option<usize>,
     tokens: Vec<usize>,
@@ -222,14 +239,14 @@ fn without(
     match token {
         None => Ok(tokens),
         Some(token) => {
-            let others = others_than(alloc, token, &tokens)?;
+            let others = without_token(alloc, token, &tokens)?;
             Ok(others)
         }
     }
 }
 
 /// Returns the list `tokens` without `token`.
-fn others_than(alloc: Global, token: usize, tokens: &[usize]) -> Result<Vec<usize>, AllocError>
+fn without_token(alloc: Global, token: usize, tokens: &[usize]) -> Result<Vec<usize>, AllocError>
     ensures { IfOk result (λ others. others.items ≡ other_tokens (Some token) tokens.now) }
 {
     let mut others = Vec::new(alloc);

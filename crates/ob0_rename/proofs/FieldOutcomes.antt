@@ -7,28 +7,28 @@ use Rattle.std.specs.List.{list_any}
 use Rattle.std.specs.declared.alloc.Global.{Global}
 use Rattle.std.proofs.lemmas.Slice.Eq.{bytes_eq-Decides}
 use Rattle.ob0_scan.specs.Classes.{IsIdentifier}
-use Rattle.ob0_scan.specs.Scanned.{IsScan, Scanned, max_text}
+use Rattle.ob0_scan.specs.TextWithTokens.{IsScan, TextWithTokens, max_text}
 use Rattle.ob0_text.specs.declared.edits.Edit.{Edit}
 use Rattle.ob0_text.specs.declared.position_types.Position.{Position}
 use Rattle.ob0_text.specs.declared.position_types.Unit as counting
 use Rattle.ob0_text.specs.declared.refusals.EditRefusal.{EditRefusal}
 use Rattle.ob0_text.specs.declared.refusals.EditRefusal.TheVariants as refusal
-use Rattle.ob0_tree.specs.Parsed.{named_tree_of, tree_of}
+use Rattle.ob0_tree.specs.ParsedModule.{named_tree_of, tree_of}
 use Rattle.ob0_tree.specs.Places as place
 use Rattle.ob0_tree.specs.Tree.{mapped}
 use Rattle.ob0_language_names.specs.Names.{Name, same_name}
 use Rattle.ob0_scope_table.specs.Resolution.{Resolution}
 use Rattle.ob0_types.specs.CheckedModules.{IsWellTyped}
 use Rattle.ob0_edits_tokens.specs.Changed.{is_among, words_of}
-use Rattle.ob0_edits_tokens.specs.OfTrees.{RenamedWordsSpell, number_at, renamed_at}
-use Rattle.ob0_edits_tokens.specs.Replaced.{AreNames, ReplacesName, with_text_at}
+use Rattle.ob0_edits_tokens.specs.OfTrees.{RenamingKeepsSpelling, number_at, renamed_word_text}
+use Rattle.ob0_edits_tokens.specs.Replaced.{AreIdentifierIndexes, ReplacesName, text_after_replacement}
 use Rattle.ob0_edits_tokens.specs.Written.{name_word}
-use Rattle.ob0_language_field_laws.specs.FieldLaws.{FreeFieldKeepsModules}
+use Rattle.ob0_language_field_laws.specs.FieldLaws.{FreeFieldRenamingKeepsTypingAndRuns}
 use Rattle.ob0_types_fields.specs.declared.field_name.FieldName.{FieldName}
-use Rattle.ob0_types_fields.specs.Identifiers.{DuplicateByToken, RenamedAtTokens, declaring_field, field_identifiers, field_tokens, tokens_among}
-use Rattle.ob0_language_fields.specs.Renaming.{FieldFree, field_renamed}
-use Rattle.ob0_rename.specs.Answers.{RenameAnswers, AnswersForField, IsRefused, IsRefusedToField, OnlyMemory}
-use Rattle.ob0_rename.specs.Renaming.{MeansField, Renaming, field_tokens_to_rename, token_range}
+use Rattle.ob0_types_fields.specs.Identifiers.{DuplicateHasDeclaringToken, RenamingChangesFieldTokens, field_declaring_token, field_identifiers, field_tokens, tokens_of_field}
+use Rattle.ob0_language_fields.specs.Renaming.{IsFreeFieldName, with_renamed_field}
+use Rattle.ob0_rename.specs.Answers.{RenameAnswers, AnswersForField, IsRenameRefusal, IsFieldRefusal, FailsOnlyForMemory}
+use Rattle.ob0_rename.specs.Renaming.{TargetsField, Renaming, field_tokens_to_rename, token_range}
 use Rattle.ob0_rename.proofs.Outcomes.{Edited, whole, written}
 use Rattle.ob0_rename.proofs.Rewritten.{number_same, of_rewritten, text_same}
 
@@ -39,26 +39,26 @@ among-any k [] = refl
 among-any k (p ∷ ps) = ap (λ b. (k == p) || b) (among-any k ps)
 
 -- Each token of a field has the field's name.
-written-so : (source : Scanned) (k : ℕ) (f : Name) (i : ℕ) (xs : List FieldName) → list_any (λ token. i == token) (tokens_among source k f xs) ≡ true → place.text_at source i ≡ f
+written-so : (source : TextWithTokens) (k : ℕ) (f : Name) (i : ℕ) (xs : List FieldName) → list_any (λ token. i == token) (tokens_of_field source k f xs) ≡ true → place.text_at source i ≡ f
 written-so source k f i [] e = absurd (cc)
 written-so source k f i (x ∷ xs) e = one (x.owner == k) (same_name (place.text_at source x.token) f) refl (written-so source k f i xs) e
   where
-    here : (b : Bool) → (i == x.token) ≡ b → same_name (place.text_at source x.token) f ≡ true → (list_any (λ token. i == token) (tokens_among source k f xs) ≡ true → place.text_at source i ≡ f)
-        → (b || list_any (λ token. i == token) (tokens_among source k f xs)) ≡ true → place.text_at source i ≡ f
+    here : (b : Bool) → (i == x.token) ≡ b → same_name (place.text_at source x.token) f ≡ true → (list_any (λ token. i == token) (tokens_of_field source k f xs) ≡ true → place.text_at source i ≡ f)
+        → (b || list_any (λ token. i == token) (tokens_of_field source k f xs)) ≡ true → place.text_at source i ≡ f
     here true at same later e = ap (place.text_at source) (eqb-true i x.token at) ∙ (bytes_eq-Decides (place.text_at source x.token) f).0 same
     here false at same later e = later e
 
-    one : (b c : Bool) → same_name (place.text_at source x.token) f ≡ c → (list_any (λ token. i == token) (tokens_among source k f xs) ≡ true → place.text_at source i ≡ f)
-        → list_any (λ token. i == token) (if b && c then x.token ∷ tokens_among source k f xs else tokens_among source k f xs) ≡ true → place.text_at source i ≡ f
+    one : (b c : Bool) → same_name (place.text_at source x.token) f ≡ c → (list_any (λ token. i == token) (tokens_of_field source k f xs) ≡ true → place.text_at source i ≡ f)
+        → list_any (λ token. i == token) (if b && c then x.token ∷ tokens_of_field source k f xs else tokens_of_field source k f xs) ≡ true → place.text_at source i ≡ f
     one true true same later e = here (i == x.token) refl same later e
     one true false same later e = later e
     one false c same later e = later e
 
-pub field_there : (r : Resolution) (k : ℕ) (f new : Name) → IsWellTyped r → RenamedAtTokens
-    → mapped (renamed_at (words_of r.module_read.source) (field_tokens_to_rename r k f new) new) (number_at (words_of r.module_read.source)) (tree_of r.module_read) ≡ field_renamed (named_tree_of r.module_read) k f new
+pub field_there : (r : Resolution) (k : ℕ) (f new : Name) → IsWellTyped r → RenamingChangesFieldTokens
+    → mapped (renamed_word_text (words_of r.module_read.source) (field_tokens_to_rename r k f new) new) (number_at (words_of r.module_read.source)) (tree_of r.module_read) ≡ with_renamed_field (named_tree_of r.module_read) k f new
 field_there r k f new well by_tokens = one (same_name new f) refl
   where
-    s : Scanned
+    s : TextWithTokens
     s = r.module_read.source
 
     kept : (i : ℕ) → new ≡ f → (b : Bool) → list_any (λ token. i == token) (field_tokens r k f) ≡ b → place.text_at s i ≡ (if b then new else place.text_at s i)
@@ -66,7 +66,7 @@ field_there r k f new well by_tokens = one (same_name new f) refl
     kept i own false e = refl
 
     one : (b : Bool) → same_name new f ≡ b
-        → mapped (renamed_at (words_of s) (if b then [] else field_tokens r k f) new) (number_at (words_of s)) (tree_of r.module_read) ≡ field_renamed (named_tree_of r.module_read) k f new
+        → mapped (renamed_word_text (words_of s) (if b then [] else field_tokens r k f) new) (number_at (words_of s)) (tree_of r.module_read) ≡ with_renamed_field (named_tree_of r.module_read) k f new
     one true own =
         (λ j. mapped (λ i. (text_same s i ∙ kept i ((bytes_eq-Decides new f).0 own) (list_any (λ token. i == token) (field_tokens r k f)) refl) j) (λ i. number_same s i j) (tree_of r.module_read))
         ∙ sym (by_tokens r k f new well.resolved well.well_typed)
@@ -88,34 +88,34 @@ module _ (unit : counting.Unit) (text : List ℕ) (place : Position) (new : Name
   abbrev pub requested_field : Resolution → Renaming
   requested_field r = record { unit = unit; text = text; names = r; place = place; new = new }
 
-  pub duplicated : (r : Resolution) → IsIdentifier new → DuplicateByToken → (token : ℕ) (why : EditRefusal) → (if same_name new f then None else declaring_field r.module_read k new) ≡ Some token
-      → why ≡ refusal.Duplicate (token_range (requested_field r) token) → IsRefusedToField (requested_field r) k f why
-  duplicated r id by_token token why other is =
-      let found = other_some (same_name new f) (declaring_field r.module_read k new) token other in
-      subst (IsRefusedToField (requested_field r) k f) (sym is) (id, by_token r.module_read k f new ∙ found.0, ap (option_map (token_range (requested_field r))) found.1)
+  pub duplicated : (r : Resolution) → IsIdentifier new → DuplicateHasDeclaringToken → (token : ℕ) (why : EditRefusal) → (if same_name new f then None else field_declaring_token r.module_read k new) ≡ Some token
+      → why ≡ refusal.Duplicate (token_range (requested_field r) token) → IsFieldRefusal (requested_field r) k f why
+  duplicated r id field_target token why other is =
+      let found = other_some (same_name new f) (field_declaring_token r.module_read k new) token other in
+      subst (IsFieldRefusal (requested_field r) k f) (sym is) (id, field_target r.module_read k f new ∙ found.0, ap (option_map (token_range (requested_field r))) found.1)
 
-  pub field_answered : (r : Resolution) → IsWellTyped r → IsIdentifier new → FieldFree (named_tree_of r.module_read) k f new → FreeFieldKeepsModules → RenamedAtTokens → RenamedWordsSpell
-      → ((name : List ℕ) → IsIdentifier name → ReplacesName name (name_word name ∷ [])) → AreNames r.module_read.source.tokens 0 (field_tokens_to_rename r k f new)
+  pub field_answered : (r : Resolution) → IsWellTyped r → IsIdentifier new → IsFreeFieldName (named_tree_of r.module_read) k f new → FreeFieldRenamingKeepsTypingAndRuns → RenamingChangesFieldTokens → RenamingKeepsSpelling
+      → ((name : List ℕ) → IsIdentifier name → ReplacesName name (name_word name ∷ [])) → AreIdentifierIndexes r.module_read.source.tokens 0 (field_tokens_to_rename r k f new)
       → (result : Result (Vec Edit Global) EditRefusal) → Edited unit text new r.module_read.source (field_tokens_to_rename r k f new) result → AnswersForField (requested_field r) k f result
-  field_answered r well id free keeps by_tokens spells identified names (Ok edits) made =
+  field_answered r well id free keeps by_tokens spells identifier_with_meaning names (Ok edits) made =
       let m = r.module_read in
       record {
         identifier = id;
         free = free;
         writes =
-            written unit text place new k r (field_renamed (named_tree_of m) k f new) (field_tokens_to_rename r k f new) id identified
-            (of_rewritten m (field_renamed (named_tree_of m) k f new) (field_tokens_to_rename r k f new) new well.resolved.parsed spells names (field_there r k f new well by_tokens))
+            written unit text place new k r (with_renamed_field (named_tree_of m) k f new) (field_tokens_to_rename r k f new) id identifier_with_meaning
+            (of_rewritten m (with_renamed_field (named_tree_of m) k f new) (field_tokens_to_rename r k f new) new well.resolved.parsed spells names (field_there r k f new well by_tokens))
             (keeps (named_tree_of m) k f new free well.well_typed) edits made;
       }
-  field_answered r well id free keeps by_tokens spells identified names (Err why) made =
+  field_answered r well id free keeps by_tokens spells identifier_with_meaning names (Err why) made =
       elim made.refusals [
-        | inl e ↦ inr (subst (IsRefusedToField (requested_field r) k f) (sym e) (id, free, made.too_long (ap Err e)))
+        | inl e ↦ inr (subst (IsFieldRefusal (requested_field r) k f) (sym e) (id, free, made.too_long (ap Err e)))
         | inr e ↦ inl e
       ]
 
   -- Renaming a field to its present name doesn't make the text too long.
   pub own_field_answered : (r : Resolution) → IsScan r.module_read.source → new ≡ f
-      → (result : Result (Vec Edit Global) EditRefusal) → Edited unit text new r.module_read.source (field_tokens_to_rename r k f new) result → OnlyMemory result
+      → (result : Result (Vec Edit Global) EditRefusal) → Edited unit text new r.module_read.source (field_tokens_to_rename r k f new) result → FailsOnlyForMemory result
   own_field_answered r scan own (Ok edits) made = tt
   own_field_answered r scan own (Err why) made =
       elim made.refusals [
@@ -125,19 +125,19 @@ module _ (unit : counting.Unit) (text : List ℕ) (place : Position) (new : Name
         | inr e ↦ e
       ]
     where
-      too_long_never : (r : Resolution) → IsScan r.module_read.source → (places : List ℕ) → places ≡ [] → max_text < length (with_text_at r.module_read.source places new) → ⊥
+      too_long_never : (r : Resolution) → IsScan r.module_read.source → (places : List ℕ) → places ≡ [] → max_text < length (text_after_replacement r.module_read.source places new) → ⊥
       too_long_never r scan places none long =
-          let same = subst (λ places. max_text < length (with_text_at r.module_read.source places new)) none long in
+          let same = subst (λ places. max_text < length (text_after_replacement r.module_read.source places new)) none long in
           omega (arith, same, whole r.module_read.source.text, scan.short)
 
 -- ---- an answer for the field at the place is the answer
 
-field_refused_there : (a : Renaming) (k : ℕ) (f : Name) → MeansField a k f → (why : EditRefusal) → IsRefusedToField a k f why → IsRefused a why
+field_refused_there : (a : Renaming) (k : ℕ) (f : Name) → TargetsField a k f → (why : EditRefusal) → IsFieldRefusal a k f why → IsRenameRefusal a why
 field_refused_there a k f means refusal.BadName h = inr (k, (f, means, h))
 field_refused_there a k f means (refusal.Duplicate range) h = inr (k, (f, means, h))
 field_refused_there a k f means refusal.TooLong h = inr (k, (f, means, h))
 field_refused_there a k f means _ h = absurd h
 
-pub field_answered_there : (a : Renaming) (k : ℕ) (f : Name) → MeansField a k f → (result : Result (Vec Edit Global) EditRefusal) → AnswersForField a k f result → RenameAnswers a result
+pub field_answered_there : (a : Renaming) (k : ℕ) (f : Name) → TargetsField a k f → (result : Result (Vec Edit Global) EditRefusal) → AnswersForField a k f result → RenameAnswers a result
 field_answered_there a k f means (Ok edits) h = inr (k, (f, means, h))
 field_answered_there a k f means (Err why) h = elim h [ inl e ↦ inl e | inr e ↦ inr (field_refused_there a k f means why e) ]

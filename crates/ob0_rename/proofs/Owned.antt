@@ -4,18 +4,18 @@ use Rattle.std.proofs.lemmas.Bool.{ltb-false, ltb-true}
 use Rattle.std.proofs.lemmas.List.{length-map, map-append}
 use Rattle.std.proofs.lemmas.Option.{slice_get-get_or}
 use Rattle.std.proofs.lemmas.Slice.Eq.{bytes_eq-Decides}
-use Rattle.ob0_tree.specs.Parsed.{Parsed, named_tree_of, tree_of}
+use Rattle.ob0_tree.specs.ParsedModule.{ParsedModule, named_tree_of, tree_of}
 use Rattle.ob0_tree.specs.Places.{text_at, value_at}
 use Rattle.ob0_tree.specs.Tree.{Tree, identifiers, mapped, block, declares, declares_procedure, end, has_body, item, items, more, one, procedure}
 use Rattle.ob0_tree.specs.declared.tree.Role.TheVariants as role
 use Rattle.ob0_language_names.specs.DeclaredOnce.{declared_once}
 use Rattle.ob0_language_names.specs.Names.{Name, same_name}
 use Rattle.ob0_language_names.specs.Occurrences.{Free}
-use Rattle.ob0_language_names.specs.Parts.{constant_names, formal_names, formal_sections, module_block, named_types, section_constants, section_types, section_variables, variable_names}
+use Rattle.ob0_language_names.specs.Parts.{constant_names, formal_names, formal_sections, module_block, declared_type_names, section_constants, section_types, section_variables, variable_names}
 use Rattle.ob0_language_types.proofs.Literals.{some_inverse}
 use Rattle.ob0_scope.specs.Renames.{namesake}
-use Rattle.ob0_scope_table.specs.Resolution.{declaring_only}
-use Rattle.ob0_language_names.specs.Scopes.{after_block, renamed}
+use Rattle.ob0_scope_table.specs.Resolution.{declaring_names}
+use Rattle.ob0_language_names.specs.Scopes.{ordinal_after_block, renamed}
 use Rattle.ob0_rename.specs.Renaming.{declaring_token, is_declared_as}
 use Rattle.ob0_scope_table.proofs.Declared.{after_count, after_names_in, module_declared, names_in, names_in_procedure, names_in_procedures}
 use Rattle.ob0_scope.proofs.Searched.{constant_section-with, formals-with, map-append₄, type_section-with, variable_section-with}
@@ -29,7 +29,7 @@ module _ {N M : Type 0} (f : N → M) (g : ℕ → ℕ) where
     block_with : (b : Tree N block) → names_in (mapped f g b) ≡ map f (names_in b)
     block_with (has_body (declares cs ts vs ps) statements) =
         (λ i. constant_section-with f g cs i ++ (type_section-with f g ts i ++ (variable_section-with f g vs i ++ procedures_with ps i)))
-        ∙ map-append₄ f (constant_names (section_constants cs)) (named_types (section_types ts)) (variable_names (section_variables vs)) (names_in_procedures ps)
+        ∙ map-append₄ f (constant_names (section_constants cs)) (declared_type_names (section_types ts)) (variable_names (section_variables vs)) (names_in_procedures ps)
 
     procedures_with : (ps : Tree N (items procedure)) → names_in_procedures (mapped f g ps) ≡ map f (names_in_procedures ps)
     procedures_with end = refl
@@ -41,10 +41,10 @@ module _ {N M : Type 0} (f : N → M) (g : ℕ → ℕ) where
 
 -- the tokens of the declared names, and these names
 
-abbrev pub declaring_tokens : Parsed → List ℕ
-declaring_tokens m = declaring_only (identifiers role.Declaring (tree_of m))
+abbrev pub declaring_tokens : ParsedModule → List ℕ
+declaring_tokens m = declaring_names (identifiers role.Declaring (tree_of m))
 
-module _ (m : Parsed) where
+module _ (m : ParsedModule) where
   names_there : names_in (module_block (named_tree_of m)) ≡ map (text_at m.source) (declaring_tokens m)
   names_there = block_with (text_at m.source) (value_at m.source) (module_block (tree_of m)) ∙ ap (map (text_at m.source)) (sym (module_declared (tree_of m)))
 
@@ -94,8 +94,8 @@ module _ (m : Parsed) where
     pub other_is_declared : (other : ℕ) → namesake (named_tree_of m) d new ≡ Some other → (token : ℕ) × (declaring_token m other ≡ Some token)
     other_is_declared other e =
         let ds = declaring_tokens m in
-        let within = subst (OneWithin 7 (after_block 7 (module_block (named_tree_of m)))) e (namesake_within (named_tree_of m) d new) in
-        let count : after_block 7 (module_block (named_tree_of m)) ≡ 7 + length ds =
+        let within = subst (OneWithin 7 (ordinal_after_block 7 (module_block (named_tree_of m)))) e (namesake_within (named_tree_of m) d new) in
+        let count : ordinal_after_block 7 (module_block (named_tree_of m)) ≡ 7 + length ds =
         after_names_in 7 (module_block (named_tree_of m)) ∙ (after_count 7 (names_in (module_block (named_tree_of m))) ∙ (ap (λ xs. 7 + length xs) names_there ∙ ap (λ n. 7 + n) (length-map ds (text_at m.source)))) in
         let high : other - 7 < length ds = omega (arith, within.0, within.1, count) in
         (get_or ds (other - 7) 0, (ap (λ (b : Bool). if b then None else slice_get ds (other - 7)) (at_least other within.0) ∙ slice_get-get_or ds (other - 7) 0 high))

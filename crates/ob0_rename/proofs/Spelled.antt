@@ -2,9 +2,9 @@
 use Rattle.std.proofs.Common.{◌≡◌, ℕ, zero, suc, ◌-◌, ◌<◌, List, [], ◌∷◌, ◌++◌, Option, None, Some, length, slice_get, sym, ◌∙◌, subst, arith, true}
 use Rattle.std.specs.Prelude.{IfSome}
 use Rattle.std.proofs.lemmas.List.{length-map}
-use Rattle.ob0_scan.specs.Classes.{Belongs, IsIdentifier}
+use Rattle.ob0_scan.specs.Classes.{IsLexemeOfKind, IsIdentifier}
 use Rattle.ob0_scan.specs.Lexed.{AreLexemes, Lexeme}
-use Rattle.ob0_scan.specs.Scanned.{IsScan, Word, read_in, word_of, words}
+use Rattle.ob0_scan.specs.TextWithTokens.{IsScan, Word, word_of_token, word_of, words_of_lexemes}
 use Rattle.ob0_scan.specs.declared.lexeme.LexemeKind.{LexemeKind}
 use Rattle.ob0_scan.specs.declared.lexeme.LexemeKind.TheVariants as lexeme
 use Rattle.ob0_scan.specs.declared.lexeme.Token.{Token}
@@ -12,19 +12,19 @@ use Rattle.ob0_scan.specs.declared.lexeme.TokenKind.TheVariants as token
 use Rattle.ob0_scan.proofs.Spans.{scan_words}
 use Rattle.ob0_tree.proofs.Leaves.{leaves_are_identifiers}
 use Rattle.ob0_tree.specs.Order as order
-use Rattle.ob0_tree.specs.Order.{AreIdentifiers, names_only}
-use Rattle.ob0_tree.specs.Parsed.{IsParsed, Parsed, tree_of}
+use Rattle.ob0_tree.specs.Order.{AreIdentifierTokens, names_without_roles}
+use Rattle.ob0_tree.specs.ParsedModule.{IsParsed, ParsedModule, tree_of}
 use Rattle.ob0_tree.specs.Places as place
 use Rattle.ob0_tree.specs.Tree.{identifiers}
 use Rattle.ob0_tree.specs.declared.tree.Role.{Role}
 use Rattle.ob0_tree.specs.declared.tree.Role.TheVariants as role
 use Rattle.ob0_language_names.specs.Names.{Name}
-use Rattle.ob0_scope_table.specs.Resolution.{declaring_only}
+use Rattle.ob0_scope_table.specs.Resolution.{declaring_names}
 use Rattle.ob0_edits_tokens.specs.Changed.{words_of}
 use Rattle.ob0_edits_tokens.specs.OfTrees.{text_of_word, word_at}
 use Rattle.ob0_edits_tokens.proofs.OfTrees.{word_kind}
-use Rattle.ob0_types.specs.MeantAtPlaces.{IsField}
-use Rattle.ob0_types.specs.declared.meant.Identified.{Identified}
+use Rattle.ob0_types.specs.IdentifierMeanings.{IsField}
+use Rattle.ob0_types.specs.declared.meant.ResolvedIdentifier.{ResolvedIdentifier}
 use Rattle.ob0_rename.specs.Renaming.{is_declared_as}
 use Rattle.ob0_rename.proofs.Owned.{IsDeclaredBy, declared_by, declaring_tokens}
 use Rattle.ob0_rename.proofs.Rewritten.{text_same}
@@ -35,14 +35,14 @@ abbrev EachNamed : List Word → Type 0
 EachNamed [] = Unit {0}
 EachNamed (w ∷ ws) = (w.kind ≡ token.Identifier → IsIdentifier w.text) × EachNamed ws
 
-words_named : (ls : List Lexeme) (after : List ℕ) → AreLexemes ls after → EachNamed (words ls)
+words_named : (ls : List Lexeme) (after : List ℕ) → AreLexemes ls after → EachNamed (words_of_lexemes ls)
 words_named [] after are = tt
 words_named (l ∷ ls) after are = one l.kind are.0.belongs (words_named ls after are.1)
   where
-    one : (kind : LexemeKind) → Belongs kind l.text → EachNamed (words ls) → EachNamed (word_of l kind ++ words ls)
+    one : (kind : LexemeKind) → IsLexemeOfKind kind l.text → EachNamed (words_of_lexemes ls) → EachNamed (word_of l kind ++ words_of_lexemes ls)
     one lexeme.Space belongs later = later
     one lexeme.Comment belongs later = later
-    one (lexeme.Token kind) belongs later = ((λ e. subst (λ k. Belongs (lexeme.Token k) l.text) e belongs), later)
+    one (lexeme.Token kind) belongs later = ((λ e. subst (λ k. IsLexemeOfKind (lexeme.Token k) l.text) e belongs), later)
 
 named_word : (ws : List Word) (k : ℕ) → EachNamed ws → k < length ws → (word_at ws k).kind ≡ token.Identifier → IsIdentifier (text_of_word ws k)
 named_word [] k each low e = absurd (omega (arith, low))
@@ -51,24 +51,24 @@ named_word (w ∷ ws) (suc k) each low e = named_word ws k each.1 (omega (arith,
 
 -- a declaring token is an identifier
 
-declaring_are_identifiers : (ts : List Token) (xs : List (Role × ℕ)) → AreIdentifiers ts (names_only xs) → AreIdentifiers ts (declaring_only xs)
+declaring_are_identifiers : (ts : List Token) (xs : List (Role × ℕ)) → AreIdentifierTokens ts (names_without_roles xs) → AreIdentifierTokens ts (declaring_names xs)
 declaring_are_identifiers ts [] h = tt
 declaring_are_identifiers ts ((role.Declaring, n) ∷ xs) h = (h.0, declaring_are_identifiers ts xs h.1)
 declaring_are_identifiers ts ((_, n) ∷ xs) h = declaring_are_identifiers ts xs h.1
 
-one_is_identifier : (ts : List Token) (places : List ℕ) (j k : ℕ) → AreIdentifiers ts places → slice_get places j ≡ Some k → order.IsIdentifierToken ts k
+one_is_identifier : (ts : List Token) (places : List ℕ) (j k : ℕ) → AreIdentifierTokens ts places → slice_get places j ≡ Some k → order.IsIdentifierToken ts k
 one_is_identifier ts [] j k h e = absurd (cc)
 one_is_identifier ts (p ∷ ps) zero k h e = let same : p ≡ k = cc in subst (order.IsIdentifierToken ts) same h.0
 one_is_identifier ts (p ∷ ps) (suc j) k h e = one_is_identifier ts ps j k h.1 e
 
 -- The text of an identifier token is an identifier.
-pub spelled_at : (m : Parsed) (k : ℕ) → IsScan m.source → order.IsIdentifierToken m.source.tokens k → IsIdentifier (place.text_at m.source k)
+pub spelled_at : (m : ParsedModule) (k : ℕ) → IsScan m.source → order.IsIdentifierToken m.source.tokens k → IsIdentifier (place.text_at m.source k)
 spelled_at m k scan is_there =
     let each : EachNamed (words_of m.source) = subst EachNamed (sym (scan_words m.source scan)) (words_named scan.lexemes [] scan.lexed.each) in
-    let low : k < length (words_of m.source) = omega (arith, is_there.0, length-map m.source.tokens (read_in m.source.text)) in
+    let low : k < length (words_of m.source) = omega (arith, is_there.0, length-map m.source.tokens (word_of_token m.source.text)) in
     subst IsIdentifier (text_same m.source k) (named_word (words_of m.source) k each low (word_kind m.source k ∙ is_there.1 _))
 
-pub own_identifier : (m : Parsed) (d : ℕ) (new : Name) → IsParsed m → IsScan m.source → is_declared_as m d new ≡ true → IsIdentifier new
+pub own_identifier : (m : ParsedModule) (d : ℕ) (new : Name) → IsParsed m → IsScan m.source → is_declared_as m d new ≡ true → IsIdentifier new
 own_identifier m d new is scan e =
     let found = declared_by m d new e in
     let by : IsDeclaredBy m d new found.0 = found.1 in
@@ -76,6 +76,6 @@ own_identifier m d new is scan e =
     subst IsIdentifier by.written (spelled_at m found.0 scan is_there)
 
 -- The text of a field's identifier at a place is an identifier.
-pub field_spelled : (m : Parsed) (found : Option Identified) → IsScan m.source → IfSome found (λ x. IsField x.means → order.IsIdentifierToken m.source.tokens x.token) → IfSome found (λ x. IsField x.means → IsIdentifier (place.text_at m.source x.token))
-field_spelled m None scan identified = tt
-field_spelled m (Some x) scan identified = λ field. spelled_at m x.token scan (identified field)
+pub field_spelled : (m : ParsedModule) (found : Option ResolvedIdentifier) → IsScan m.source → IfSome found (λ x. IsField x.means → order.IsIdentifierToken m.source.tokens x.token) → IfSome found (λ x. IsField x.means → IsIdentifier (place.text_at m.source x.token))
+field_spelled m None scan identifier_with_meaning = tt
+field_spelled m (Some x) scan identifier_with_meaning = λ field. spelled_at m x.token scan (identifier_with_meaning field)

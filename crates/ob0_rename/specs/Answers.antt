@@ -4,7 +4,7 @@ use Rattle.std.specs.Prelude.{◌≡◌, ◌⊎◌, ℕ, ◌<◌, ◌≤◌, Lis
 use Rattle.std.specs.Str.{chars}
 use Rattle.std.specs.declared.alloc.Global.{Global}
 use Rattle.ob0_scan.specs.Classes.{IsIdentifier}
-use Rattle.ob0_scan.specs.Scanned.{IsScan, Scanned, max_text}
+use Rattle.ob0_scan.specs.TextWithTokens.{IsScan, TextWithTokens, max_text}
 use Rattle.ob0_text.specs.Patches.{patched}
 use Rattle.ob0_text.specs.Units.{width_of}
 use Rattle.ob0_text.specs.declared.edits.Edit.{Edit}
@@ -13,28 +13,28 @@ use Rattle.ob0_text.specs.declared.refusals.EditRefusal.TheVariants as refusal
 use Rattle.ob0_tree.specs.Module.{ModuleOf}
 use Rattle.ob0_tree.specs.Tree.{Tree, module_text}
 use Rattle.ob0_language_names.specs.Names.{Name}
-use Rattle.ob0_language_names.specs.Occurrences.{Free, at_declaration, at_occurrence, first_captured}
+use Rattle.ob0_language_names.specs.Occurrences.{Free, at_declaration, at_occurrence, first_name_conflict}
 use Rattle.ob0_language_names.specs.Scopes.{renamed}
 use Rattle.ob0_language_types.specs.WellTyped.{WellTyped}
-use Rattle.ob0_language_runs.specs.EditLaws.{SameRuns}
+use Rattle.ob0_language_runs.specs.EditLaws.{HaveSameRuns}
 use Rattle.ob0_edits_tokens.specs.Replaced.{edit_at, parts}
-use Rattle.ob0_language_fields.specs.Renaming.{FieldFree, field_renamed, is_duplicate_field}
-use Rattle.ob0_rename.specs.Renaming.{NamesDeclaration, MeansField, Renaming, field_tokens_to_rename, is_declared_as, meant, module_of, nothing, occurrence_range, other_field_range, other_range, predeclared, text_with, tokens_to_rename, named_tree}
+use Rattle.ob0_language_fields.specs.Renaming.{IsFreeFieldName, with_renamed_field, is_duplicate_field}
+use Rattle.ob0_rename.specs.Renaming.{TargetsDeclaration, TargetsField, Renaming, field_tokens_to_rename, is_declared_as, renaming_target, module_of, nothing, occurrence_range, conflicting_field_range, conflicting_range, predeclared, text_after_renaming, tokens_to_rename, named_tree}
 
 -- Holds if the edits write the new name at these tokens and change nothing else. Made all at once,
 -- they leave a text with this tree. The tree is well-typed and has the same runs as the module
 -- before.
 pub record WritesName (r : Renaming) (tokens : List ℕ) (tree : Tree Name module_text)
     (edits : List Edit) : Type 0 where
-  pub short : length (text_with r tokens) ≤ max_text
+  pub short : length (text_after_renaming r tokens) ≤ max_text
   pub changes : map parts edits
       ≡ map (edit_at r.unit r.text (module_of r).source.tokens r.new) tokens
-  pub after : Scanned
+  pub after : TextWithTokens
   pub scan : IsScan after
   pub made : patched (width_of r.unit) r.text edits ≡ Some (chars after.text)
   pub of_module : ModuleOf after tree
   pub well_typed : WellTyped tree
-  pub same_runs : SameRuns tree (named_tree r)
+  pub same_runs : HaveSameRuns tree (named_tree r)
 
 -- ---- for a declaration
 
@@ -48,33 +48,33 @@ pub record Renames (r : Renaming) (d : ℕ) (edits : List Edit) : Type 0 where
 
 -- Holds if this refusal applies to the new name of the declaration `d`. If there are several
 -- reasons, it is the first of them in the order of these cases.
-abbrev pub IsRefusedTo : Renaming → ℕ → EditRefusal → Type 0
-IsRefusedTo r d refusal.NoName = ⊥
-IsRefusedTo r d refusal.Predeclared = ⊥
-IsRefusedTo r d refusal.BadName = ¬ IsIdentifier r.new
-IsRefusedTo r d (refusal.Duplicate range) =
+abbrev pub IsDeclarationRefusal : Renaming → ℕ → EditRefusal → Type 0
+IsDeclarationRefusal r d refusal.NoName = ⊥
+IsDeclarationRefusal r d refusal.Predeclared = ⊥
+IsDeclarationRefusal r d refusal.BadName = ¬ IsIdentifier r.new
+IsDeclarationRefusal r d (refusal.Duplicate range) =
     IsIdentifier r.new
-    × (first_captured (named_tree r) d r.new ≡ Some at_declaration)
-    × (other_range r d ≡ Some range)
-IsRefusedTo r d (refusal.Captures range) =
+    × (first_name_conflict (named_tree r) d r.new ≡ Some at_declaration)
+    × (conflicting_range r d ≡ Some range)
+IsDeclarationRefusal r d (refusal.Captures range) =
     IsIdentifier r.new
     × ((k : ℕ)
-    × (first_captured (named_tree r) d r.new ≡ Some (at_occurrence k))
+    × (first_name_conflict (named_tree r) d r.new ≡ Some (at_occurrence k))
     × (occurrence_range r k ≡ Some range))
-IsRefusedTo r d refusal.TooLong =
+IsDeclarationRefusal r d refusal.TooLong =
     IsIdentifier r.new
     × Free (named_tree r) d r.new
-    × (max_text < length (text_with r (tokens_to_rename (module_of r) d r.new)))
-IsRefusedTo r d refusal.TooDeep = ⊥
-IsRefusedTo r d refusal.Shadowed = ⊥
-IsRefusedTo r d refusal.CommentInside = ⊥
-IsRefusedTo r d refusal.Memory = ⊥
+    × (max_text < length (text_after_renaming r (tokens_to_rename (module_of r) d r.new)))
+IsDeclarationRefusal r d refusal.TooDeep = ⊥
+IsDeclarationRefusal r d refusal.Shadowed = ⊥
+IsDeclarationRefusal r d refusal.CommentInside = ⊥
+IsDeclarationRefusal r d refusal.Memory = ⊥
 
 -- Holds for edits that rename the declaration `d`. Holds for the refusal that applies, and for
 -- `Memory`.
-abbrev pub AnswersDeclaration : Renaming → ℕ → Result (Vec Edit Global) EditRefusal → Type 0
-AnswersDeclaration r d (Ok edits) = Renames r d edits.items
-AnswersDeclaration r d (Err why) = (why ≡ refusal.Memory) ⊎ IsRefusedTo r d why
+abbrev pub AnswersForDeclaration : Renaming → ℕ → Result (Vec Edit Global) EditRefusal → Type 0
+AnswersForDeclaration r d (Ok edits) = Renames r d edits.items
+AnswersForDeclaration r d (Err why) = (why ≡ refusal.Memory) ⊎ IsDeclarationRefusal r d why
 
 -- ---- for a field
 
@@ -82,89 +82,89 @@ AnswersDeclaration r d (Err why) = (why ≡ refusal.Memory) ⊎ IsRefusedTo r d 
 -- of the record `k`. They leave the module with that field renamed.
 pub record RenamesField (r : Renaming) (k : ℕ) (f : Name) (edits : List Edit) : Type 0 where
   pub identifier : IsIdentifier r.new
-  pub free : FieldFree (named_tree r) k f r.new
+  pub free : IsFreeFieldName (named_tree r) k f r.new
   pub writes : WritesName r (field_tokens_to_rename r.names k f r.new)
-      (field_renamed (named_tree r) k f r.new) edits
+      (with_renamed_field (named_tree r) k f r.new) edits
 
 -- Holds if this refusal applies to the new name of the field `f` of the record `k`. Only another
 -- field of this record conflicts with the new name.
-abbrev pub IsRefusedToField : Renaming → ℕ → Name → EditRefusal → Type 0
-IsRefusedToField r k f refusal.NoName = ⊥
-IsRefusedToField r k f refusal.Predeclared = ⊥
-IsRefusedToField r k f refusal.BadName = ¬ IsIdentifier r.new
-IsRefusedToField r k f (refusal.Duplicate range) =
+abbrev pub IsFieldRefusal : Renaming → ℕ → Name → EditRefusal → Type 0
+IsFieldRefusal r k f refusal.NoName = ⊥
+IsFieldRefusal r k f refusal.Predeclared = ⊥
+IsFieldRefusal r k f refusal.BadName = ¬ IsIdentifier r.new
+IsFieldRefusal r k f (refusal.Duplicate range) =
     IsIdentifier r.new
     × (is_duplicate_field (named_tree r) k f r.new ≡ true)
-    × (other_field_range r k ≡ Some range)
-IsRefusedToField r k f (refusal.Captures range) = ⊥
-IsRefusedToField r k f refusal.TooLong =
+    × (conflicting_field_range r k ≡ Some range)
+IsFieldRefusal r k f (refusal.Captures range) = ⊥
+IsFieldRefusal r k f refusal.TooLong =
     IsIdentifier r.new
-    × FieldFree (named_tree r) k f r.new
-    × (max_text < length (text_with r (field_tokens_to_rename r.names k f r.new)))
-IsRefusedToField r k f refusal.TooDeep = ⊥
-IsRefusedToField r k f refusal.Shadowed = ⊥
-IsRefusedToField r k f refusal.CommentInside = ⊥
-IsRefusedToField r k f refusal.Memory = ⊥
+    × IsFreeFieldName (named_tree r) k f r.new
+    × (max_text < length (text_after_renaming r (field_tokens_to_rename r.names k f r.new)))
+IsFieldRefusal r k f refusal.TooDeep = ⊥
+IsFieldRefusal r k f refusal.Shadowed = ⊥
+IsFieldRefusal r k f refusal.CommentInside = ⊥
+IsFieldRefusal r k f refusal.Memory = ⊥
 
 -- Holds for edits that rename the field `f` of the record `k`. Holds for the refusal that applies,
 -- and for `Memory`.
 abbrev pub AnswersForField : Renaming → ℕ → Name → Result (Vec Edit Global) EditRefusal → Type 0
 AnswersForField r k f (Ok edits) = RenamesField r k f edits.items
-AnswersForField r k f (Err why) = (why ≡ refusal.Memory) ⊎ IsRefusedToField r k f why
+AnswersForField r k f (Err why) = (why ≡ refusal.Memory) ⊎ IsFieldRefusal r k f why
 
 -- ---- by the identifier at the place
 
 -- Holds if this refusal applies to the new name of the declaration or field at the place.
-abbrev pub IsRefusedToNamed : Renaming → EditRefusal → Type 0
-IsRefusedToNamed r why =
-    ((d : ℕ) × NamesDeclaration r d × IsRefusedTo r d why)
-    ⊎ ((k : ℕ) × ((f : Name) × MeansField r k f × IsRefusedToField r k f why))
+abbrev pub IsTargetRefusal : Renaming → EditRefusal → Type 0
+IsTargetRefusal r why =
+    ((d : ℕ) × TargetsDeclaration r d × IsDeclarationRefusal r d why)
+    ⊎ ((k : ℕ) × ((f : Name) × TargetsField r k f × IsFieldRefusal r k f why))
 
 -- Holds if this refusal applies to the renaming: no name is at the place, it is predeclared, or the
 -- new name is refused.
-abbrev pub IsRefused : Renaming → EditRefusal → Type 0
-IsRefused r refusal.NoName = meant r ≡ nothing
-IsRefused r refusal.Predeclared = meant r ≡ predeclared
-IsRefused r refusal.BadName = IsRefusedToNamed r refusal.BadName
-IsRefused r (refusal.Duplicate range) = IsRefusedToNamed r (refusal.Duplicate range)
-IsRefused r (refusal.Captures range) = IsRefusedToNamed r (refusal.Captures range)
-IsRefused r refusal.TooLong = IsRefusedToNamed r refusal.TooLong
-IsRefused r refusal.TooDeep = ⊥
-IsRefused r refusal.Shadowed = ⊥
-IsRefused r refusal.CommentInside = ⊥
-IsRefused r refusal.Memory = ⊥
+abbrev pub IsRenameRefusal : Renaming → EditRefusal → Type 0
+IsRenameRefusal r refusal.NoName = renaming_target r ≡ nothing
+IsRenameRefusal r refusal.Predeclared = renaming_target r ≡ predeclared
+IsRenameRefusal r refusal.BadName = IsTargetRefusal r refusal.BadName
+IsRenameRefusal r (refusal.Duplicate range) = IsTargetRefusal r (refusal.Duplicate range)
+IsRenameRefusal r (refusal.Captures range) = IsTargetRefusal r (refusal.Captures range)
+IsRenameRefusal r refusal.TooLong = IsTargetRefusal r refusal.TooLong
+IsRenameRefusal r refusal.TooDeep = ⊥
+IsRenameRefusal r refusal.Shadowed = ⊥
+IsRenameRefusal r refusal.CommentInside = ⊥
+IsRenameRefusal r refusal.Memory = ⊥
 
 -- holds if these edits rename the declaration or field at the place
-abbrev pub AreEdits : Renaming → List Edit → Type 0
-AreEdits r edits =
-    ((d : ℕ) × NamesDeclaration r d × Renames r d edits)
-    ⊎ ((k : ℕ) × ((f : Name) × MeansField r k f × RenamesField r k f edits))
+abbrev pub AreRenameEdits : Renaming → List Edit → Type 0
+AreRenameEdits r edits =
+    ((d : ℕ) × TargetsDeclaration r d × Renames r d edits)
+    ⊎ ((k : ℕ) × ((f : Name) × TargetsField r k f × RenamesField r k f edits))
 
 -- Holds for edits that rename the declaration or field at the place. Holds for the refusal of the
 -- renaming, and for `Memory`.
 abbrev pub RenameAnswers : Renaming → Result (Vec Edit Global) EditRefusal → Type 0
-RenameAnswers r (Ok edits) = AreEdits r edits.items
-RenameAnswers r (Err why) = (why ≡ refusal.Memory) ⊎ IsRefused r why
+RenameAnswers r (Ok edits) = AreRenameEdits r edits.items
+RenameAnswers r (Err why) = (why ≡ refusal.Memory) ⊎ IsRenameRefusal r why
 
 -- Holds if a declaration or a field is at the place, and the new name is an identifier. Only then
 -- can an allocation fail.
 pub record AllocatesOnly (r : Renaming) : Type 0 where
   pub identifier : IsIdentifier r.new
-  pub some : ¬ (meant r ≡ nothing)
-  pub declared : ¬ (meant r ≡ predeclared)
+  pub some : ¬ (renaming_target r ≡ nothing)
+  pub declared : ¬ (renaming_target r ≡ predeclared)
 
 -- ---- renaming to the present name
 
 -- holds if the result is edits or a failed allocation
-abbrev pub OnlyMemory : Result (Vec Edit Global) EditRefusal → Type 0
-OnlyMemory result = IfErr result (λ why. why ≡ refusal.Memory)
+abbrev pub FailsOnlyForMemory : Result (Vec Edit Global) EditRefusal → Type 0
+FailsOnlyForMemory result = IfErr result (λ why. why ≡ refusal.Memory)
 
 -- Holds if a renaming to the present name isn't refused: the result is then edits or a failed
 -- allocation.
-abbrev pub TakesOwnName : Renaming → Result (Vec Edit Global) EditRefusal → Type 0
-TakesOwnName r result =
+abbrev pub AcceptsPresentName : Renaming → Result (Vec Edit Global) EditRefusal → Type 0
+AcceptsPresentName r result =
     ((d : ℕ)
-    → NamesDeclaration r d
+    → TargetsDeclaration r d
     → is_declared_as (module_of r) d r.new ≡ true
-    → OnlyMemory result)
-    × ((k : ℕ) (f : Name) → MeansField r k f → r.new ≡ f → OnlyMemory result)
+    → FailsOnlyForMemory result)
+    × ((k : ℕ) (f : Name) → TargetsField r k f → r.new ≡ f → FailsOnlyForMemory result)

@@ -2,26 +2,26 @@
 -- new name, and its conflicts.
 -- Rule: docs/PROTOCOL.md, Requests on documents 6, Refusals of edits.
 use Rattle.std.specs.Prelude.{◌≡◌, ℕ, Bool, true, false, nat_lt, if◌then◌else◌, List, [], Option, Some, None, option_and_then, option_map, slice_get}
-use Rattle.ob0_scan.specs.Scanned.{Scanned}
+use Rattle.ob0_scan.specs.TextWithTokens.{TextWithTokens}
 use Rattle.ob0_text.specs.Texts.{offset_of}
 use Rattle.ob0_text.specs.Units.{width_of}
 use Rattle.ob0_text.specs.declared.position_types.Position.{Position}
 use Rattle.ob0_text.specs.declared.position_types.Range.{Range}
 use Rattle.ob0_text.specs.declared.position_types.Unit as counting
-use Rattle.ob0_tree.specs.Parsed as read
+use Rattle.ob0_tree.specs.ParsedModule as read
 use Rattle.ob0_tree.specs.Places.{text_at}
 use Rattle.ob0_tree.specs.Tree.{Tree, identifiers, module_text, occurrences}
 use Rattle.ob0_tree.specs.declared.tree.Role.TheVariants as role
 use Rattle.ob0_language_names.specs.Names.{Name, same_name}
 use Rattle.ob0_language_names.specs.Scopes.{predeclared_count}
 use Rattle.ob0_scope.specs.Renames.{namesake}
-use Rattle.ob0_scope_table.specs.Resolution.{Resolution, declaring_only, span_at, token_declaring}
-use Rattle.ob0_edits_tokens.specs.Replaced.{with_text_at}
+use Rattle.ob0_scope_table.specs.Resolution.{Resolution, declaring_names, span_at, declaration_token}
+use Rattle.ob0_edits_tokens.specs.Replaced.{text_after_replacement}
 use Rattle.ob0_edits_tokens.specs.Ranges.{range_of}
-use Rattle.ob0_scope.specs.NamesAtPlaces.{name_on, tokens_bound}
+use Rattle.ob0_scope.specs.NamesAtPlaces.{name_on, tokens_bound_to}
 use Rattle.ob0_scope.specs.declared.naming.Named as named
 use Rattle.ob0_types_fields.specs.declared.field_name.FieldName.{FieldName}
-use Rattle.ob0_types_fields.specs.Identifiers.{declaring_field, field_at, field_tokens}
+use Rattle.ob0_types_fields.specs.Identifiers.{field_declaring_token, field_at, field_tokens}
 
 -- A requested renaming: the text, in characters, and the unit of its positions, its module with
 -- bound names, the place of the old name, and the new name.
@@ -38,7 +38,7 @@ renaming_of unit text names place new =
     record { unit = unit; text = text; names = names; place = place; new = new }
 
 -- returns the module of the text
-abbrev pub module_of : Renaming → read.Parsed
+abbrev pub module_of : Renaming → read.ParsedModule
 module_of r = r.names.module_read
 
 -- returns the module's tree, with texts as its names
@@ -49,63 +49,63 @@ named_tree r = read.named_tree_of (module_of r)
 
 -- The target of a renaming: a predeclared name, a declaration, a field, or nothing if no name is at
 -- the place.
-pub data Target : Type 0 where
-  nothing : Target
-  predeclared : Target
+pub data RenameTarget : Type 0 where
+  nothing : RenameTarget
+  predeclared : RenameTarget
   -- the declaration with this ordinal
-  declaration : ℕ → Target
+  declaration : ℕ → RenameTarget
   -- the field with this name of the record with this ordinal
-  field_of : ℕ → Name → Target
+  field_of : ℕ → Name → RenameTarget
 
 -- Returns the target for a name with this ordinal. It is a predeclared name if the ordinal is below
 -- `predeclared_count`, otherwise a declaration.
-abbrev pub by_ordinal : ℕ → Target
-by_ordinal ordinal = if nat_lt ordinal predeclared_count then predeclared else declaration ordinal
+abbrev pub ordinal_target : ℕ → RenameTarget
+ordinal_target ordinal = if nat_lt ordinal predeclared_count then predeclared else declaration ordinal
 
 -- Returns the field that this identifier declares or selects, as a target, or `nothing` for None.
-abbrev pub by_token : Scanned → Option FieldName → Target
-by_token source None = nothing
-by_token source (Some x) = field_of x.owner (text_at source x.token)
+abbrev pub field_target : TextWithTokens → Option FieldName → RenameTarget
+field_target source None = nothing
+field_target source (Some x) = field_of x.owner (text_at source x.token)
 
 -- Returns the target for the name at a place, or for the field there if no name is there.
-abbrev pub meant_by : Scanned → Option named.Named → Option FieldName → Target
-meant_by source (Some n) f = by_ordinal n.ordinal
-meant_by source None f = by_token source f
+abbrev pub meaning_of_name_or_field : TextWithTokens → Option named.Named → Option FieldName → RenameTarget
+meaning_of_name_or_field source (Some n) f = ordinal_target n.ordinal
+meaning_of_name_or_field source None f = field_target source f
 
 -- Returns the target at a byte offset: the name there, or otherwise the field there.
-abbrev pub meant_at : Resolution → ℕ → Target
-meant_at names offset =
-    meant_by names.module_read.source (name_on names.module_read offset) (field_at names offset)
+abbrev pub identifier_meaning_at : Resolution → ℕ → RenameTarget
+identifier_meaning_at names offset =
+    meaning_of_name_or_field names.module_read.source (name_on names.module_read offset) (field_at names offset)
 
 -- returns the target of the identifier at the renaming's place
-abbrev pub meant : Renaming → Target
-meant r = meant_at r.names (offset_of (width_of r.unit) r.text r.place)
+abbrev pub renaming_target : Renaming → RenameTarget
+renaming_target r = identifier_meaning_at r.names (offset_of (width_of r.unit) r.text r.place)
 
 -- holds if the renaming's target is the declaration with this ordinal
-abbrev pub NamesDeclaration : Renaming → ℕ → Type 0
-NamesDeclaration r d = meant r ≡ declaration d
+abbrev pub TargetsDeclaration : Renaming → ℕ → Type 0
+TargetsDeclaration r d = renaming_target r ≡ declaration d
 
 -- holds if the renaming's target is the field `f` of the record with the ordinal `k`
-abbrev pub MeansField : Renaming → ℕ → Name → Type 0
-MeansField r k f = meant r ≡ field_of k f
+abbrev pub TargetsField : Renaming → ℕ → Name → Type 0
+TargetsField r k f = renaming_target r ≡ field_of k f
 
 -- ---- the places of the new name
 
 -- Returns the token that declares the object with this ordinal, or None for a predeclared name.
-abbrev pub declaring_token : read.Parsed → ℕ → Option ℕ
+abbrev pub declaring_token : read.ParsedModule → ℕ → Option ℕ
 declaring_token m ordinal =
-    token_declaring (declaring_only (identifiers role.Declaring (read.tree_of m))) ordinal
+    declaration_token (declaring_names (identifiers role.Declaring (read.tree_of m))) ordinal
 
 -- returns true if the declaration `d` has the name `new`
-abbrev pub is_declared_as : read.Parsed → ℕ → Name → Bool
+abbrev pub is_declared_as : read.ParsedModule → ℕ → Name → Bool
 is_declared_as m d new =
     elim (declaring_token m d)
     [ Some token ↦ same_name (text_at m.source token) new | None ↦ false ]
 
 -- Returns the tokens of the declaration's name, including the declaring one and closing names. The
 -- list is empty if the declaration already has the name `new`.
-abbrev pub tokens_to_rename : read.Parsed → ℕ → Name → List ℕ
-tokens_to_rename m d new = if is_declared_as m d new then [] else tokens_bound m d true
+abbrev pub tokens_to_rename : read.ParsedModule → ℕ → Name → List ℕ
+tokens_to_rename m d new = if is_declared_as m d new then [] else tokens_bound_to m d true
 
 -- Returns the tokens that declare or select the field `f` of the record `k`. The list is empty if
 -- the field already has the name `new`.
@@ -113,8 +113,8 @@ abbrev pub field_tokens_to_rename : Resolution → ℕ → Name → Name → Lis
 field_tokens_to_rename names k f new = if same_name new f then [] else field_tokens names k f
 
 -- returns the text with the new name at these tokens, in bytes
-abbrev pub text_with : Renaming → List ℕ → List ℕ
-text_with r tokens = with_text_at (module_of r).source tokens r.new
+abbrev pub text_after_renaming : Renaming → List ℕ → List ℕ
+text_after_renaming r tokens = text_after_replacement (module_of r).source tokens r.new
 
 -- ---- conflicts of the new name
 
@@ -124,15 +124,15 @@ token_range r token = range_of (width_of r.unit) r.text (span_at (module_of r).s
 
 -- Returns the range of the identifier that declares another object with the new name in the block
 -- of `d`, or None if no other object has it.
-abbrev pub other_range : Renaming → ℕ → Option Range
-other_range r d =
+abbrev pub conflicting_range : Renaming → ℕ → Option Range
+conflicting_range r d =
     option_map (token_range r)
     (option_and_then (declaring_token (module_of r)) (namesake (named_tree r) d r.new))
 
 -- Returns the range of the identifier that declares a field of the record `k` with the new name, or
 -- None if no field has it.
-abbrev pub other_field_range : Renaming → ℕ → Option Range
-other_field_range r k = option_map (token_range r) (declaring_field (module_of r) k r.new)
+abbrev pub conflicting_field_range : Renaming → ℕ → Option Range
+conflicting_field_range r k = option_map (token_range r) (field_declaring_token (module_of r) k r.new)
 
 -- Returns the range of the occurrence with this number, counted from 0 in text order, or None if
 -- the text has fewer occurrences.

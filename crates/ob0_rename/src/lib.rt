@@ -3,8 +3,8 @@
 //! edits.)
 #![tactic(auto)]
 
+mod declaration_edits;
 mod fields;
 mod places;
-mod renaming;
 
-pub use renaming::rename;
+pub use declaration_edits::rename;

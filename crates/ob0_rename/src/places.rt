@@ -7,28 +7,31 @@ ghost use Rattle.ob0_scope_table.specs.Resolution.{span_at};
 ghost use Rattle.ob0_text.specs.Units.{width_of};
 ghost use Rattle.ob0_tree.specs.Places.{text_at};
 ghost use Rattle.ob0_edits_tokens.specs.Ranges.{range_of};
-ghost use Rattle.ob0_edits_tokens.specs.Replaced.{AreNames};
-ghost use Rattle.ob0_types.specs.MeantAtPlaces.{IsField, meant_at};
+ghost use Rattle.ob0_edits_tokens.specs.Replaced.{AreIdentifierIndexes};
+ghost use Rattle.ob0_types.specs.IdentifierMeanings.{IsField, identifier_meaning_at};
 ghost use Rattle.ob0_rename.specs.Renaming.{is_declared_as, tokens_to_rename};
 
 use ob0_edits_tokens::range_of;
 use ob0_scan::{Span, Tokens};
-use ob0_scope::renamed_tokens;
-use ob0_scope_table::{Resolved, is_written, token_span};
+use ob0_scope::tokens_changed_by_rename;
+use ob0_scope_table::{Resolved, has_spelling, token_span};
 use ob0_text::{Range, TextStore};
-use ob0_types::{Identified, WellTyped, meant_at};
+use ob0_types::{ResolvedIdentifier, WellTyped, identifier_meaning_at};
 use std::alloc::{AllocError, Global};
 
 /// Returns the identifier at a byte offset with its meaning, or None if no name or field is there.
 /// The contract adds that a field's name is an identifier by the scanner's rules.
-pub(crate) fn identified(well_typed: &WellTyped<'_>, offset: usize) -> Option<Identified>
-    ensures found { result ≡ meant_at well_typed.now offset }
+pub(crate) fn identifier_with_meaning(
+    well_typed: &WellTyped<'_>,
+    offset: usize,
+) -> Option<ResolvedIdentifier>
+    ensures found { result ≡ identifier_meaning_at well_typed.now offset }
     ensures spelled { IfSome result (λ x. IsField x.means
         → IsIdentifier (text_at well_typed.now.module_read.source x.token)) }
 {
     // The proof needs the contract of this call.
     let _text = well_typed.resolved().tokens().text();
-    meant_at(well_typed, offset)
+    identifier_meaning_at(well_typed, offset)
 }
 
 /// Returns the tokens of a declaration's name, in text order. The list is empty if the declaration already has the new
@@ -42,12 +45,12 @@ pub(crate) fn tokens_to_rename(
     ensures value { IfOk result
         (λ found. found.items ≡ tokens_to_rename names.now.module_read declaration new.now) }
     ensures names { IfOk result
-        (λ found. AreNames names.now.module_read.source.tokens 0 found.items) }
+        (λ found. AreIdentifierIndexes names.now.module_read.source.tokens 0 found.items) }
 {
     if is_declared_as(names, declaration, new) {
         return Ok(Vec::new(alloc));
     }
-    renamed_tokens(alloc, names, declaration)
+    tokens_changed_by_rename(alloc, names, declaration)
 }
 
 /// Returns true if a declaration has this name.
@@ -57,7 +60,7 @@ fn is_declared_as(names: &Resolved, declaration: usize, name: &str) -> bool
     // The proof needs the contract of this call.
     let _module = names.module();
     match names.declaring_token(declaration) {
-        Some(token) => is_written(names.tokens(), token, name),
+        Some(token) => has_spelling(names.tokens(), token, name),
         None => false,
     }
 }

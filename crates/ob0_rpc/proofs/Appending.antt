@@ -31,7 +31,7 @@ use Rattle.serde_json.specs.Written.{comma_if, compact_text, items_text, members
 use Rattle.serde_json.proofs.Numbers.{number_of-decimal, number_of-negative}
 use Rattle.serde_json.proofs.Texts.{print-outline}
 use Rattle.ob0_text.specs.declared.position_types.Position.{Position}
-use Rattle.ob0_rpc.specs.Appending.{Appends, AppendsEach, AppendsItem, AppendsMember, AppendsMembers, AreReadBack, IsReadBack, listed}
+use Rattle.ob0_rpc.specs.Appending.{Appends, AppendsEach, AppendsItem, AppendsMember, AppendsMembers, AllReadBack, ReadsBack, comma_separated_texts}
 use Rattle.ob0_rpc.specs.Shapes.{position_value, range_value}
 use Rattle.ob0_rpc.specs.Writing.{Writes}
 
@@ -57,13 +57,13 @@ mutual
 -- ---- a whole text
 
 -- The tokens of a value's text are the tokens of its outline.
-tokens_of_text : (d : Data) → IsReadBack d → tokens (compact_text d) ≡ tree.json_tokens (outline d)
+tokens_of_text : (d : Data) → ReadsBack d → tokens (compact_text d) ≡ tree.json_tokens (outline d)
 tokens_of_text d r = ap tokens (sym (print-outline d)) ∙ tokens-print (tree.json_tokens (outline d)) (ArePrintable-json_tokens (outline d) r.numbers)
 
 abbrev whole : Option (json.Json × List Token) → Option Data
 whole o = option_and_then of_json (option_and_then (λ p. json.if_last p.0 p.1) o)
 
-reads_as : (d : Data) → IsReadBack d → depth d ≤ 127 → read (compact_text d) ≡ Some d
+reads_as : (d : Data) → ReadsBack d → depth d ≤ 127 → read (compact_text d) ≡ Some d
 reads_as d r shallow =
     ap whole (ap (json.value max_depth) (tokens_of_text d r ∙ sym (append-nil _)) ∙ value-json_tokens (outline d) max_depth [] (omega (arith, outline_depth d))) ∙ r.reads
 
@@ -168,7 +168,7 @@ record AreMembers (ms : Members) : Type 0 where
   numbers : tree.MembersHaveNumbers (members_outline ms)
   utf8 : IsUtf8 (members_text true ms)
 
-more_members : (k : List ℕ) (d : Data) (ms : Members) → IsName k → IsReadBack d → AreMembers ms → AreMembers (member k d ms)
+more_members : (k : List ℕ) (d : Data) (ms : Members) → IsName k → ReadsBack d → AreMembers ms → AreMembers (member k d ms)
 more_members k d ms n r rest = record {
   reads = λ found. rw r.reads (rest.reads (put k d found));
   numbers = (r.numbers, rest.numbers);
@@ -233,14 +233,14 @@ object_text_of_two k l d e rest n o =
 
 -- ---- positions and ranges
 
-text_read : (s : List ℕ) → IsUtf8 s → IsReadBack (string s)
+text_read : (s : List ℕ) → IsUtf8 s → ReadsBack (string s)
 text_read s utf8 = record { reads = refl; numbers = tt; utf8 = IsUtf8-quoted s utf8 }
 
-count_read : (n : ℕ) → n < 2 ^ 64 → IsReadBack (number (unsigned n))
+count_read : (n : ℕ) → n < 2 ^ 64 → ReadsBack (number (unsigned n))
 count_read n fits = record { reads = ap (option_map number) (number_of-decimal n fits); numbers = IsNumber-decimal n fits; utf8 = IsUtf8-from_ascii _ (IsAscii-decimal n fits) }
 
-pub read_two : (k l : List ℕ) (d e : Data) → IsName k → IsName l → rebuilt (member k d (member l e no_members)) no_members ≡ member k d (member l e no_members) → IsReadBack d → IsReadBack e
-    → IsReadBack (object (member k d (member l e no_members)))
+pub read_two : (k l : List ℕ) (d e : Data) → IsName k → IsName l → rebuilt (member k d (member l e no_members)) no_members ≡ member k d (member l e no_members) → ReadsBack d → ReadsBack e
+    → ReadsBack (object (member k d (member l e no_members)))
 read_two k l d e n o order r q =
     let last = more_members l e no_members o q (record { reads = λ found. refl; numbers = tt; utf8 = brace }) in
     record {
@@ -249,7 +249,7 @@ read_two k l d e n o order r q =
       utf8 = utf8_member 123 k (compact_text d) (members_text true (member l e no_members)) refl n.utf8 r.utf8 last.utf8;
     }
 
-pub position_read : (p : Position) → p.character < 2 ^ 64 → p.line < 2 ^ 64 → IsReadBack (position_value p)
+pub position_read : (p : Position) → p.character < 2 ^ 64 → p.line < 2 ^ 64 → ReadsBack (position_value p)
 position_read p fits fit =
     read_two (codes "character") (codes "line") (number (unsigned p.character)) (number (unsigned p.line)) (name (codes "character") refl refl) (name (codes "line") refl refl) refl
     (count_read p.character fits) (count_read p.line fit)
@@ -268,17 +268,17 @@ pub range_text : (start end : Position) (t0 t1 t2 t3 t4 t5 : List ℕ) → t1 �
 range_text start end t0 t1 t2 t3 t4 t5 h1 h2 h3 h4 h5 =
     rw (h5, h4, h3, h2, h1) (object_text_of_two (codes "end") (codes "start") (position_value end) (position_value start) t0 (name (codes "end") refl refl) (name (codes "start") refl refl))
 
-pub range_read : (start end : Position) → IsReadBack (position_value start) → IsReadBack (position_value end) → IsReadBack (range_value start end)
+pub range_read : (start end : Position) → ReadsBack (position_value start) → ReadsBack (position_value end) → ReadsBack (range_value start end)
 range_read start end r q = read_two (codes "end") (codes "start") (position_value end) (position_value start) (name (codes "end") refl refl) (name (codes "start") refl refl) refl q r
 
 -- If a value's text was built at the end of a buffer and then appended, the value was appended.
-pub put_down : (d : Data) (old new t0 t1 : List ℕ) → t0 ≡ [] → t1 ≡ compact_text d ++ t0 → new ≡ old ++ t1 → IsReadBack d → Appends d old new
+pub put_down : (d : Data) (old new t0 t1 : List ℕ) → t0 ≡ [] → t1 ≡ compact_text d ++ t0 → new ≡ old ++ t1 → ReadsBack d → Appends d old new
 put_down d old new t0 t1 none put is r = record { text = is ∙ ap (λ t. old ++ t) (put ∙ ap (λ t. compact_text d ++ t) none ∙ append-nil _); reads = r }
 
 -- If an edit's new text was written first and its range together with the text around it after
 -- that, the edit was written.
 pub edit_put_down : (said : List ℕ) (start end : Position) (t0 t1 t2 t3 : List ℕ) → IsUtf8 said → t1 ≡ t0 ++ (123 ∷ named (codes "newText") (34 ∷ [])) → t2 ≡ t1 ++ escape said
-    → t3 ≡ t2 ++ (codes "\",\"range\":" ++ (compact_text (range_value start end) ++ 125 ∷ [])) → IsReadBack (range_value start end)
+    → t3 ≡ t2 ++ (codes "\",\"range\":" ++ (compact_text (range_value start end) ++ 125 ∷ [])) → ReadsBack (range_value start end)
     → Appends (object (member (codes "newText") (string said) (member (codes "range") (range_value start end) no_members))) t0 t3
 edit_put_down said start end t0 t1 t2 t3 utf8 h1 h2 h3 r =
     let is : t3 ≡ t0 ++ (123 ∷ named (codes "newText") (compact_text (string said) ++ 44 ∷ named (codes "range") (compact_text (range_value start end) ++ 125 ∷ []))) =
@@ -301,19 +301,19 @@ abbrev pub some : List Data → Bool
 some [] = false
 some (d ∷ ds) = true
 
-read_joined : (xs ys : List Data) → AreReadBack xs → AreReadBack ys → AreReadBack (xs ++ ys)
+read_joined : (xs ys : List Data) → AllReadBack xs → AllReadBack ys → AllReadBack (xs ++ ys)
 read_joined [] ys h k = k
 read_joined (x ∷ xs) ys h k = (h.0, read_joined xs ys h.1 k)
 
-listed_true : (xs ys : List Data) → listed true (xs ++ ys) ≡ listed true xs ++ listed true ys
+listed_true : (xs ys : List Data) → comma_separated_texts true (xs ++ ys) ≡ comma_separated_texts true xs ++ comma_separated_texts true ys
 listed_true [] ys = refl
 listed_true (x ∷ xs) ys = rw (listed_true xs ys) (simp append_assoc refl)
 
-comma_before : (ys : List Data) → listed true ys ≡ comma_if (some ys) ++ listed false ys
+comma_before : (ys : List Data) → comma_separated_texts true ys ≡ comma_if (some ys) ++ comma_separated_texts false ys
 comma_before [] = refl
 comma_before (y ∷ ys) = refl
 
-listed_joined : (xs ys : List Data) → listed false (xs ++ ys) ≡ listed false xs ++ (comma_if (some xs && some ys) ++ listed false ys)
+listed_joined : (xs ys : List Data) → comma_separated_texts false (xs ++ ys) ≡ comma_separated_texts false xs ++ (comma_if (some xs && some ys) ++ comma_separated_texts false ys)
 listed_joined [] ys = refl
 listed_joined (x ∷ xs) ys = rw (listed_true xs ys, comma_before ys) (simp append_assoc refl)
 
@@ -344,15 +344,15 @@ each_next shown xs i x later a b c h each is next =
 pub each_done : {A : Type 0} (shown : A → Data) (xs : List A) (i : ℕ) (a b : List ℕ) → length xs ≤ i → AppendsEach false (map shown (take i xs)) a b → AppendsEach false (map shown xs) a b
 each_done shown xs i a b all each = subst (λ ys. AppendsEach false (map shown ys) a b) (take_all i xs all) each
 
-items_listed : (later : Bool) (ds : List Data) → items_text later (items_of ds) ≡ listed later ds ++ 93 ∷ []
+items_listed : (later : Bool) (ds : List Data) → items_text later (items_of ds) ≡ comma_separated_texts later ds ++ 93 ∷ []
 items_listed later [] = refl
 items_listed later (d ∷ ds) = rw (items_listed true ds) (simp append_assoc refl)
 
-items_read : (ds : List Data) → AreReadBack ds → of_items (items_outline (items_of ds)) ≡ Some (items_of ds)
+items_read : (ds : List Data) → AllReadBack ds → of_items (items_outline (items_of ds)) ≡ Some (items_of ds)
 items_read [] h = refl
 items_read (d ∷ ds) h = rw (h.0.reads, items_read ds h.1) refl
 
-items_numbers : (ds : List Data) → AreReadBack ds → tree.ItemsHaveNumbers (items_outline (items_of ds))
+items_numbers : (ds : List Data) → AllReadBack ds → tree.ItemsHaveNumbers (items_outline (items_of ds))
 items_numbers [] h = tt
 items_numbers (d ∷ ds) h = (h.0.numbers, items_numbers ds h.1)
 
@@ -360,17 +360,17 @@ utf8_comma : (b : Bool) → IsUtf8 (comma_if b)
 utf8_comma true = IsUtf8-are_ascii _ refl
 utf8_comma false = IsUtf8-are_ascii _ refl
 
-listed_utf8 : (later : Bool) (ds : List Data) → AreReadBack ds → IsUtf8 (listed later ds)
+listed_utf8 : (later : Bool) (ds : List Data) → AllReadBack ds → IsUtf8 (comma_separated_texts later ds)
 listed_utf8 later [] h = IsUtf8-nil
 listed_utf8 later (d ∷ ds) h = IsUtf8-append (comma_if later) _ (utf8_comma later) (IsUtf8-append (compact_text d) _ h.0.utf8 (listed_utf8 true ds h.1))
 
-read_list : (ds : List Data) → AreReadBack ds → IsReadBack (array (items_of ds))
+read_list : (ds : List Data) → AllReadBack ds → ReadsBack (array (items_of ds))
 read_list ds h = record {
   reads = ap (option_map array) (items_read ds h);
   numbers = items_numbers ds h;
   utf8 =
       subst IsUtf8 (ap (λ t. 91 ∷ t) (sym (items_listed false ds)))
-      (IsUtf8-append (91 ∷ []) _ (IsUtf8-are_ascii _ refl) (IsUtf8-append (listed false ds) (93 ∷ []) (listed_utf8 false ds h) (IsUtf8-are_ascii _ refl)));
+      (IsUtf8-append (91 ∷ []) _ (IsUtf8-are_ascii _ refl) (IsUtf8-append (comma_separated_texts false ds) (93 ∷ []) (listed_utf8 false ds h) (IsUtf8-are_ascii _ refl)));
 }
 
 pub array_of : (ds : List Data) (t0 t1 t2 t3 : List ℕ) → t1 ≡ t0 ++ 91 ∷ [] → AppendsEach false ds t1 t2 → t3 ≡ t2 ++ 93 ∷ [] → Appends (array (items_of ds)) t0 t3

@@ -9,45 +9,45 @@ use Rattle.serde_json.specs.Written.{comma_if, compact_text, outline}
 
 -- Holds if the value's text reads back as the value: whole numbers have 64 bits, members occur once
 -- and in order, and texts are UTF-8.
-pub record IsReadBack (value : Data) : Type 0 where
+pub record ReadsBack (value : Data) : Type 0 where
   pub reads : of_json (outline value) ≡ Some value
   pub numbers : HasNumbers (outline value)
   pub utf8 : IsUtf8 (compact_text value)
 
 -- Holds if each of these values reads back from its text.
-abbrev pub AreReadBack : List Data → Type 0
-AreReadBack [] = ⊤
-AreReadBack (value ∷ values) = IsReadBack value × AreReadBack values
+abbrev pub AllReadBack : List Data → Type 0
+AllReadBack [] = ⊤
+AllReadBack (value ∷ values) = ReadsBack value × AllReadBack values
 
 -- Returns the texts of the values, with commas between them. If `later` is true, a comma also
 -- precedes the first text.
-abbrev pub listed : Bool → List Data → List ℕ
-listed later [] = []
-listed later (value ∷ values) = comma_if later ++ (compact_text value ++ listed true values)
+abbrev pub comma_separated_texts : Bool → List Data → List ℕ
+comma_separated_texts later [] = []
+comma_separated_texts later (value ∷ values) = comma_if later ++ (compact_text value ++ comma_separated_texts true values)
 
 -- Holds if the value's text is appended to `old`, and that text reads back as the value.
 pub record Appends (value : Data) (old new : List ℕ) : Type 0 where
   pub text : new ≡ old ++ compact_text value
-  pub reads : IsReadBack value
+  pub reads : ReadsBack value
 
 -- Holds if the texts of these values are appended with commas between them, and each text reads
 -- back as its value. If `later` is true, a comma also precedes the first text.
 pub record AppendsEach (later : Bool) (values : List Data) (old new : List ℕ) : Type 0 where
-  pub text : new ≡ old ++ listed later values
-  pub reads : AreReadBack values
+  pub text : new ≡ old ++ comma_separated_texts later values
+  pub reads : AllReadBack values
 
 -- Holds if the value's text is appended, after a comma if `later` is true. The text reads back as
 -- the value.
 pub record AppendsItem (later : Bool) (value : Data) (old new : List ℕ) : Type 0 where
   pub text : new ≡ old ++ (comma_if later ++ compact_text value)
-  pub reads : IsReadBack value
+  pub reads : ReadsBack value
 
 -- Holds if the byte `before` (a bracket or a comma), a name in quotes, a colon and the value's text
 -- are appended. The value reads back from its text.
 pub record AppendsMember (before : ℕ) (name : List ℕ) (value : Data)
     (old new : List ℕ) : Type 0 where
   pub text : new ≡ old ++ before ∷ 34 ∷ (name ++ 34 ∷ 58 ∷ compact_text value)
-  pub reads : IsReadBack value
+  pub reads : ReadsBack value
 
 -- Holds if these members and the closing bracket of an object are appended. The byte `before`
 -- precedes the first member, and commas precede the others.

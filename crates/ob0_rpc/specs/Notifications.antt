@@ -7,7 +7,7 @@ use Rattle.serde_json.specs.Data.{Data, Items, no_items, item}
 use Rattle.serde_json.specs.Find.{get, as_array}
 use Rattle.ob0_text.specs.OpenDocuments.{TextChange}
 use Rattle.ob0_text.specs.declared.position_types.Range.{Range}
-use Rattle.ob0_rpc.specs.Members.{is_absent, text_member, document_uri, document_version, document_text, json_range}
+use Rattle.ob0_rpc.specs.Members.{is_absent_or_null, text_member, document_uri, document_version, document_text, json_range}
 
 -- The meaning of a notification that the client sends.
 pub data Notification : Type 0 where
@@ -25,26 +25,26 @@ pub data Notification : Type 0 where
 -- range can't be read.
 abbrev pub range_of_change : Option Data → Option (Option Range)
 range_of_change found =
-    if is_absent found then Some None else option_map Some (option_and_then json_range found)
+    if is_absent_or_null found then Some None else option_map Some (option_and_then json_range found)
 
 -- Returns the change with this range and this text, or None if one of the two is None.
-abbrev pub change_by : Option (Option Range) → Option (List ℕ) → Option TextChange
-change_by (Some range) (Some text) = Some (record { range = range; text = chars text })
-change_by (Some range) None = None
-change_by None text = None
+abbrev pub change_with : Option (Option Range) → Option (List ℕ) → Option TextChange
+change_with (Some range) (Some text) = Some (record { range = range; text = chars text })
+change_with (Some range) None = None
+change_with None text = None
 
 -- Reads an entry of the list `contentChanges` as a change, of a range or of the whole text. Returns
 -- None if it can't be read.
-abbrev pub change_in : Data → Option TextChange
-change_in entry =
-    change_by (range_of_change (get (codes "range") entry)) (text_member (codes "text") entry)
+abbrev pub content_change : Data → Option TextChange
+content_change entry =
+    change_with (range_of_change (get (codes "range") entry)) (text_member (codes "text") entry)
 
 -- Returns all changes of a list, or None if one of them can't be read.
 abbrev pub all_changes : Items → Option (List TextChange)
 all_changes no_items = Some []
 all_changes (item entry later) =
     option_and_then (λ change. option_map (λ changes. change ∷ changes) (all_changes later))
-    (change_in entry)
+    (content_change entry)
 
 -- Returns the changes in params, or None if one of them can't be read.
 abbrev pub changes_of : Data → Option (List TextChange)
@@ -53,32 +53,32 @@ changes_of params =
 
 -- Returns the meaning of `textDocument/didOpen` with this uri, version and text. If one of them is
 -- None, the notification is unreadable, and only its uri is kept.
-abbrev pub open_of : Option (List ℕ) → Option ℤ → Option (List ℕ) → Notification
-open_of None version text = unreadable None
-open_of (Some uri) (Some version) (Some text) = opens uri version text
-open_of (Some uri) (Some version) None = unreadable (Some uri)
-open_of (Some uri) None text = unreadable (Some uri)
+abbrev pub open_or_unreadable : Option (List ℕ) → Option ℤ → Option (List ℕ) → Notification
+open_or_unreadable None version text = unreadable None
+open_or_unreadable (Some uri) (Some version) (Some text) = opens uri version text
+open_or_unreadable (Some uri) (Some version) None = unreadable (Some uri)
+open_or_unreadable (Some uri) None text = unreadable (Some uri)
 
 -- Returns the meaning of `textDocument/didChange` with this uri, version and changes. If one of
 -- them is None, the notification is unreadable, and only its uri is kept.
-abbrev pub change_of : Option (List ℕ) → Option ℤ → Option (List TextChange) → Notification
-change_of None version all = unreadable None
-change_of (Some uri) (Some version) (Some all) = changes uri version all
-change_of (Some uri) (Some version) None = unreadable (Some uri)
-change_of (Some uri) None all = unreadable (Some uri)
+abbrev pub change_or_unreadable : Option (List ℕ) → Option ℤ → Option (List TextChange) → Notification
+change_or_unreadable None version all = unreadable None
+change_or_unreadable (Some uri) (Some version) (Some all) = changes uri version all
+change_or_unreadable (Some uri) (Some version) None = unreadable (Some uri)
+change_or_unreadable (Some uri) None all = unreadable (Some uri)
 
 -- Returns the meaning of `textDocument/didClose` with this uri. For None it is unreadable.
-abbrev pub close_of : Option (List ℕ) → Notification
-close_of None = unreadable None
-close_of (Some uri) = closes uri
+abbrev pub close_or_unreadable : Option (List ℕ) → Notification
+close_or_unreadable None = unreadable None
+close_or_unreadable (Some uri) = closes uri
 
 -- Returns the meaning of the notification with this method and these params.
-abbrev pub note_of : List ℕ → Data → Notification
-note_of method params =
+abbrev pub notification_by_method : List ℕ → Data → Notification
+notification_by_method method params =
     if bytes_eq method (codes "exit") then exits
     else if bytes_eq method (codes "textDocument/didOpen")
-    then open_of (document_uri params) (document_version params) (document_text params)
+    then open_or_unreadable (document_uri params) (document_version params) (document_text params)
     else if bytes_eq method (codes "textDocument/didChange")
-    then change_of (document_uri params) (document_version params) (changes_of params)
-    else if bytes_eq method (codes "textDocument/didClose") then close_of (document_uri params)
+    then change_or_unreadable (document_uri params) (document_version params) (changes_of params)
+    else if bytes_eq method (codes "textDocument/didClose") then close_or_unreadable (document_uri params)
     else other

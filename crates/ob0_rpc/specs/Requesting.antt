@@ -9,27 +9,27 @@ use Rattle.ob0_text.specs.declared.position_types.Range.{Range}
 use Rattle.ob0_text.specs.declared.edits.Indent.{Indent}
 use Rattle.ob0_text.specs.declared.edits.Indent.TheVariants.{Tab, Spaces}
 use Rattle.ob0_text.specs.Indents.{level_spaces}
-use Rattle.ob0_rpc.specs.Members.{is_absent, text_member, truth_member, count_member, document_uri, position_member, range_member}
-use Rattle.ob0_rpc.specs.declared.clients.Client.{Client}
+use Rattle.ob0_rpc.specs.Members.{is_absent_or_null, text_member, bool_member, unsigned_member, document_uri, position_member, range_member}
+use Rattle.ob0_rpc.specs.declared.clients.ClientFeatures.{ClientFeatures}
 use Rattle.ob0_rpc.specs.declared.incoming.RpcFault.{RpcFault}
 use Rattle.ob0_rpc.specs.declared.incoming.RpcFault.TheVariants.{UnknownMethod, BadParams}
 
 -- A document and a position in it.
-pub record At : Type 0 where
+pub record DocumentPlace : Type 0 where
   pub uri : List ℕ
   pub position : Position
 
 -- A request of a known method. Its texts are bytes of UTF-8.
 pub data ClientRequest : Type 0 where
-  initialize : Client → ClientRequest
+  initialize : ClientFeatures → ClientRequest
   shutdown : ClientRequest
-  hover : At → ClientRequest
-  definition : At → ClientRequest
+  hover : DocumentPlace → ClientRequest
+  definition : DocumentPlace → ClientRequest
   -- A request for references. The Bool says whether the declaration is also requested.
-  references : At → Bool → ClientRequest
-  prepare_rename : At → ClientRequest
+  references : DocumentPlace → Bool → ClientRequest
+  prepare_rename : DocumentPlace → ClientRequest
   -- A request to rename the name or field at a position, with the new name.
-  rename : At → List ℕ → ClientRequest
+  rename : DocumentPlace → List ℕ → ClientRequest
   -- A request for code actions: the document, the range, and the requested kinds of actions (None
   -- if all kinds are requested).
   code_action : List ℕ → Range → Option (List (List ℕ)) → ClientRequest
@@ -38,47 +38,47 @@ pub data ClientRequest : Type 0 where
 -- ---- the capabilities of a client
 
 -- Returns the value at the end of a path of member names, or None if there is none.
-abbrev pub within : List (List ℕ) → Data → Option Data
-within [] d = Some d
-within (name ∷ names) d = option_and_then (within names) (get name d)
+abbrev pub member_at_path : List (List ℕ) → Data → Option Data
+member_at_path [] d = Some d
+member_at_path (name ∷ names) d = option_and_then (member_at_path names) (get name d)
 
 -- Returns true if the member is the JSON value `true`, and false if it is absent or anything else.
 abbrev pub is_true : Option Data → Bool
 is_true found = unwrap_or (option_and_then as_bool found) false
 
 -- Returns true if the optional text is this text, and false for None.
-abbrev pub is_text : List ℕ → Option (List ℕ) → Bool
-is_text text None = false
-is_text text (Some other) = bytes_eq other text
+abbrev pub is_equal_text : List ℕ → Option (List ℕ) → Bool
+is_equal_text text None = false
+is_equal_text text (Some other) = bytes_eq other text
 
 -- Returns true if one of the items is this text.
 abbrev pub has_text : List ℕ → Items → Bool
 has_text text no_items = false
-has_text text (item d ds) = is_text text (as_str d) || has_text text ds
+has_text text (item d ds) = is_equal_text text (as_str d) || has_text text ds
 
 -- Returns true if there is a list and it contains this text.
-abbrev pub lists_text : List ℕ → Option Items → Bool
-lists_text text None = false
-lists_text text (Some items) = has_text text items
+abbrev pub list_has_text : List ℕ → Option Items → Bool
+list_has_text text None = false
+list_has_text text (Some items) = has_text text items
 
 -- Returns the capabilities of a client, from the params of `initialize`.
-abbrev pub client_of : Data → Client
-client_of params = record {
-  counts_utf8 =
-      lists_text (codes "utf-8") (option_and_then as_array
-      (within (codes "capabilities" ∷ codes "general" ∷ codes "positionEncodings" ∷ []) params));
+abbrev pub client_features : Data → ClientFeatures
+client_features params = record {
+  offers_utf8 =
+      list_has_text (codes "utf-8") (option_and_then as_array
+      (member_at_path (codes "capabilities" ∷ codes "general" ∷ codes "positionEncodings" ∷ []) params));
   prepares_renames =
-      is_true (within
+      is_true (member_at_path
       (codes "capabilities" ∷ codes "textDocument" ∷ codes "rename" ∷ codes "prepareSupport" ∷ [])
       params);
-  takes_literal_actions =
-      is_some (option_and_then as_object (within (codes "capabilities"
+  accepts_literal_actions =
+      is_some (option_and_then as_object (member_at_path (codes "capabilities"
       ∷ codes "textDocument"
       ∷ codes "codeAction"
       ∷ codes "codeActionLiteralSupport"
       ∷ []) params));
-  takes_document_changes =
-      is_true (within (codes "capabilities"
+  accepts_document_changes =
+      is_true (member_at_path (codes "capabilities"
       ∷ codes "workspace"
       ∷ codes "workspaceEdit"
       ∷ codes "documentChanges"
@@ -86,45 +86,45 @@ client_of params = record {
 }
 
 -- Returns the request `initialize`, or None if its params aren't an object.
-abbrev pub initialize_of : Data → Option ClientRequest
-initialize_of params =
-    if is_some (as_object params) then Some (initialize (client_of params)) else None
+abbrev pub initialize_request_of : Data → Option ClientRequest
+initialize_request_of params =
+    if is_some (as_object params) then Some (initialize (client_features params)) else None
 
 -- ---- requests about a document
 
 -- Returns the document with this uri and this position in it, or None if one of the two is None.
-abbrev pub at_by : Option (List ℕ) → Option Position → Option At
-at_by (Some uri) (Some position) = Some (record { uri = uri; position = position })
-at_by (Some uri) None = None
-at_by None position = None
+abbrev pub document_place_with : Option (List ℕ) → Option Position → Option DocumentPlace
+document_place_with (Some uri) (Some position) = Some (record { uri = uri; position = position })
+document_place_with (Some uri) None = None
+document_place_with None position = None
 
 -- Returns the document and the position in params, or None if one of the two can't be read.
-abbrev pub at_of : Data → Option At
-at_of params = at_by (document_uri params) (position_member (codes "position") params)
+abbrev pub document_place_of : Data → Option DocumentPlace
+document_place_of params = document_place_with (document_uri params) (position_member (codes "position") params)
 
 -- Returns the request for references with this position and this value of `includeDeclaration`.
 -- Returns None if one of the two is None.
-abbrev pub references_by : Option At → Option Bool → Option ClientRequest
-references_by (Some at) (Some include) = Some (references at include)
-references_by (Some at) None = None
-references_by None include = None
+abbrev pub references_request_with : Option DocumentPlace → Option Bool → Option ClientRequest
+references_request_with (Some at) (Some include) = Some (references at include)
+references_request_with (Some at) None = None
+references_request_with None include = None
 
 -- Returns the request `textDocument/references` with these params, or None if they can't be read.
-abbrev pub references_of : Data → Option ClientRequest
-references_of params =
-    references_by (at_of params)
-    (option_and_then (truth_member (codes "includeDeclaration")) (get (codes "context") params))
+abbrev pub references_request_of : Data → Option ClientRequest
+references_request_of params =
+    references_request_with (document_place_of params)
+    (option_and_then (bool_member (codes "includeDeclaration")) (get (codes "context") params))
 
 -- Returns the request for renaming with this position and this new name. Returns None if one of the
 -- two is None.
-abbrev pub rename_by : Option At → Option (List ℕ) → Option ClientRequest
-rename_by (Some at) (Some name) = Some (rename at name)
-rename_by (Some at) None = None
-rename_by None name = None
+abbrev pub rename_request_with : Option DocumentPlace → Option (List ℕ) → Option ClientRequest
+rename_request_with (Some at) (Some name) = Some (rename at name)
+rename_request_with (Some at) None = None
+rename_request_with None name = None
 
 -- Returns the request `textDocument/rename` with these params, or None if they can't be read.
-abbrev pub rename_of : Data → Option ClientRequest
-rename_of params = rename_by (at_of params) (text_member (codes "newName") params)
+abbrev pub rename_request_of : Data → Option ClientRequest
+rename_request_of params = rename_request_with (document_place_of params) (text_member (codes "newName") params)
 
 -- Returns the texts of a list, or None if an item isn't a text.
 abbrev pub texts_of : Items → Option (List (List ℕ))
@@ -134,83 +134,83 @@ texts_of (item d ds) =
 
 -- Returns the texts of a list that may be missing. Some None means that it is absent or null, and
 -- None that it can't be read.
-abbrev pub only_by : Option Data → Option (Option (List (List ℕ)))
-only_by found =
-    if is_absent found
+abbrev pub optional_texts : Option Data → Option (Option (List (List ℕ)))
+optional_texts found =
+    if is_absent_or_null found
     then Some None
     else option_map Some (option_and_then texts_of (option_and_then as_array found))
 
 -- Returns the kinds that a context requests. Some None means that all kinds are requested, and None
 -- that the kinds can't be read or the context isn't an object.
-abbrev pub only_of : Data → Option (Option (List (List ℕ)))
-only_of context = if is_some (as_object context) then only_by (get (codes "only") context) else None
+abbrev pub requested_kinds : Data → Option (Option (List (List ℕ)))
+requested_kinds context = if is_some (as_object context) then optional_texts (get (codes "only") context) else None
 
 -- Returns the request for code actions with this uri, this range and these kinds. Returns None if
 -- one of them is None.
-abbrev pub code_action_by : Option (List ℕ)
+abbrev pub code_action_request_with : Option (List ℕ)
     → Option Range
     → Option (Option (List (List ℕ)))
     → Option ClientRequest
-code_action_by (Some uri) (Some range) (Some only) = Some (code_action uri range only)
-code_action_by (Some uri) (Some range) None = None
-code_action_by (Some uri) None only = None
-code_action_by None range only = None
+code_action_request_with (Some uri) (Some range) (Some only) = Some (code_action uri range only)
+code_action_request_with (Some uri) (Some range) None = None
+code_action_request_with (Some uri) None only = None
+code_action_request_with None range only = None
 
 -- Returns the request `textDocument/codeAction` with these params, or None if they can't be read.
-abbrev pub code_action_of : Data → Option ClientRequest
-code_action_of params =
-    code_action_by (document_uri params) (range_member (codes "range") params)
-    (option_and_then only_of (get (codes "context") params))
+abbrev pub code_action_request_of : Data → Option ClientRequest
+code_action_request_of params =
+    code_action_request_with (document_uri params) (range_member (codes "range") params)
+    (option_and_then requested_kinds (get (codes "context") params))
 
 -- Returns the indentation with these two options, or None if one of them is None. A level is
 -- `level_spaces size` spaces if the Bool is true, otherwise a tab.
-abbrev pub indent_by : Option ℕ → Option Bool → Option Indent
-indent_by (Some size) (Some spaces) = Some (if spaces then Spaces (level_spaces size) else Tab)
-indent_by (Some size) None = None
-indent_by None spaces = None
+abbrev pub indent_with : Option ℕ → Option Bool → Option Indent
+indent_with (Some size) (Some spaces) = Some (if spaces then Spaces (level_spaces size) else Tab)
+indent_with (Some size) None = None
+indent_with None spaces = None
 
 -- Returns the indentation that formatting options request, or None if they can't be read.
 abbrev pub indent_of : Data → Option Indent
 indent_of options =
-    indent_by (count_member (codes "tabSize") options) (truth_member (codes "insertSpaces") options)
+    indent_with (unsigned_member (codes "tabSize") options) (bool_member (codes "insertSpaces") options)
 
 -- Returns the request for formatting with this uri and this indentation. Returns None if one of the
 -- two is None.
-abbrev pub formatting_by : Option (List ℕ) → Option Indent → Option ClientRequest
-formatting_by (Some uri) (Some indent) = Some (formatting uri indent)
-formatting_by (Some uri) None = None
-formatting_by None indent = None
+abbrev pub formatting_request_with : Option (List ℕ) → Option Indent → Option ClientRequest
+formatting_request_with (Some uri) (Some indent) = Some (formatting uri indent)
+formatting_request_with (Some uri) None = None
+formatting_request_with None indent = None
 
 -- Returns the request `textDocument/formatting` with these params, or None if they can't be read.
-abbrev pub formatting_of : Data → Option ClientRequest
-formatting_of params =
-    formatting_by (document_uri params) (option_and_then indent_of (get (codes "options") params))
+abbrev pub formatting_request_of : Data → Option ClientRequest
+formatting_request_of params =
+    formatting_request_with (document_uri params) (option_and_then indent_of (get (codes "options") params))
 
 -- ---- requests
 
 -- Returns the request, or the error `bad params` for None.
-abbrev pub or_bad : Option ClientRequest → Result ClientRequest RpcFault
-or_bad (Some ask) = Ok ask
-or_bad None = Err BadParams
+abbrev pub or_bad_params : Option ClientRequest → Result ClientRequest RpcFault
+or_bad_params (Some ask) = Ok ask
+or_bad_params None = Err BadParams
 
 -- Returns the request about a document with this method and these params, or an error.
-abbrev pub language_call_of : List ℕ → Data → Result ClientRequest RpcFault
-language_call_of method params =
-    if bytes_eq method (codes "textDocument/hover") then or_bad (option_map hover (at_of params))
+abbrev pub document_request_by_method : List ℕ → Data → Result ClientRequest RpcFault
+document_request_by_method method params =
+    if bytes_eq method (codes "textDocument/hover") then or_bad_params (option_map hover (document_place_of params))
     else if bytes_eq method (codes "textDocument/definition")
-    then or_bad (option_map definition (at_of params))
-    else if bytes_eq method (codes "textDocument/references") then or_bad (references_of params)
+    then or_bad_params (option_map definition (document_place_of params))
+    else if bytes_eq method (codes "textDocument/references") then or_bad_params (references_request_of params)
     else if bytes_eq method (codes "textDocument/prepareRename")
-    then or_bad (option_map prepare_rename (at_of params))
-    else if bytes_eq method (codes "textDocument/rename") then or_bad (rename_of params)
-    else if bytes_eq method (codes "textDocument/codeAction") then or_bad (code_action_of params)
-    else if bytes_eq method (codes "textDocument/formatting") then or_bad (formatting_of params)
+    then or_bad_params (option_map prepare_rename (document_place_of params))
+    else if bytes_eq method (codes "textDocument/rename") then or_bad_params (rename_request_of params)
+    else if bytes_eq method (codes "textDocument/codeAction") then or_bad_params (code_action_request_of params)
+    else if bytes_eq method (codes "textDocument/formatting") then or_bad_params (formatting_request_of params)
     else Err UnknownMethod
 
 -- Returns the request with this method and these params, or an error. `shutdown` accepts any
 -- params.
 abbrev pub request_by_method : List ℕ → Data → Result ClientRequest RpcFault
 request_by_method method params =
-    if bytes_eq method (codes "initialize") then or_bad (initialize_of params)
+    if bytes_eq method (codes "initialize") then or_bad_params (initialize_request_of params)
     else if bytes_eq method (codes "shutdown") then Ok shutdown
-    else language_call_of method params
+    else document_request_by_method method params

@@ -6,10 +6,10 @@ use Rattle.std.specs.declared.alloc.Global.{Global}
 use Rattle.serde_json.specs.Data.{Data, null, number, string, unsigned}
 use Rattle.serde_json.specs.Find.{of_integer}
 use Rattle.serde_json.specs.View.{view}
-use Rattle.ob0_text.specs.OpenDocuments.{change_in_text}
-use Rattle.ob0_rpc.specs.Requesting.{At, ClientRequest, initialize, shutdown, hover, definition, references, prepare_rename, rename, code_action, formatting}
+use Rattle.ob0_text.specs.OpenDocuments.{text_change_of}
+use Rattle.ob0_rpc.specs.Requesting.{DocumentPlace, ClientRequest, initialize, shutdown, hover, definition, references, prepare_rename, rename, code_action, formatting}
 use Rattle.ob0_rpc.specs.Messages.{ReadsContent, MessageMeaning, not_a_message, response, request, notice, meaning_of}
-use Rattle.ob0_rpc.specs.Notifications.{Notification, exits, opens, changes, closes, unreadable, other, note_of}
+use Rattle.ob0_rpc.specs.Notifications.{Notification, exits, opens, changes, closes, unreadable, other, notification_by_method}
 use Rattle.ob0_rpc.specs.declared.requests.ClientRequest as called
 use Rattle.ob0_rpc.specs.declared.requests.DocumentPosition.{DocumentPosition}
 use Rattle.ob0_rpc.specs.declared.incoming.Id.{Id}
@@ -33,76 +33,76 @@ id_or_null None = null
 
 -- Returns the meaning of the code's message: a request, a notification or a response. Its id,
 -- method and params become values of the definitions.
-abbrev pub seen : Incoming → MessageMeaning
-seen (Request id method params) = request (id_data id) (string_bytes method) (view params)
-seen (Notice method params) = notice (string_bytes method) (view params)
-seen Ignored = response
+abbrev pub message_view : Incoming → MessageMeaning
+message_view (Request id method params) = request (id_data id) (string_bytes method) (view params)
+message_view (Notice method params) = notice (string_bytes method) (view params)
+message_view Ignored = response
 
 -- Holds if reading the JSON value may have this result: the message that the value means, or
 -- `NotAMessage` if it isn't a message. `Memory` is always allowed, and other errors never.
-abbrev pub MeansAs : Data → Result Incoming RpcFault → Type 0
-MeansAs d (Ok incoming) = meaning_of d ≡ seen incoming
-MeansAs d (Err NotAMessage) = meaning_of d ≡ not_a_message
-MeansAs d (Err Memory) = Unit {0}
-MeansAs d (Err NotJson) = ⊥
-MeansAs d (Err UnknownMethod) = ⊥
-MeansAs d (Err BadParams) = ⊥
+abbrev pub HasMeaning : Data → Result Incoming RpcFault → Type 0
+HasMeaning d (Ok incoming) = meaning_of d ≡ message_view incoming
+HasMeaning d (Err NotAMessage) = meaning_of d ≡ not_a_message
+HasMeaning d (Err Memory) = Unit {0}
+HasMeaning d (Err NotJson) = ⊥
+HasMeaning d (Err UnknownMethod) = ⊥
+HasMeaning d (Err BadParams) = ⊥
 
 -- Holds if reading the content may have this result: `NotJson` if the content isn't JSON, otherwise
--- a result that `MeansAs` allows for its JSON value. `Memory` is always allowed.
-abbrev pub ReadsAs : List ℕ → Result Incoming RpcFault → Type 0
-ReadsAs content (Err NotJson) = ReadsContent content None
-ReadsAs content (Err Memory) = Unit {0}
-ReadsAs content r = (d : Data) × ReadsContent content (Some d) × MeansAs d r
+-- a result that `HasMeaning` allows for its JSON value. `Memory` is always allowed.
+abbrev pub ReadsMessage : List ℕ → Result Incoming RpcFault → Type 0
+ReadsMessage content (Err NotJson) = ReadsContent content None
+ReadsMessage content (Err Memory) = Unit {0}
+ReadsMessage content r = (d : Data) × ReadsContent content (Some d) × HasMeaning d r
 
 -- Returns the code's `DocumentPosition` as a value of the definitions.
-abbrev pub at_seen : DocumentPosition → At
-at_seen place = record { uri = string_bytes place.uri; position = place.position }
+abbrev pub document_place_view : DocumentPosition → DocumentPlace
+document_place_view place = record { uri = string_bytes place.uri; position = place.position }
 
 -- Returns the code's list of requested kinds as texts, or None if all kinds are requested.
-abbrev pub kinds_seen : Option (Vec (String Global) Global) → Option (List (List ℕ))
-kinds_seen kinds = option_map (λ texts. map string_bytes texts.items) kinds
+abbrev pub kinds_view : Option (Vec (String Global) Global) → Option (List (List ℕ))
+kinds_view kinds = option_map (λ texts. map string_bytes texts.items) kinds
 
 -- Returns the code's request as a request of the definitions.
-abbrev pub seen_call : called.ClientRequest → ClientRequest
-seen_call (called.TheVariants.Initialize client) = initialize client
-seen_call called.TheVariants.Shutdown = shutdown
-seen_call (called.TheVariants.Hover place) = hover (at_seen place)
-seen_call (called.TheVariants.Definition place) = definition (at_seen place)
-seen_call (called.TheVariants.References place include) = references (at_seen place) include
-seen_call (called.TheVariants.PrepareRename place) = prepare_rename (at_seen place)
-seen_call (called.TheVariants.Rename place name) = rename (at_seen place) (string_bytes name)
-seen_call (called.TheVariants.CodeAction uri range only) =
-    code_action (string_bytes uri) range (kinds_seen only)
-seen_call (called.TheVariants.Formatting uri indent) = formatting (string_bytes uri) indent
+abbrev pub request_view : called.ClientRequest → ClientRequest
+request_view (called.TheVariants.Initialize client) = initialize client
+request_view called.TheVariants.Shutdown = shutdown
+request_view (called.TheVariants.Hover place) = hover (document_place_view place)
+request_view (called.TheVariants.Definition place) = definition (document_place_view place)
+request_view (called.TheVariants.References place include) = references (document_place_view place) include
+request_view (called.TheVariants.PrepareRename place) = prepare_rename (document_place_view place)
+request_view (called.TheVariants.Rename place name) = rename (document_place_view place) (string_bytes name)
+request_view (called.TheVariants.CodeAction uri range only) =
+    code_action (string_bytes uri) range (kinds_view only)
+request_view (called.TheVariants.Formatting uri indent) = formatting (string_bytes uri) indent
 
 -- Holds if the code's result is `requested`, the request or the error of the definitions. `Memory`
 -- is always allowed, and `NotJson` and `NotAMessage` never.
-abbrev pub Requests : Result ClientRequest RpcFault → Result called.ClientRequest RpcFault → Type 0
-Requests requested (Ok call) = requested ≡ Ok (seen_call call)
-Requests requested (Err UnknownMethod) = requested ≡ Err UnknownMethod
-Requests requested (Err BadParams) = requested ≡ Err BadParams
-Requests requested (Err Memory) = Unit {0}
-Requests requested (Err NotJson) = ⊥
-Requests requested (Err NotAMessage) = ⊥
+abbrev pub ReadsClientRequest : Result ClientRequest RpcFault → Result called.ClientRequest RpcFault → Type 0
+ReadsClientRequest requested (Ok call) = requested ≡ Ok (request_view call)
+ReadsClientRequest requested (Err UnknownMethod) = requested ≡ Err UnknownMethod
+ReadsClientRequest requested (Err BadParams) = requested ≡ Err BadParams
+ReadsClientRequest requested (Err Memory) = Unit {0}
+ReadsClientRequest requested (Err NotJson) = ⊥
+ReadsClientRequest requested (Err NotAMessage) = ⊥
 
 -- Returns the code's notification as a notification of the definitions.
-abbrev pub seen_note : noted.ClientNotification → Notification
-seen_note noted.TheVariants.Exit = exits
-seen_note (noted.TheVariants.Open uri version text) =
+abbrev pub notification_view : noted.ClientNotification → Notification
+notification_view noted.TheVariants.Exit = exits
+notification_view (noted.TheVariants.Open uri version text) =
     opens (string_bytes uri) version (chars (string_bytes text))
-seen_note (noted.TheVariants.Change uri version cs) =
-    changes (string_bytes uri) version (map change_in_text cs.items)
-seen_note (noted.TheVariants.Close uri) = closes (string_bytes uri)
-seen_note (noted.TheVariants.Unreadable uri) = unreadable (option_map string_bytes uri)
-seen_note noted.TheVariants.Other = other
+notification_view (noted.TheVariants.Change uri version cs) =
+    changes (string_bytes uri) version (map text_change_of cs.items)
+notification_view (noted.TheVariants.Close uri) = closes (string_bytes uri)
+notification_view (noted.TheVariants.Unreadable uri) = unreadable (option_map string_bytes uri)
+notification_view noted.TheVariants.Other = other
 
 -- Holds if the code's notification is the one with this method and these params. `Memory` is always
 -- allowed, and other errors never.
-abbrev pub ReportsAs : List ℕ → Data → Result noted.ClientNotification RpcFault → Type 0
-ReportsAs method params (Ok note) = note_of method params ≡ seen_note note
-ReportsAs method params (Err Memory) = Unit {0}
-ReportsAs method params (Err NotJson) = ⊥
-ReportsAs method params (Err NotAMessage) = ⊥
-ReportsAs method params (Err UnknownMethod) = ⊥
-ReportsAs method params (Err BadParams) = ⊥
+abbrev pub ReadsNotification : List ℕ → Data → Result noted.ClientNotification RpcFault → Type 0
+ReadsNotification method params (Ok note) = notification_by_method method params ≡ notification_view note
+ReadsNotification method params (Err Memory) = Unit {0}
+ReadsNotification method params (Err NotJson) = ⊥
+ReadsNotification method params (Err NotAMessage) = ⊥
+ReadsNotification method params (Err UnknownMethod) = ⊥
+ReadsNotification method params (Err BadParams) = ⊥

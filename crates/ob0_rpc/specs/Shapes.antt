@@ -15,14 +15,14 @@ abbrev pub whole_number : ℤ → Data
 whole_number z = number (of_integer z)
 
 -- The value of the member `jsonrpc`: the version of the protocol, "2.0".
-abbrev pub json_rpc : Data
-json_rpc = text (codes "2.0")
+abbrev pub jsonrpc_version : Data
+jsonrpc_version = text (codes "2.0")
 
 -- Returns the message that answers a request, {"id":I,"jsonrpc":"2.0","result":X}.
 abbrev pub result_message : Data → Data → Data
 result_message id value =
     object (member (codes "id") id
-    (member (codes "jsonrpc") json_rpc (member (codes "result") value no_members)))
+    (member (codes "jsonrpc") jsonrpc_version (member (codes "result") value no_members)))
 
 -- Returns the error in a refusal, {"code":c,"message":m}.
 abbrev pub error_value : ℤ → List ℕ → Data
@@ -34,12 +34,12 @@ error_value code said =
 abbrev pub error_message : Data → ℤ → List ℕ → Data
 error_message id code said =
     object (member (codes "error") (error_value code said)
-    (member (codes "id") id (member (codes "jsonrpc") json_rpc no_members)))
+    (member (codes "id") id (member (codes "jsonrpc") jsonrpc_version no_members)))
 
 -- Returns the message of a notification, {"jsonrpc":"2.0","method":M,"params":P}.
 abbrev pub notification_message : List ℕ → Data → Data
 notification_message method params =
-    object (member (codes "jsonrpc") json_rpc
+    object (member (codes "jsonrpc") jsonrpc_version
     (member (codes "method") (text method) (member (codes "params") params no_members)))
 
 -- Returns the JSON value of a position, {"character":c,"line":l}.

@@ -6,27 +6,27 @@
 //! still needed. A range that is null counts as absent: the change replaces the whole text. If a
 //! range can't be read, the whole notification can't be read.
 ghost use Rattle.std.specs.Prelude.{◌≡◌, IfOk, codes, option_and_then, option_map, map};
-ghost use Rattle.ob0_text.specs.OpenDocuments.{change_in_text};
+ghost use Rattle.ob0_text.specs.OpenDocuments.{text_change_of};
 ghost use Rattle.serde_json.specs.Find.{get, as_array};
 ghost use Rattle.serde_json.specs.View.{view, items_view};
-ghost use Rattle.ob0_rpc.specs.Notifications.{changes_of as changes_in, change_in, range_of_change};
+ghost use Rattle.ob0_rpc.specs.Notifications.{changes_of as changes_in, content_change, range_of_change};
 
-use crate::members::{into_member, into_text_in, is_absent, range_of};
+use crate::members::{into_member, into_text_member, is_absent_or_null, range_of};
 use ob0_text::{Change, Range};
 use serde_json::Value;
 use std::alloc::{AllocError, Global};
 
 /// Returns the changes in params, or None if the list or one of its entries can't be read.
 pub fn read_changes(alloc: Global, params: Value) -> Result<Option<Vec<Change>>, AllocError>
-    ensures { IfOk result (λ found. option_map (λ cs. map change_in_text cs.items) found
+    ensures { IfOk result (λ found. option_map (λ cs. map text_change_of cs.items) found
         ≡ changes_in (view params)) }
 {
-    let Some(entries) = entries_of(params) else {
+    let Some(entries) = into_content_changes(params) else {
         return Ok(None);
     };
     let mut changes = Vec::new(alloc);
     for entry in entries {
-        match read_change_in(entry) {
+        match read_content_change(entry) {
             Some(change) => changes.push(change)?,
             None => return Ok(None),
         }
@@ -35,7 +35,7 @@ pub fn read_changes(alloc: Global, params: Value) -> Result<Option<Vec<Change>>,
 }
 
 /// Moves the list of changes out of params. Returns None if there is no such list.
-fn entries_of(params: Value) -> Option<Vec<Value>>
+fn into_content_changes(params: Value) -> Option<Vec<Value>>
     ensures { option_map (λ v. items_view v.items) result
         ≡ option_and_then as_array (get (codes "contentChanges") (view params)) }
 {
@@ -58,11 +58,11 @@ fn into_list(value: Value) -> Option<Vec<Value>>
 
 /// Returns the change that an entry of the list describes, of a range or of the whole text. Returns
 /// None if the entry can't be read.
-fn read_change_in(entry: Value) -> Option<Change>
-    ensures { option_map change_in_text result ≡ change_in (view entry) }
+fn read_content_change(entry: Value) -> Option<Change>
+    ensures { option_map text_change_of result ≡ content_change (view entry) }
 {
     let range = read_range(entry.get("range"))?;
-    let text = into_text_in(entry, "text")?;
+    let text = into_text_member(entry, "text")?;
     Some(Change { range, text })
 }
 
@@ -71,7 +71,7 @@ fn read_change_in(entry: Value) -> Option<Change>
 fn read_range(member: Option<&Value>) -> Option<Option<Range>>
     ensures { result ≡ range_of_change (option_map (λ v. view v.now) member.entry) }
 {
-    if is_absent(member) {
+    if is_absent_or_null(member) {
         return Some(None);
     }
     let range = range_of(member?)?;

@@ -4,39 +4,39 @@
 ghost use Rattle.std.specs.Prelude.{◌≡◌, ◌∷◌, [], codes, is_some, option_map, option_and_then};
 ghost use Rattle.serde_json.specs.Find.{as_object, as_str};
 ghost use Rattle.serde_json.specs.View.{view, items_view};
-ghost use Rattle.ob0_rpc.specs.Requesting.{client_of as client_in, has_text, is_text as is_that_text, is_true as truth_of, within};
+ghost use Rattle.ob0_rpc.specs.Requesting.{client_features as client_in, has_text, is_equal_text as is_that_text, is_true as truth_of, member_at_path};
 
 use serde_json::Value;
 
 /// The capabilities that a client announces.
 #[derive(Clone, Copy, Debug, Drop, PartialEq, Eq)]
-pub struct Client {
+pub struct ClientFeatures {
     /// The client offers positions in bytes of UTF-8.
-    pub counts_utf8: bool,
+    pub offers_utf8: bool,
     /// The client sends `prepareRename` before it requests a rename.
     pub prepares_renames: bool,
     /// The client accepts code actions that aren't commands.
-    pub takes_literal_actions: bool,
+    pub accepts_literal_actions: bool,
     /// The client accepts edits that specify the versions of their documents.
-    pub takes_document_changes: bool,
+    pub accepts_document_changes: bool,
 }
 
 /// Returns a client's capabilities from the params of `initialize`. Members with another JSON type than expected count
 /// as absent.
-pub fn client_of(params: &Value) -> Client
+pub fn client_features(params: &Value) -> ClientFeatures
     ensures { result ≡ client_in (view params.now) }
 {
-    Client {
-        counts_utf8: counts_utf8(params),
+    ClientFeatures {
+        offers_utf8: offers_utf8(params),
         prepares_renames: is_true(prepare_support(params)),
-        takes_literal_actions: is_object(literal_support(params)),
-        takes_document_changes: is_true(document_changes(params)),
+        accepts_literal_actions: is_object(action_literal_support(params)),
+        accepts_document_changes: is_true(document_changes(params)),
     }
 }
 
 fn prepare_support(params: &Value) -> Option<&Value>
     ensures { option_map (λ v. view v.now) result
-        ≡ within
+        ≡ member_at_path
         (codes "capabilities" ∷ codes "textDocument" ∷ codes "rename" ∷ codes "prepareSupport" ∷ [])
         (view params.now) }
 {
@@ -44,9 +44,9 @@ fn prepare_support(params: &Value) -> Option<&Value>
     document.get("rename")?.get("prepareSupport")
 }
 
-fn literal_support(params: &Value) -> Option<&Value>
+fn action_literal_support(params: &Value) -> Option<&Value>
     ensures { option_map (λ v. view v.now) result
-        ≡ within (codes "capabilities"
+        ≡ member_at_path (codes "capabilities"
         ∷ codes "textDocument"
         ∷ codes "codeAction"
         ∷ codes "codeActionLiteralSupport"
@@ -58,7 +58,7 @@ fn literal_support(params: &Value) -> Option<&Value>
 
 fn document_changes(params: &Value) -> Option<&Value>
     ensures { option_map (λ v. view v.now) result
-        ≡ within (codes "capabilities"
+        ≡ member_at_path (codes "capabilities"
         ∷ codes "workspace"
         ∷ codes "workspaceEdit"
         ∷ codes "documentChanges"
@@ -70,7 +70,7 @@ fn document_changes(params: &Value) -> Option<&Value>
 
 fn position_encodings(params: &Value) -> Option<&Value>
     ensures { option_map (λ v. view v.now) result
-        ≡ within (codes "capabilities" ∷ codes "general" ∷ codes "positionEncodings" ∷ [])
+        ≡ member_at_path (codes "capabilities" ∷ codes "general" ∷ codes "positionEncodings" ∷ [])
         (view params.now) }
 {
     params
@@ -100,8 +100,8 @@ fn is_object(member: Option<&Value>) -> bool
     }
 }
 
-fn counts_utf8(params: &Value) -> bool
-    ensures { result ≡ (client_in (view params.now)).counts_utf8 }
+fn offers_utf8(params: &Value) -> bool
+    ensures { result ≡ (client_in (view params.now)).offers_utf8 }
 {
     let Some(encodings) = position_encodings(params) else {
         return false;
@@ -117,7 +117,7 @@ fn has_text(items: &[Value], text: &str) -> bool
     ensures { result ≡ has_text text.now (items_view items.now) }
 {
     for item in items {
-        if is_text(item, text) {
+        if is_equal_text(item, text) {
             return true;
         }
     }
@@ -125,7 +125,7 @@ fn has_text(items: &[Value], text: &str) -> bool
 }
 
 /// Returns true if the item is this text.
-fn is_text(item: &Value, text: &str) -> bool
+fn is_equal_text(item: &Value, text: &str) -> bool
     ensures { result ≡ is_that_text text.now (as_str (view item.now)) }
 {
     match item.as_str() {

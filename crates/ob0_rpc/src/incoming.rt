@@ -3,7 +3,7 @@ ghost use Rattle.std.specs.Prelude.{◌≡◌, true, false, IfOk, MatchOption};
 ghost use Rattle.serde_json.specs.View.{view, number_view};
 ghost use Rattle.serde_json.specs.Data.{number};
 ghost use Rattle.ob0_rpc.specs.Messages.{is_id, params_of};
-ghost use Rattle.ob0_rpc.specs.Seen.{MeansAs, ReadsAs, id_data};
+ghost use Rattle.ob0_rpc.specs.Seen.{HasMeaning, ReadsMessage, id_data};
 
 use crate::members::into_member;
 use serde_json::{Number, Value};
@@ -98,10 +98,10 @@ impl<T: Drop> From<AllocFailed<T>> for RpcFault {
 /// Reads a content as a message. The content must be one JSON value in UTF-8, nested at most 127
 /// deep.
 pub fn read(alloc: Global, content: &[u8]) -> Result<Incoming, RpcFault>
-    ensures { ReadsAs content.now result }
+    ensures { ReadsMessage content.now result }
 {
     match Value::from_slice(alloc, content) {
-        Ok(value) => meaning(alloc, value),
+        Ok(value) => interpret_message(alloc, value),
         Err(error) => if error.is_memory() {
             Err(RpcFault::Memory)
         } else {
@@ -111,8 +111,8 @@ pub fn read(alloc: Global, content: &[u8]) -> Result<Incoming, RpcFault>
 }
 
 // Reads a JSON value as a message. If the value isn't a message, returns the fault `NotAMessage`.
-fn meaning(alloc: Global, message: Value) -> Result<Incoming, RpcFault>
-    ensures { MeansAs (view message) result }
+fn interpret_message(alloc: Global, message: Value) -> Result<Incoming, RpcFault>
+    ensures { HasMeaning (view message) result }
 {
     let Some(method) = message.get("method") else {
         return if message.get("result").is_some() || message.get("error").is_some() {
@@ -126,17 +126,17 @@ fn meaning(alloc: Global, message: Value) -> Result<Incoming, RpcFault>
     };
     let Some(id) = message.get("id") else {
         let method = String::from_str(alloc, method)?;
-        return Ok(Incoming::Notice(method, params_in(message)));
+        return Ok(Incoming::Notice(method, into_params(message)));
     };
     let Some(id) = read_id(alloc, id)? else {
         return Err(RpcFault::NotAMessage);
     };
     let method = String::from_str(alloc, method)?;
-    Ok(Incoming::Request(id, method, params_in(message)))
+    Ok(Incoming::Request(id, method, into_params(message)))
 }
 
 // Moves the params out of a message, or returns null if they are absent.
-fn params_in(message: Value) -> Value
+fn into_params(message: Value) -> Value
     ensures { view result ≡ params_of (view message) }
 {
     match into_member(message, "params") {
@@ -156,13 +156,13 @@ fn read_id(alloc: Global, value: &Value) -> Result<Option<Id>, AllocError>
         return Ok(Some(Id::Text(String::from_str(alloc, text)?)));
     }
     match value.as_number() {
-        Some(number) => Ok(whole_number(number)),
+        Some(number) => Ok(id_of_number(number)),
         None => Ok(None),
     }
 }
 
 /// Returns the number as an id, or None if it isn't a whole number of 64 bits.
-fn whole_number(n: &Number) -> Option<Id>
+fn id_of_number(n: &Number) -> Option<Id>
     ensures { MatchOption result
         (is_id (number (number_view n.now)) ≡ false)
         (λ id. (is_id (number (number_view n.now)) ≡ true)

@@ -15,7 +15,7 @@ ghost use Rattle.ob0_rpc.specs.Appending.{Appends, AppendsEach, AppendsItem, or_
 use std::alloc::AllocError;
 
 /// The greatest capacity in bytes that is reserved at once for the items of a list.
-const MAX_CAPACITY: usize = 1 << 26;
+const MAX_RESERVED_BYTES: usize = 1 << 26;
 
 /// A type whose values are written as JSON. If a writing function fails, it may leave any bytes in
 /// `out`.
@@ -52,7 +52,7 @@ impl WriteJson for u64 {
     ghost value = { λ n. number (unsigned n) };
 
     fn write(&self, out: &mut Vec<u8>) -> Result<(), AllocError> {
-        write_count(out, *self)
+        write_unsigned_integer(out, *self)
     }
 }
 
@@ -76,7 +76,7 @@ impl<'a> WriteJson for &'a str {
     ghost value = { λ t. string t.now };
 
     fn write(&self, out: &mut Vec<u8>) -> Result<(), AllocError> {
-        write_text(out, *self)
+        write_json_string(out, *self)
     }
 }
 
@@ -96,19 +96,19 @@ impl<'a, W: WriteJson> WriteJson for &'a [W] {
 
     fn write(&self, out: &mut Vec<u8>) -> Result<(), AllocError> {
         begin_list(out)?;
-        write_each(out, *self)?;
+        write_list_items(out, *self)?;
         end_list(out)
     }
 }
 
 /// Writes the items of a list with commas between them, without brackets.
-fn write_each<W: WriteJson>(out: &mut Vec<u8>, values: &[W]) -> Result<(), AllocError>
+fn write_list_items<W: WriteJson>(out: &mut Vec<u8>, values: &[W]) -> Result<(), AllocError>
     ensures { OnOk result
         (AppendsEach false (map W.value values.now) out.old.items out.new.items) }
 {
     let mut later = false;
     for value in values {
-        write_one_of(out, values.len(), later, value)?;
+        write_item_and_reserve(out, values.len(), later, value)?;
         later = true;
     }
     Ok(())
@@ -116,7 +116,7 @@ fn write_each<W: WriteJson>(out: &mut Vec<u8>, values: &[W]) -> Result<(), Alloc
 
 /// Writes an item of a list of `count` items, after a comma if `later` is true. If `later` is
 /// false, reserves capacity for the other items, as if each were about as long as this one.
-fn write_one_of<W: WriteJson>(
+fn write_item_and_reserve<W: WriteJson>(
     out: &mut Vec<u8>,
     count: usize,
     later: bool,
@@ -127,20 +127,20 @@ fn write_one_of<W: WriteJson>(
     let before = out.len();
     write_item(out, later, value)?;
     if !later {
-        out.reserve(capacity_for(count, out.len().saturating_sub(before)))?;
+        out.reserve(capacity_for_rest(count, out.len().saturating_sub(before)))?;
     }
     Ok(())
 }
 
 /// Returns the capacity in bytes to reserve for all but one of `count` items, if each is about
 /// `len` bytes long. The result is at most 2^26.
-fn capacity_for(count: usize, len: usize) -> usize
+fn capacity_for_rest(count: usize, len: usize) -> usize
     ensures { result ≤ 2 ^ 26 }
 {
     let others = count.saturating_sub(1);
     others
         .saturating_mul(len.saturating_add(16))
-        .min(MAX_CAPACITY)
+        .min(MAX_RESERVED_BYTES)
 }
 
 /// Writes the bracket that opens a list.
@@ -176,7 +176,7 @@ pub(crate) fn write_piece(out: &mut Vec<u8>, piece: &[u8]) -> Result<(), AllocEr
 }
 
 /// Writes a text as a JSON string, in quotes. Characters that need it are written as escapes.
-fn write_text(out: &mut Vec<u8>, text: &str) -> Result<(), AllocError>
+fn write_json_string(out: &mut Vec<u8>, text: &str) -> Result<(), AllocError>
     ensures { OnOk result (Appends (string text.now) out.old.items out.new.items) }
 {
     write_piece(out, b"\"")?;
@@ -188,14 +188,14 @@ fn write_text(out: &mut Vec<u8>, text: &str) -> Result<(), AllocError>
 pub(crate) fn write_escaped(out: &mut Vec<u8>, text: &[u8]) -> Result<(), AllocError>
     ensures { OnOk result (out.new.items ≡ out.old.items ++ escape text.now) }
 {
-    if is_plain(text) {
+    if needs_no_escape(text) {
         return write_piece(out, text);
     }
-    write_each_byte(out, text)
+    write_escaped_bytes(out, text)
 }
 
 /// Returns whether the text can be written unchanged: true only if no byte needs an escape.
-fn is_plain(text: &[u8]) -> bool
+fn needs_no_escape(text: &[u8]) -> bool
     ensures plain { result ≡ true → escape text.now ≡ text.now }
 {
     for byte in text {
@@ -207,27 +207,34 @@ fn is_plain(text: &[u8]) -> bool
 }
 
 /// Writes the bytes of a text one by one, as escapes if necessary.
-fn write_each_byte(out: &mut Vec<u8>, text: &[u8]) -> Result<(), AllocError>
+fn write_escaped_bytes(out: &mut Vec<u8>, text: &[u8]) -> Result<(), AllocError>
     ensures { OnOk result (out.new.items ≡ out.old.items ++ escape text.now) }
 {
     for byte in text {
-        write_byte(out, *byte)?;
+        write_escaped_byte(out, *byte)?;
     }
     Ok(())
 }
 
 /// Writes a byte of a text. Quotes, backslashes and control characters are written as escapes.
-fn write_byte(out: &mut Vec<u8>, byte: u8) -> Result<(), AllocError>
+fn write_escaped_byte(out: &mut Vec<u8>, byte: u8) -> Result<(), AllocError>
     ensures { OnOk result (out.new.items ≡ out.old.items ++ escape_byte byte) }
 {
-    let short = letter(byte);
+    let short = short_escape_letter(byte);
     if short != 0 {
         return write_piece(out, &[b'\\', short]);
     }
     if byte < 32 {
         return write_piece(
             out,
-            &[b'\\', b'u', b'0', b'0', digit(byte / 16), digit(byte % 16)],
+            &[
+                b'\\',
+                b'u',
+                b'0',
+                b'0',
+                hexadecimal_digit(byte / 16),
+                hexadecimal_digit(byte % 16),
+            ],
         );
     }
     out.push(byte)?;
@@ -235,7 +242,7 @@ fn write_byte(out: &mut Vec<u8>, byte: u8) -> Result<(), AllocError>
 }
 
 /// Returns the letter of a byte's short escape, or 0 if it has none.
-fn letter(byte: u8) -> u8
+fn short_escape_letter(byte: u8) -> u8
     ensures { result ≡ escape_letter byte }
 {
     match byte {
@@ -250,7 +257,7 @@ fn letter(byte: u8) -> u8
 }
 
 /// Returns the hexadecimal digit of a value below 16.
-fn digit(value: u8) -> u8
+fn hexadecimal_digit(value: u8) -> u8
     requires { value < 16 }
     ensures { result ≡ digit_char value }
 {
@@ -262,7 +269,7 @@ fn digit(value: u8) -> u8
 }
 
 /// Writes an unsigned whole number as decimal digits.
-fn write_count(out: &mut Vec<u8>, count: u64) -> Result<(), AllocError>
+fn write_unsigned_integer(out: &mut Vec<u8>, count: u64) -> Result<(), AllocError>
     ensures { OnOk result (Appends (number (unsigned count)) out.old.items out.new.items) }
 {
     let mut digits = itoa::Buffer::new();

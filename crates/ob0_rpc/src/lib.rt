@@ -14,18 +14,19 @@ mod ranges;
 mod requests;
 mod values;
 
-pub use clients::Client;
+pub use clients::ClientFeatures;
 pub use incoming::{Id, Incoming, RpcFault, read};
 pub use json_text::{WriteJson, begin_list, end_list, write_item};
 pub use members::{range_in, text_in};
 pub use notifications::{ClientNotification, notice};
 /// The short name of a client's notification.
 pub use notifications::ClientNotification as Note;
-pub use objects::{OneMember, end_object, first_member, next_member};
+pub use objects::{OneMemberObject, end_object, write_first_member, write_next_member};
 pub use outgoing::{
-    ErrorResponse, Notification, Response, ResponseError, content_of, error, notify, result_of,
+    ErrorResponse, Notification, Response, ResponseError, content_of, error, notification_of,
+    result_of,
 };
-pub use ranges::{piece_before, range_before};
+pub use ranges::{write_piece_before, write_range_before};
 pub use requests::{ClientRequest, DocumentPosition, request};
 /// The short name of a client's request.
 pub use requests::ClientRequest as Call;

@@ -3,13 +3,13 @@ ghost use Rattle.std.specs.Prelude.{◌≡◌, option_map, string_bytes};
 ghost use Rattle.std.specs.Str.{chars};
 ghost use Rattle.serde_json.specs.Find.{as_str, get};
 ghost use Rattle.serde_json.specs.View.{view};
-ghost use Rattle.ob0_rpc.specs.Members.{is_absent as absent, text_member, truth_member, count_member, document_uri, document_version, document_text, json_position, position_member, json_range, range_member};
+ghost use Rattle.ob0_rpc.specs.Members.{is_absent_or_null as absent, text_member, bool_member, unsigned_member, document_uri, document_version, document_text, json_position, position_member, json_range, range_member};
 
 use ob0_text::{Position, Range};
 use serde_json::Value;
 
 /// Returns true if a member is absent or null.
-pub fn is_absent(member: Option<&Value>) -> bool
+pub fn is_absent_or_null(member: Option<&Value>) -> bool
     ensures { result ≡ absent (option_map (λ v. view v.now) member.entry) }
 {
     match member {
@@ -26,16 +26,16 @@ pub fn text_in<'v>(value: &'v Value, name: &str) -> Option<&'v str>
 }
 
 /// Returns the truth value of a member, or None if the member is absent or isn't a truth value.
-pub fn truth_in(value: &Value, name: &str) -> Option<bool>
-    ensures { result ≡ truth_member name.now (view value.now) }
+pub fn bool_in(value: &Value, name: &str) -> Option<bool>
+    ensures { result ≡ bool_member name.now (view value.now) }
 {
     value.get(name)?.as_bool()
 }
 
 /// Returns the number of a member, or None if the member is absent or isn't a whole number from 0
 /// to 2^64-1.
-pub fn count_in(value: &Value, name: &str) -> Option<u64>
-    ensures { result ≡ count_member name.now (view value.now) }
+pub fn unsigned_in(value: &Value, name: &str) -> Option<u64>
+    ensures { result ≡ unsigned_member name.now (view value.now) }
 {
     value.get(name)?.as_u64()
 }
@@ -59,11 +59,11 @@ pub fn version_of(params: &Value) -> Option<i64>
 pub fn into_document_text(params: Value) -> Option<String>
     ensures { option_map (λ s. chars (string_bytes s)) result ≡ document_text (view params) }
 {
-    into_text_in(into_member(params, "textDocument")?, "text")
+    into_text_member(into_member(params, "textDocument")?, "text")
 }
 
 /// Moves the text of a member out of a value. Returns None if the member is absent or isn't a text.
-pub fn into_text_in(value: Value, name: &str) -> Option<String>
+pub fn into_text_member(value: Value, name: &str) -> Option<String>
     ensures { option_map string_bytes result ≡ text_member name.now (view value) }
 {
     into_text(into_member(value, name)?)
@@ -102,8 +102,8 @@ fn into_text(value: Value) -> Option<String>
 pub fn position_of(value: &Value) -> Option<Position>
     ensures { result ≡ json_position (view value.now) }
 {
-    let line = count_in(value, "line")?;
-    let character = count_in(value, "character")?;
+    let line = unsigned_in(value, "line")?;
+    let character = unsigned_in(value, "character")?;
     Some(Position { line, character })
 }
 

@@ -2,8 +2,8 @@
 ghost use Rattle.std.specs.Prelude.{◌≡◌, IfOk};
 ghost use Rattle.serde_json.specs.View.{view};
 ghost use Rattle.ob0_rpc.specs.Members.{document_uri, document_version, document_text};
-ghost use Rattle.ob0_rpc.specs.Notifications.{open_of, change_of, close_of, changes_of as changes_in};
-ghost use Rattle.ob0_rpc.specs.Seen.{ReportsAs, seen_note};
+ghost use Rattle.ob0_rpc.specs.Notifications.{open_or_unreadable, change_or_unreadable, close_or_unreadable, changes_of as changes_in};
+ghost use Rattle.ob0_rpc.specs.Seen.{ReadsNotification, notification_view};
 
 use crate::changes::read_changes;
 use crate::incoming::RpcFault;
@@ -39,7 +39,7 @@ pub enum ClientNotification {
 /// Returns the notification with this method and these params. Texts of documents are moved out of
 /// the params, not copied. The only error is a failed allocation.
 pub fn notice(alloc: Global, method: &str, params: Value) -> Result<ClientNotification, RpcFault>
-    ensures { ReportsAs method.now (view params) result }
+    ensures { ReadsNotification method.now (view params) result }
 {
     if method == "exit" {
         Ok(ClientNotification::Exit)
@@ -55,8 +55,8 @@ pub fn notice(alloc: Global, method: &str, params: Value) -> Result<ClientNotifi
 }
 
 fn read_open(alloc: Global, params: Value) -> Result<ClientNotification, AllocError>
-    ensures { IfOk result (λ note. seen_note note
-        ≡ open_of (document_uri (view params)) (document_version (view params))
+    ensures { IfOk result (λ note. notification_view note
+        ≡ open_or_unreadable (document_uri (view params)) (document_version (view params))
         (document_text (view params))) }
 {
     let Some(uri) = uri_of(&params) else {
@@ -70,8 +70,8 @@ fn read_open(alloc: Global, params: Value) -> Result<ClientNotification, AllocEr
 }
 
 fn read_change(alloc: Global, params: Value) -> Result<ClientNotification, AllocError>
-    ensures { IfOk result (λ note. seen_note note
-        ≡ change_of (document_uri (view params)) (document_version (view params))
+    ensures { IfOk result (λ note. notification_view note
+        ≡ change_or_unreadable (document_uri (view params)) (document_version (view params))
         (changes_in (view params))) }
 {
     let Some(uri) = uri_of(&params) else {
@@ -89,7 +89,7 @@ fn read_change(alloc: Global, params: Value) -> Result<ClientNotification, Alloc
 }
 
 fn read_close(alloc: Global, params: &Value) -> Result<ClientNotification, AllocError>
-    ensures { IfOk result (λ note. seen_note note ≡ close_of (document_uri (view params.now))) }
+    ensures { IfOk result (λ note. notification_view note ≡ close_or_unreadable (document_uri (view params.now))) }
 {
     match uri_of(params) {
         Some(uri) => Ok(ClientNotification::Close {

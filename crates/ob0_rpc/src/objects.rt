@@ -8,7 +8,7 @@ use std::alloc::AllocError;
 
 /// Writes an object's opening bracket and its first member.
 #[inline(always)]
-pub fn first_member<W: WriteJson>(
+pub fn write_first_member<W: WriteJson>(
     out: &mut Vec<u8>,
     name: &str,
     value: &W,
@@ -24,7 +24,11 @@ pub fn first_member<W: WriteJson>(
 
 /// Writes a comma and another member of an object.
 #[inline(always)]
-pub fn next_member<W: WriteJson>(out: &mut Vec<u8>, name: &str, value: &W) -> Result<(), AllocError>
+pub fn write_next_member<W: WriteJson>(
+    out: &mut Vec<u8>,
+    name: &str,
+    value: &W,
+) -> Result<(), AllocError>
     ensures { OnOk result
         (AppendsMember 44 name.now (W.value value.now) out.old.items out.new.items) }
 {
@@ -44,12 +48,12 @@ pub fn end_object(out: &mut Vec<u8>) -> Result<(), AllocError>
 
 /// An object with one member, whose name may need escapes.
 #[derive(Drop)]
-pub struct OneMember<'a, W> {
+pub struct OneMemberObject<'a, W> {
     pub key: &'a str,
     pub value: W,
 }
 
-impl<'a, W: WriteJson> WriteJson for OneMember<'a, W> {
+impl<'a, W: WriteJson> WriteJson for OneMemberObject<'a, W> {
     ghost value = { λ e. object (member e.key.now (W.value e.value) no_members) };
 
     fn write(&self, out: &mut Vec<u8>) -> Result<(), AllocError> {

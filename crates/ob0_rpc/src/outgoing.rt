@@ -7,7 +7,7 @@ ghost use Rattle.ob0_rpc.specs.Writing.{CanBeSent, Writes};
 
 use crate::incoming::Id;
 use crate::json_text::WriteJson;
-use crate::objects::{end_object, first_member, next_member};
+use crate::objects::{end_object, write_first_member, write_next_member};
 use std::alloc::{AllocError, Global};
 
 /// The answer to a request.
@@ -21,9 +21,9 @@ impl<'a, W: WriteJson> WriteJson for Response<'a, W> {
     ghost value = { λ r. result_message (id_data r.id.now) (W.value r.result.now) };
 
     fn write(&self, out: &mut Vec<u8>) -> Result<(), AllocError> {
-        first_member(out, "id", self.id)?;
-        next_member(out, "jsonrpc", &"2.0")?;
-        next_member(out, "result", self.result)?;
+        write_first_member(out, "id", self.id)?;
+        write_next_member(out, "jsonrpc", &"2.0")?;
+        write_next_member(out, "result", self.result)?;
         end_object(out)
     }
 }
@@ -39,8 +39,8 @@ impl<'a> WriteJson for ResponseError<'a> {
     ghost value = { λ e. error_value e.code e.message.now };
 
     fn write(&self, out: &mut Vec<u8>) -> Result<(), AllocError> {
-        first_member(out, "code", &self.code)?;
-        next_member(out, "message", &self.message)?;
+        write_first_member(out, "code", &self.code)?;
+        write_next_member(out, "message", &self.message)?;
         end_object(out)
     }
 }
@@ -57,9 +57,9 @@ impl<'a> WriteJson for ErrorResponse<'a> {
         r.error.code r.error.message.now };
 
     fn write(&self, out: &mut Vec<u8>) -> Result<(), AllocError> {
-        first_member(out, "error", &self.error)?;
-        next_member(out, "id", &self.id)?;
-        next_member(out, "jsonrpc", &"2.0")?;
+        write_first_member(out, "error", &self.error)?;
+        write_next_member(out, "id", &self.id)?;
+        write_next_member(out, "jsonrpc", &"2.0")?;
         end_object(out)
     }
 }
@@ -75,9 +75,9 @@ impl<'a, W: WriteJson> WriteJson for Notification<'a, W> {
     ghost value = { λ n. notification_message n.method.now (W.value n.params.now) };
 
     fn write(&self, out: &mut Vec<u8>) -> Result<(), AllocError> {
-        first_member(out, "jsonrpc", &"2.0")?;
-        next_member(out, "method", &self.method)?;
-        next_member(out, "params", self.params)?;
+        write_first_member(out, "jsonrpc", &"2.0")?;
+        write_next_member(out, "method", &self.method)?;
+        write_next_member(out, "params", self.params)?;
         end_object(out)
     }
 }
@@ -139,7 +139,11 @@ pub fn error(
 
 /// Returns the text of a notification. If the params are nested at most 126 deep, the text reads
 /// back as that notification.
-pub fn notify<W: WriteJson>(alloc: Global, method: &str, params: &W) -> Result<Vec<u8>, AllocError>
+pub fn notification_of<W: WriteJson>(
+    alloc: Global,
+    method: &str,
+    params: &W,
+) -> Result<Vec<u8>, AllocError>
     ensures { IfOk result (λ bytes. CanBeSent (W.value params.now)
         → Writes (notification_message method.now (W.value params.now)) bytes.items) }
 {

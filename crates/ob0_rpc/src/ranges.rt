@@ -6,11 +6,11 @@
 
 ghost use Rattle.std.specs.Prelude.{◌≡◌, ◌++◌, ◌∷◌, [], ◌+◌, ◌<◌, ◌≤◌, ◌^◌, OnOk, codes, decimal, drop, length};
 ghost use Rattle.serde_json.specs.Written.{compact_text};
-ghost use Rattle.ob0_rpc.specs.Appending.{Appends, IsReadBack};
+ghost use Rattle.ob0_rpc.specs.Appending.{Appends, ReadsBack};
 ghost use Rattle.ob0_rpc.specs.Shapes.{edit_value, position_value, range_value};
 
 use crate::json_text::{WriteJson, write_escaped, write_piece};
-use crate::objects::{end_object, first_member, next_member};
+use crate::objects::{end_object, write_first_member, write_next_member};
 use itoa::write_digits;
 use ob0_text::{Edit, Position, Range};
 use std::alloc::AllocError;
@@ -23,8 +23,8 @@ impl WriteJson for Position {
     ghost value = { λ p. position_value p };
 
     fn write(&self, out: &mut Vec<u8>) -> Result<(), AllocError> {
-        first_member(out, "character", &self.character)?;
-        next_member(out, "line", &self.line)?;
+        write_first_member(out, "character", &self.character)?;
+        write_next_member(out, "line", &self.line)?;
         end_object(out)
     }
 }
@@ -43,20 +43,20 @@ impl WriteJson for Edit {
     fn write(&self, out: &mut Vec<u8>) -> Result<(), AllocError> {
         write_piece(out, b"{\"newText\":\"")?;
         write_escaped(out, self.text.as_str().as_bytes())?;
-        write_end_of_edit(out, self.range.start, self.range.end)
+        write_edit_range(out, self.range.start, self.range.end)
     }
 }
 
 /// Writes the part of an edit that follows its new text: the range and the closing bracket.
-fn write_end_of_edit(out: &mut Vec<u8>, start: Position, end: Position) -> Result<(), AllocError>
+fn write_edit_range(out: &mut Vec<u8>, start: Position, end: Position) -> Result<(), AllocError>
     ensures text { OnOk result (out.new.items ≡ out.old.items
         ++ (codes "\",\"range\":" ++ (compact_text (range_value start end) ++ 125 ∷ []))) }
-    ensures reads { IsReadBack (range_value start end) }
+    ensures reads { ReadsBack (range_value start end) }
 {
     let mut buffer = [0; RANGE_CAPACITY];
-    let following = piece_before(&mut buffer, RANGE_CAPACITY, b"}");
-    let at_range = range_before(&mut buffer, following, start, end);
-    let at = piece_before(&mut buffer, at_range, b"\",\"range\":");
+    let following = write_piece_before(&mut buffer, RANGE_CAPACITY, b"}");
+    let at_range = write_range_before(&mut buffer, following, start, end);
+    let at = write_piece_before(&mut buffer, at_range, b"\",\"range\":");
     write_piece(out, &buffer[at..])
 }
 
@@ -65,46 +65,46 @@ fn write_range(out: &mut Vec<u8>, start: Position, end: Position) -> Result<(), 
     ensures { OnOk result (Appends (range_value start end) out.old.items out.new.items) }
 {
     let mut buffer = [0; RANGE_CAPACITY];
-    let at = range_before(&mut buffer, RANGE_CAPACITY, start, end);
+    let at = write_range_before(&mut buffer, RANGE_CAPACITY, start, end);
     write_piece(out, &buffer[at..])
 }
 
 /// Writes a range's text into the buffer so that it ends right before the index `at`. Returns the index at which the
 /// text begins.
-pub fn range_before(buffer: &mut [u8], at: usize, start: Position, end: Position) -> usize
+pub fn write_range_before(buffer: &mut [u8], at: usize, start: Position, end: Position) -> usize
     requires { (160 ≤ at) × (at ≤ length buffer.old) }
     ensures within { (at ≤ result + 160) × (result ≤ at) }
     ensures text { drop result buffer.new
         ≡ compact_text (range_value start end) ++ drop at buffer.old }
-    ensures reads { IsReadBack (range_value start end) }
+    ensures reads { ReadsBack (range_value start end) }
 {
-    let following_start = piece_before(buffer, at, b"}");
-    let at_start = position_before(buffer, following_start, start);
-    let following_end = piece_before(buffer, at_start, b",\"start\":");
-    let at_end = position_before(buffer, following_end, end);
-    piece_before(buffer, at_end, b"{\"end\":")
+    let following_start = write_piece_before(buffer, at, b"}");
+    let at_start = write_position_before(buffer, following_start, start);
+    let following_end = write_piece_before(buffer, at_start, b",\"start\":");
+    let at_end = write_position_before(buffer, following_end, end);
+    write_piece_before(buffer, at_end, b"{\"end\":")
 }
 
 /// Writes a position's text into the buffer so that it ends right before the index `at`. Returns the index at which the
 /// text begins.
-fn position_before(buffer: &mut [u8], at: usize, position: Position) -> usize
+fn write_position_before(buffer: &mut [u8], at: usize, position: Position) -> usize
     requires { (62 ≤ at) × (at ≤ length buffer.old) }
     ensures within { (at ≤ result + 62) × (result ≤ at) }
     ensures text { drop result buffer.new
         ≡ compact_text (position_value position) ++ drop at buffer.old }
-    ensures reads { IsReadBack (position_value position) }
+    ensures reads { ReadsBack (position_value position) }
 {
-    let following_line = piece_before(buffer, at, b"}");
-    let at_line = count_before(buffer, following_line, position.line);
-    let following_character = piece_before(buffer, at_line, b",\"line\":");
-    let at_character = count_before(buffer, following_character, position.character);
-    piece_before(buffer, at_character, b"{\"character\":")
+    let following_line = write_piece_before(buffer, at, b"}");
+    let at_line = write_digits_before(buffer, following_line, position.line);
+    let following_character = write_piece_before(buffer, at_line, b",\"line\":");
+    let at_character = write_digits_before(buffer, following_character, position.character);
+    write_piece_before(buffer, at_character, b"{\"character\":")
 }
 
 /// Writes a whole number's digits into the buffer so that they end right before the index `at`. Returns the index at
 /// which they begin.
 #[inline(always)]
-fn count_before(buffer: &mut [u8], at: usize, count: u64) -> usize
+fn write_digits_before(buffer: &mut [u8], at: usize, count: u64) -> usize
     requires { (20 ≤ at) × (at ≤ length buffer.old) }
     ensures within { (at ≤ result + 20) × (result ≤ at) }
     ensures text { drop result buffer.new ≡ decimal count ++ drop at buffer.old }
@@ -116,7 +116,7 @@ fn count_before(buffer: &mut [u8], at: usize, count: u64) -> usize
 /// Writes a piece of text into the buffer so that it ends right before the index `at`. Returns the index at which the
 /// piece begins.
 #[inline(always)]
-pub fn piece_before(buffer: &mut [u8], at: usize, piece: &[u8]) -> usize
+pub fn write_piece_before(buffer: &mut [u8], at: usize, piece: &[u8]) -> usize
     requires { (length piece.now ≤ at) × (at ≤ length buffer.old) }
     ensures start { result + length piece.now ≡ at }
     ensures text { drop result buffer.new ≡ piece.now ++ drop at buffer.old }

@@ -4,13 +4,13 @@ ghost use Rattle.serde_json.specs.Find.{get};
 ghost use Rattle.serde_json.specs.View.{view, items_view};
 ghost use Rattle.ob0_text.specs.Indents.{level_spaces};
 ghost use Rattle.ob0_rpc.specs.Requesting as asks;
-ghost use Rattle.ob0_rpc.specs.Requesting.{at_of, request_by_method, references_of, rename_of, code_action_of, formatting_of, language_call_of, only_by, only_of, texts_of as texts_in, indent_of as indent_in, or_bad, initialize_of};
-ghost use Rattle.ob0_rpc.specs.Members.{truth_member};
-ghost use Rattle.ob0_rpc.specs.Seen.{Requests, at_seen, kinds_seen};
+ghost use Rattle.ob0_rpc.specs.Requesting.{document_place_of, request_by_method, references_request_of, rename_request_of, code_action_request_of, formatting_request_of, document_request_by_method, optional_texts, requested_kinds, texts_of as texts_in, indent_of as indent_in, or_bad_params, initialize_request_of};
+ghost use Rattle.ob0_rpc.specs.Members.{bool_member};
+ghost use Rattle.ob0_rpc.specs.Seen.{ReadsClientRequest, document_place_view, kinds_view};
 
-use crate::clients::{Client, client_of};
+use crate::clients::{ClientFeatures, client_features};
 use crate::incoming::RpcFault;
-use crate::members::{count_in, position_in, range_in, text_in, truth_in, uri_of};
+use crate::members::{bool_in, position_in, range_in, text_in, unsigned_in, uri_of};
 use ob0_text::{Indent, MAX_INDENT, Position, Range};
 use serde_json::Value;
 use std::alloc::{AllocError, Global};
@@ -25,7 +25,7 @@ pub struct DocumentPosition {
 /// A request of a known method.
 #[derive(Drop)]
 pub enum ClientRequest {
-    Initialize(Client),
+    Initialize(ClientFeatures),
     Shutdown,
     Hover(DocumentPosition),
     Definition(DocumentPosition),
@@ -53,85 +53,85 @@ pub enum ClientRequest {
 /// Returns the request with this method and these params, or an error. The params of an initialize
 /// request must be an object; a shutdown request accepts any params.
 pub fn request(alloc: Global, method: &str, params: &Value) -> Result<ClientRequest, RpcFault>
-    ensures { Requests (request_by_method method.now (view params.now)) result }
+    ensures { ReadsClientRequest (request_by_method method.now (view params.now)) result }
 {
     if method == "initialize" {
-        initialize(params)
+        read_initialize(params)
     } else if method == "shutdown" {
         Ok(ClientRequest::Shutdown)
     } else {
-        request_of_language(alloc, method, params)
+        read_document_request(alloc, method, params)
     }
 }
 
 /// Returns the request about a document with this method and these params, or an error.
-fn request_of_language(
+fn read_document_request(
     alloc: Global,
     method: &str,
     params: &Value,
 ) -> Result<ClientRequest, RpcFault>
-    ensures { Requests (language_call_of method.now (view params.now)) result }
+    ensures { ReadsClientRequest (document_request_by_method method.now (view params.now)) result }
 {
     if method == "textDocument/hover" {
         hover(alloc, params)
     } else if method == "textDocument/definition" {
         definition(alloc, params)
     } else if method == "textDocument/references" {
-        references(alloc, params)
+        read_references(alloc, params)
     } else if method == "textDocument/prepareRename" {
         prepare_rename(alloc, params)
     } else if method == "textDocument/rename" {
-        rename(alloc, params)
+        read_rename(alloc, params)
     } else if method == "textDocument/codeAction" {
-        code_action(alloc, params)
+        read_code_action(alloc, params)
     } else if method == "textDocument/formatting" {
-        formatting(alloc, params)
+        read_formatting(alloc, params)
     } else {
         Err(RpcFault::UnknownMethod)
     }
 }
 
-fn initialize(params: &Value) -> Result<ClientRequest, RpcFault>
-    ensures { Requests (or_bad (initialize_of (view params.now))) result }
+fn read_initialize(params: &Value) -> Result<ClientRequest, RpcFault>
+    ensures { ReadsClientRequest (or_bad_params (initialize_request_of (view params.now))) result }
 {
     if params.is_object() {
-        Ok(ClientRequest::Initialize(client_of(params)))
+        Ok(ClientRequest::Initialize(client_features(params)))
     } else {
         Err(RpcFault::BadParams)
     }
 }
 
 fn hover(alloc: Global, params: &Value) -> Result<ClientRequest, RpcFault>
-    ensures { Requests (or_bad (option_map asks.hover (at_of (view params.now)))) result }
+    ensures { ReadsClientRequest (or_bad_params (option_map asks.hover (document_place_of (view params.now)))) result }
 {
-    let Some(place) = place_of(alloc, params)? else {
+    let Some(place) = document_position(alloc, params)? else {
         return Err(RpcFault::BadParams);
     };
     Ok(ClientRequest::Hover(place))
 }
 
 fn definition(alloc: Global, params: &Value) -> Result<ClientRequest, RpcFault>
-    ensures { Requests (or_bad (option_map asks.definition (at_of (view params.now)))) result }
+    ensures { ReadsClientRequest (or_bad_params (option_map asks.definition (document_place_of (view params.now)))) result }
 {
-    let Some(place) = place_of(alloc, params)? else {
+    let Some(place) = document_position(alloc, params)? else {
         return Err(RpcFault::BadParams);
     };
     Ok(ClientRequest::Definition(place))
 }
 
 fn prepare_rename(alloc: Global, params: &Value) -> Result<ClientRequest, RpcFault>
-    ensures { Requests (or_bad (option_map asks.prepare_rename (at_of (view params.now)))) result }
+    ensures { ReadsClientRequest (or_bad_params (option_map asks.prepare_rename (document_place_of (view params.now)))) result }
 {
-    let Some(place) = place_of(alloc, params)? else {
+    let Some(place) = document_position(alloc, params)? else {
         return Err(RpcFault::BadParams);
     };
     Ok(ClientRequest::PrepareRename(place))
 }
 
-fn references(alloc: Global, params: &Value) -> Result<ClientRequest, RpcFault>
-    ensures { Requests (or_bad (references_of (view params.now))) result }
+fn read_references(alloc: Global, params: &Value) -> Result<ClientRequest, RpcFault>
+    ensures { ReadsClientRequest (or_bad_params (references_request_of (view params.now))) result }
 {
-    let Some(place) = place_of(alloc, params)? else {
+    let Some(place) = document_position(alloc, params)? else {
         return Err(RpcFault::BadParams);
     };
     let Some(include_declaration) = includes_declaration(params) else {
@@ -143,10 +143,10 @@ fn references(alloc: Global, params: &Value) -> Result<ClientRequest, RpcFault>
     })
 }
 
-fn rename(alloc: Global, params: &Value) -> Result<ClientRequest, RpcFault>
-    ensures { Requests (or_bad (rename_of (view params.now))) result }
+fn read_rename(alloc: Global, params: &Value) -> Result<ClientRequest, RpcFault>
+    ensures { ReadsClientRequest (or_bad_params (rename_request_of (view params.now))) result }
 {
-    let Some(place) = place_of(alloc, params)? else {
+    let Some(place) = document_position(alloc, params)? else {
         return Err(RpcFault::BadParams);
     };
     let Some(new_name) = text_in(params, "newName") else {
@@ -156,8 +156,8 @@ fn rename(alloc: Global, params: &Value) -> Result<ClientRequest, RpcFault>
     Ok(ClientRequest::Rename { place, new_name })
 }
 
-fn code_action(alloc: Global, params: &Value) -> Result<ClientRequest, RpcFault>
-    ensures { Requests (or_bad (code_action_of (view params.now))) result }
+fn read_code_action(alloc: Global, params: &Value) -> Result<ClientRequest, RpcFault>
+    ensures { ReadsClientRequest (or_bad_params (code_action_request_of (view params.now))) result }
 {
     let Some(uri) = uri_of(params) else {
         return Err(RpcFault::BadParams);
@@ -166,14 +166,14 @@ fn code_action(alloc: Global, params: &Value) -> Result<ClientRequest, RpcFault>
     let Some(range) = range_in(params, "range") else {
         return Err(RpcFault::BadParams);
     };
-    let Some(only) = kinds_of(alloc, params.get("context"))? else {
+    let Some(only) = read_requested_kinds(alloc, params.get("context"))? else {
         return Err(RpcFault::BadParams);
     };
     Ok(ClientRequest::CodeAction { uri, range, only })
 }
 
-fn formatting(alloc: Global, params: &Value) -> Result<ClientRequest, RpcFault>
-    ensures { Requests (or_bad (formatting_of (view params.now))) result }
+fn read_formatting(alloc: Global, params: &Value) -> Result<ClientRequest, RpcFault>
+    ensures { ReadsClientRequest (or_bad_params (formatting_request_of (view params.now))) result }
 {
     let Some(uri) = uri_of(params) else {
         return Err(RpcFault::BadParams);
@@ -186,8 +186,8 @@ fn formatting(alloc: Global, params: &Value) -> Result<ClientRequest, RpcFault>
 }
 
 /// Returns the document and the position in params, or None if one of the two can't be read.
-fn place_of(alloc: Global, params: &Value) -> Result<Option<DocumentPosition>, AllocError>
-    ensures { IfOk result (λ found. option_map at_seen found ≡ at_of (view params.now)) }
+fn document_position(alloc: Global, params: &Value) -> Result<Option<DocumentPosition>, AllocError>
+    ensures { IfOk result (λ found. option_map document_place_view found ≡ document_place_of (view params.now)) }
 {
     let Some(uri) = uri_of(params) else {
         return Ok(None);
@@ -202,10 +202,10 @@ fn place_of(alloc: Global, params: &Value) -> Result<Option<DocumentPosition>, A
 /// Returns the value of `includeDeclaration` in params, or None if it can't be read.
 fn includes_declaration(params: &Value) -> Option<bool>
     ensures { result
-        ≡ option_and_then (truth_member (codes "includeDeclaration"))
+        ≡ option_and_then (bool_member (codes "includeDeclaration"))
         (get (codes "context") (view params.now)) }
 {
-    truth_in(params.get("context")?, "includeDeclaration")
+    bool_in(params.get("context")?, "includeDeclaration")
 }
 
 /// Returns the indentation that the formatting options in params request, or None if they can't be
@@ -214,10 +214,10 @@ fn indent_of(params: &Value) -> Option<Indent>
     ensures { result ≡ option_and_then indent_in (get (codes "options") (view params.now)) }
 {
     let options = params.get("options")?;
-    let size = count_in(options, "tabSize")?;
-    let spaces = truth_in(options, "insertSpaces")?;
+    let size = unsigned_in(options, "tabSize")?;
+    let spaces = bool_in(options, "insertSpaces")?;
     Some(if spaces {
-        Indent::Spaces(spaces_of(size))
+        Indent::Spaces(spaces_per_level(size))
     } else {
         Indent::Tab
     })
@@ -225,7 +225,7 @@ fn indent_of(params: &Value) -> Option<Indent>
 
 /// Returns the number of spaces for one level of indentation if `size` are requested: at least 1
 /// and at most [`MAX_INDENT`].
-fn spaces_of(size: u64) -> u8
+fn spaces_per_level(size: u64) -> u8
     ensures { result ≡ level_spaces size }
 {
     size.min(MAX_INDENT as u64).max(1) as u8
@@ -233,12 +233,12 @@ fn spaces_of(size: u64) -> u8
 
 /// Returns the kinds of actions that a context requests. `Some(None)` means that all kinds are
 /// requested, and `None` that the context is missing or can't be read.
-fn kinds_of(
+fn read_requested_kinds(
     alloc: Global,
     context: Option<&Value>,
 ) -> Result<Option<Option<Vec<String>>>, AllocError>
-    ensures { IfOk result (λ found. option_map kinds_seen found
-        ≡ option_and_then only_of (option_map (λ v. view v.now) context.entry)) }
+    ensures { IfOk result (λ found. option_map kinds_view found
+        ≡ option_and_then requested_kinds (option_map (λ v. view v.now) context.entry)) }
 {
     let Some(context) = context else {
         return Ok(None);
@@ -246,14 +246,17 @@ fn kinds_of(
     if !context.is_object() {
         return Ok(None);
     }
-    only_in(alloc, context.get("only"))
+    read_optional_texts(alloc, context.get("only"))
 }
 
 /// Returns the texts of the member `only`. `Some(None)` means that the member is absent or null,
 /// and `None` that it can't be read.
-fn only_in(alloc: Global, only: Option<&Value>) -> Result<Option<Option<Vec<String>>>, AllocError>
+fn read_optional_texts(
+    alloc: Global,
+    only: Option<&Value>,
+) -> Result<Option<Option<Vec<String>>>, AllocError>
     ensures { IfOk result
-        (λ found. option_map kinds_seen found ≡ only_by (option_map (λ v. view v.now) only.entry)) }
+        (λ found. option_map kinds_view found ≡ optional_texts (option_map (λ v. view v.now) only.entry)) }
 {
     let Some(only) = only else {
         return Ok(Some(None));

@@ -7,31 +7,31 @@ use Rattle.std.proofs.lemmas.List.{length-replicate}
 use Rattle.std.proofs.Common.{◌≡◌, ℕ, zero, suc, ◌+◌, ◌^◌, ◌<◌, true, false, if◌then◌else◌, nat_lt, length-append, List, [], ◌∷◌, ◌++◌, drop, length, map, replicate, take, pos, slice_get, Some, option_and_then, unwrap_or, sym, refl, ap, ◌∙◌, subst, arith, append_assoc}
 use Rattle.ob0_tree.specs.Tree.{Tree, begins, body, declares_procedure, item, maybe, none, one, procedure}
 use Rattle.ob0_language_names.specs.Parts.{block_statements, formal_sections, procedure_formals}
-use Rattle.ob0_language_types.specs.Declarations.{formals_constructors}
-use Rattle.ob0_language_types.specs.Environments.{from_binding, meanings, newest}
+use Rattle.ob0_language_types.specs.Declarations.{formals_constructor_count}
+use Rattle.ob0_language_types.specs.Environments.{environment_from_binding, meanings, newest_object}
 use Rattle.ob0_language_types.specs.Expressions.{Object, a_procedure}
-use Rattle.ob0_language_types.specs.WellTyped.{Signature, TypeEnvironment, TypedParameter, bind_typed, block_fits, heading, procedure_fits, signature_of, typed_parameters}
+use Rattle.ob0_language_types.specs.WellTyped.{Signature, TypeEnvironment, TypedParameter, bind_typed_parameters, block_fits, bind_procedure, procedure_fits, signature_of, typed_parameters}
 use Rattle.ob0_language_types.proofs.Literals.{some_inverse}
 use Rattle.ob0_language_values.specs.Values.{Place, Shape, Store}
 use Rattle.ob0_language_runs.specs.Fitting.{ArgumentsFit, BindingFits, EnvironmentsFit, StoreFits, StoreTyping}
 use Rattle.ob0_language_runs.specs.Freed.{call_freeing, drop_variables}
-use Rattle.ob0_language_runs.specs.Runs.{Activation, Argument, ProcedureText, Frame, Progress, State, activate, bind_parameters, declare_block, execute_body, in_frame, running, statement_meanings, stopped}
+use Rattle.ob0_language_runs.specs.Runs.{Activation, Argument, ProcedureText, Frame, Progress, State, activate, bind_parameters, declare_block, execute_body, continue_in_frame, running, statement_meanings, stopped}
 use Rattle.ob0_language_runs.proofs.SoundCalls.{from-fit, names-fit, parameters-of_typed}
 use Rattle.ob0_run_machine.specs.Evaluation.{Level, Levels}
 use Rattle.ob0_run_machine.specs.Execution as execution
 use Rattle.ob0_run_machine.specs.Lowered as lowered
-use Rattle.ob0_run_cells.specs.Activations.{RoutineTable, BodyMeans, IsPlaced, Placed, Placing, PlacingFits, ProcedureMeans, Whereabouts, at_target, entered_placing, first_target, from_name, inward, own_target, target_of, targets_in}
-use Rattle.ob0_run_cells.specs.Cells.{all_cells, sizes}
+use Rattle.ob0_run_cells.specs.Activations.{RoutineTable, BodyMeans, IsPlaced, Placed, Placement, PlacementFits, ProcedureMeans, BindingPlace, at_target, parameter_placement, first_target, suffix_from_name, inward_placement, local_target, target_of, target_in_placement}
+use Rattle.ob0_run_cells.specs.Cells.{all_cells, store_size}
 use Rattle.ob0_run_cells.specs.LoweredStatements.{Body, CallsRepresent, ProgressRepresents, Represents, Target, argument_addresses, argument_cells}
 use Rattle.ob0_run_cells.specs.Lowering.{held}
 use Rattle.ob0_run_cells.proofs.PlacedDeclarations.{FramePlaced, block-placed, parameters-placed}
-use Rattle.ob0_run_cells.proofs.PlacedEnvironments.{from-placed, inward-fits, slots-fit}
+use Rattle.ob0_run_cells.proofs.PlacedEnvironments.{from-placed, inward_placement-fits, slots-fit}
 use Rattle.ob0_run_cells.proofs.Places.{store-size}
 use Rattle.ob0_run_cells.proofs.Variables.{variables_are_dropped}
 
 -- a relation that holds without room, and after an activation with room, holds after any activation
 pub with-cells : (P : execution.MachineProgress → Type 0) (n : ℕ) (next : execution.MachineState → execution.MachineProgress) (s : execution.MachineState) → P execution.no_room → (length s.cells + n < 2 ^ 64 → P (next record s { cells = s.cells ++ execution.zeros n }))
-    → P (execution.with_cells n next s)
+    → P (execution.run_with_cells n next s)
 with-cells P n next s without each =
     (elim (nat_lt (length s.cells + n) (2 ^ 64)) as (λ b. nat_lt (length s.cells + n) (2 ^ 64) ≡ b → P (if b then next record s { cells = s.cells ++ execution.zeros n } else execution.no_room))
     [ true ↦ λ e. each (ltb-true (length s.cells + n) (2 ^ 64) e) | false ↦ λ e. without ]) refl
@@ -57,50 +57,50 @@ module _ {N : Type 0} (table : RoutineTable N) where
   -- the facts about calls if c more may be open
   abbrev pub CallsKnown : ℕ → ℕ → Type 0
   CallsKnown c t =
-      (typing : StoreTyping) (ls : Levels) (checked : TypeEnvironment N) (placing : Placing N) (active : Activation N) → EnvironmentsFit table.naming typing checked active → PlacingFits table typing ls checked placing active
-      → CallsRepresent (meanings table.naming checked) (targets_in table.naming placing) (body_of c t typing ls active)
+      (typing : StoreTyping) (ls : Levels) (checked : TypeEnvironment N) (placement : Placement N) (active : Activation N) → EnvironmentsFit table.naming typing checked active → PlacementFits table typing ls checked placement active
+      → CallsRepresent (meanings table.naming checked) (target_in_placement table.naming placement) (body_of c t typing ls active)
 
-  pub body-represents : (c t : ℕ) → CallsKnown c t → (typing : StoreTyping) (ls : Levels) (checked : TypeEnvironment N) (placing : Placing N) (active : Activation N) → EnvironmentsFit table.naming typing checked active → PlacingFits table typing ls checked placing active → sizes typing < 2 ^ 64
-      → (code : lowered.Instructions) (statements : Tree N (maybe body)) → BodyMeans table.naming checked placing code statements → (low : execution.MachineState) (s : State) → Represents typing low s
+  pub body-represents : (c t : ℕ) → CallsKnown c t → (typing : StoreTyping) (ls : Levels) (checked : TypeEnvironment N) (placement : Placement N) (active : Activation N) → EnvironmentsFit table.naming typing checked active → PlacementFits table typing ls checked placement active → store_size typing < 2 ^ 64
+      → (code : lowered.Instructions) (statements : Tree N (maybe body)) → BodyMeans table.naming checked placement code statements → (low : execution.MachineState) (s : State) → Represents typing low s
       → ProgressRepresents typing (execution.execute_all (execution.call table.routines c t) t ls code low) (execute_body table.naming active (call_freeing table.naming c t active) t statements s)
   unfolding execution.execute execute_body
-  body-represents c t known typing ls checked placing active env placed few code none means low s h = subst (λ code. ProgressRepresents typing (execution.execute_all (execution.call table.routines c t) t ls code low) (running s)) (sym means) h
-  body-represents c t known typing ls checked placing active env placed few code (one (begins statements)) means low s h =
+  body-represents c t known typing ls checked placement active env placed few code none means low s h = subst (λ code. ProgressRepresents typing (execution.execute_all (execution.call table.routines c t) t ls code low) (running s)) (sym means) h
+  body-represents c t known typing ls checked placement active env placed few code (one (begins statements)) means low s h =
       means (body_of c t typing ls active) record {
         names_fit = (names-fit table.naming typing checked active env, λ x. refl);
-        variables_in_slots = λ x p e. slots-fit table typing ls (from_binding table.naming checked x) (from_name table.naming placing x) (from_binding table.naming active x) (from-placed table typing ls checked placing active x placed) p e;
+        variables_in_slots = λ x p e. slots-fit table typing ls (environment_from_binding table.naming checked x) (suffix_from_name table.naming placement x) (environment_from_binding table.naming active x) (from-placed table typing ls checked placement active x placed) p e;
         has_addresses = few;
-        calls_represent = known typing ls checked placing active env placed;
+        calls_represent = known typing ls checked placement active env placed;
       } t low s h
 
-  pub activate-represents : (c t : ℕ) → CallsKnown c t → (typing : StoreTyping) (ls : Levels) (checked : TypeEnvironment N) (placing : Placing N) (active : Activation N) (signature : Signature) (args : List Argument) (low : execution.MachineState) (s : State) (p : execution.Passed)
-      → EnvironmentsFit table.naming typing checked active → PlacingFits table typing ls checked placing active → newest checked ≡ Some (a_procedure signature) → Represents typing low s → ArgumentsFit typing signature args
+  pub activate-represents : (c t : ℕ) → CallsKnown c t → (typing : StoreTyping) (ls : Levels) (checked : TypeEnvironment N) (placement : Placement N) (active : Activation N) (signature : Signature) (args : List Argument) (low : execution.MachineState) (s : State) (p : execution.CallArguments)
+      → EnvironmentsFit table.naming typing checked active → PlacementFits table typing ls checked placement active → newest_object checked ≡ Some (a_procedure signature) → Represents typing low s → ArgumentsFit typing signature args
       → p.cells ≡ low.cells ++ argument_cells args → p.addresses ≡ argument_addresses typing args
-      → ProgressRepresents typing (execution.call table.routines (suc c) t (first_target placing).procedure (execution.entered ls (length low.cells) (first_target placing).up p) record low { cells = p.cells }) (drop_variables (length s.store) (activate table.naming (call_freeing table.naming c t) t active args s))
+      → ProgressRepresents typing (execution.call table.routines (suc c) t (first_target placement).procedure (execution.levels_in_call ls (length low.cells) (first_target placement).up p) record low { cells = p.cells }) (drop_variables (length s.store) (activate table.naming (call_freeing table.naming c t) t active args s))
   unfolding execution.call activate block_fits
-  activate-represents c t known typing ls [] placing active signature args low s p env placed e h fit cells there = absurd (cc)
+  activate-represents c t known typing ls [] placement active signature args low s p env placed e h fit cells there = absurd (cc)
   activate-represents c t known typing ls (b ∷ checked) [] (d ∷ active) signature args low s p env placed e h fit cells there = absurd placed
-  activate-represents c t known typing ls ((x, o) ∷ checked) ((z, w) ∷ placing) ((y, r) ∷ active) signature args low s p env placed e h fit cells there = of_objects o w r env.1 placed.here (some_inverse {a = o} {b = a_procedure signature} e)
+  activate-represents c t known typing ls ((x, o) ∷ checked) ((z, w) ∷ placement) ((y, r) ∷ active) signature args low s p env placed e h fit cells there = of_objects o w r env.1 placed.here (some_inverse {a = o} {b = a_procedure signature} e)
     where
-      of_text : (tg : Target) (outer : Placing N) (entry : lowered.Routine) (j : ℕ) (text : Tree N (item procedure)) (ps : List (TypedParameter N)) → PlacingFits table typing (drop tg.up ls) checked outer active → typed_parameters table.naming checked j (procedure_formals text) ≡ Some ps
-          → slice_get table.routines tg.procedure ≡ Some entry → signature ≡ map (λ p. p.formal) ps → procedure_fits table.naming (bind_typed ps (heading x ps checked)) j text ≡ true
-          → ProcedureMeans table (bind_typed ps (heading x ps checked)) (entered_placing ps ((x, own_target tg.procedure) ∷ outer)) j entry text
-          → ProgressRepresents typing (execution.call table.routines (suc c) t tg.procedure (execution.entered ls (length low.cells) tg.up p) record low { cells = p.cells }) (drop_variables (length s.store) (activate table.naming (call_freeing table.naming c t) t ((y, a_procedure record { first_constructor = j; text = text }) ∷ active) args s))
+      of_text : (tg : Target) (outer : Placement N) (entry : lowered.Routine) (j : ℕ) (text : Tree N (item procedure)) (ps : List (TypedParameter N)) → PlacementFits table typing (drop tg.up ls) checked outer active → typed_parameters table.naming checked j (procedure_formals text) ≡ Some ps
+          → slice_get table.routines tg.procedure ≡ Some entry → signature ≡ map (λ p. p.formal) ps → procedure_fits table.naming (bind_typed_parameters ps (bind_procedure x ps checked)) j text ≡ true
+          → ProcedureMeans table (bind_typed_parameters ps (bind_procedure x ps checked)) (parameter_placement ps ((x, local_target tg.procedure) ∷ outer)) j entry text
+          → ProgressRepresents typing (execution.call table.routines (suc c) t tg.procedure (execution.levels_in_call ls (length low.cells) tg.up p) record low { cells = p.cells }) (drop_variables (length s.store) (activate table.naming (call_freeing table.naming c t) t ((y, a_procedure record { first_constructor = j; text = text }) ∷ active) args s))
       of_text tg outer entry j (declares_procedure q fs b closing) ps inside eps et sig fits means =
           let text : Tree N (item procedure) = declares_procedure q fs b closing in
           let l : Level = record { base = length low.cells; addresses = p.addresses } in
           let seen : Levels = drop tg.up ls in
           let f : Frame N = record { env = (y, a_procedure record { first_constructor = j; text = text }) ∷ active; store = s.store } in
-          let p₀ : Placed N = record { placing = inward ((x, own_target tg.procedure) ∷ outer); cells = 0; reference_places = 0 } in
-          let sized : length low.cells ≡ sizes typing = ap length h.same_cells ∙ store-size typing s.store h.store_fits in
-          let start : FramePlaced table typing (l ∷ seen) l.base (heading x ps checked) p₀ f = record {
+          let p₀ : Placed N = record { placement = inward_placement ((x, local_target tg.procedure) ∷ outer); cells = 0; reference_places = 0 } in
+          let sized : length low.cells ≡ store_size typing = ap length h.same_cells ∙ store-size typing s.store h.store_fits in
+          let start : FramePlaced table typing (l ∷ seen) l.base (bind_procedure x ps checked) p₀ f = record {
             store_fits = h.store_fits;
             environment_fits = (env.0, (ps, eps, refl, fits), env.2);
-            placing_fits = inward-fits table typing l seen (heading x ps checked) ((x, own_target tg.procedure) ∷ outer) f.env record { same_active = env.0; same_placed = refl; here = (outer, inside, record { parameters = ps; routine = entry; are_typed = eps; in_table = et; means = means }); further = inside };
+            placing_fits = inward_placement-fits table typing l seen (bind_procedure x ps checked) ((x, local_target tg.procedure) ∷ outer) f.env record { same_active = env.0; same_placed = refl; here = (outer, inside, record { parameters = ps; routine = entry; are_typed = eps; in_table = et; means = means }); further = inside };
             cells_counted = omega (arith, sized);
           } in
-          let (g, eg, part) = parameters-placed table typing l seen ps args (heading x ps checked) p₀ f start (subst (λ fs. ArgumentsFit typing fs args) sig fit) there in
-          let (k, after, q₂, ek, total, body_means, rest) = block-placed table part.typing_now (l ∷ seen) l.base (held 0) (λ c. refl) (j + formals_constructors (formal_sections fs)) entry.cells entry.body b (bind_typed ps (heading x ps checked)) (entered_placing ps ((x, own_target tg.procedure) ∷ outer)) g part.frame fits means in
+          let (g, eg, part) = parameters-placed table typing l seen ps args (bind_procedure x ps checked) p₀ f start (subst (λ fs. ArgumentsFit typing fs args) sig fit) there in
+          let (k, after, q₂, ek, total, body_means, rest) = block-placed table part.typing_now (l ∷ seen) l.base (held 0) (λ c. refl) (j + formals_constructor_count (formal_sections fs)) entry.cells entry.body b (bind_typed_parameters ps (bind_procedure x ps checked)) (parameter_placement ps ((x, local_target tg.procedure) ∷ outer)) g part.frame fits means in
           let low₂ : execution.MachineState = record low { cells = p.cells ++ execution.zeros entry.cells } in
           let s₂ : State = record s { store = k.store } in
           let represents : Represents rest.typing_now low₂ s₂ = record {
@@ -111,33 +111,33 @@ module _ {N : Type 0} (table : RoutineTable N) where
           } in
           let longer : length (p.cells ++ execution.zeros entry.cells) ≡ length p.cells + length (execution.zeros entry.cells) = length-append p.cells (execution.zeros entry.cells) in
           let zeros : length (execution.zeros entry.cells) ≡ entry.cells = length-replicate entry.cells (pos 0) in
-          let all : length (p.cells ++ execution.zeros entry.cells) ≡ sizes rest.typing_now = ap length represents.same_cells ∙ store-size rest.typing_now k.store rest.frame.store_fits in
-          let counted : length p.cells + entry.cells ≡ sizes rest.typing_now = omega (arith, longer, zeros, all) in
+          let all : length (p.cells ++ execution.zeros entry.cells) ≡ store_size rest.typing_now = ap length represents.same_cells ∙ store-size rest.typing_now k.store rest.frame.store_fits in
+          let counted : length p.cells + entry.cells ≡ store_size rest.typing_now = omega (arith, longer, zeros, all) in
           let grown : rest.typing_now ≡ typing ++ (part.others ++ rest.others) = rest.is_grown ∙ (ap (λ l. l ++ rest.others) part.is_grown ∙ append_assoc typing part.others rest.others) in
           let statements = execute_body table.naming k.env (call_freeing table.naming c t k.env) t (block_statements b) s₂ in
           let runs_body = execution.execute_all (execution.call table.routines c t) t (l ∷ seen) entry.body in
           let drops = with-cells (λ q. ProgressRepresents typing (execution.drop_variables l.base q) (drop_variables (length s.store) statements)) entry.cells runs_body (record low { cells = p.cells }) tt
           (λ room. drop_variables-represents typing rest.typing_now (part.others ++ rest.others) s.store l.base (runs_body low₂) statements grown h.store_fits (ap length h.same_cells)
-          (body-represents c t known rest.typing_now (l ∷ seen) after q₂.placing k.env rest.frame.environment_fits rest.frame.placing_fits (omega (arith, counted, room)) entry.body (block_statements b) body_means low₂ s₂ represents)) in
-          let frames = ap (λ l. option_and_then (declare_block table.naming (j + formals_constructors (formal_sections fs)) b) (bind_parameters l args f)) (parameters-of_typed table.naming checked j (formal_sections fs) ps eps) ∙ (ap (option_and_then (declare_block table.naming (j + formals_constructors (formal_sections fs)) b)) eg ∙ ek) in
+          (body-represents c t known rest.typing_now (l ∷ seen) after q₂.placement k.env rest.frame.environment_fits rest.frame.placing_fits (omega (arith, counted, room)) entry.body (block_statements b) body_means low₂ s₂ represents)) in
+          let frames = ap (λ l. option_and_then (declare_block table.naming (j + formals_constructor_count (formal_sections fs)) b) (bind_parameters l args f)) (parameters-of_typed table.naming checked j (formal_sections fs) ps eps) ∙ (ap (option_and_then (declare_block table.naming (j + formals_constructor_count (formal_sections fs)) b)) eg ∙ ek) in
           subst (λ o. ProgressRepresents typing (execution.drop_variables l.base (execution.activate (execution.call table.routines c t) t (l ∷ seen) o record low { cells = p.cells })) (drop_variables (length s.store) (activate table.naming (call_freeing table.naming c t) t ((y, a_procedure record { first_constructor = j; text = text }) ∷ active) args s))) (sym et)
-          (subst (λ frame. ProgressRepresents typing (execution.drop_variables l.base (execution.with_cells entry.cells runs_body record low { cells = p.cells })) (drop_variables (length s.store) (in_frame s frame (λ f. execute_body table.naming f.env (call_freeing table.naming c t f.env) t (block_statements b))))) (sym frames) drops)
+          (subst (λ frame. ProgressRepresents typing (execution.drop_variables l.base (execution.run_with_cells entry.cells runs_body record low { cells = p.cells })) (drop_variables (length s.store) (continue_in_frame s frame (λ f. execute_body table.naming f.env (call_freeing table.naming c t f.env) t (block_statements b))))) (sym frames) drops)
 
-      of_objects : (o : Object Shape Signature) (w : Whereabouts) (r : Object Place (ProcedureText N)) → BindingFits table.naming typing checked x o r → IsPlaced table typing ls checked (λ ls placing. PlacingFits table typing ls checked placing active) x o w r → o ≡ a_procedure signature
-          → ProgressRepresents typing (execution.call table.routines (suc c) t (target_of w).procedure (execution.entered ls (length low.cells) (target_of w).up p) record low { cells = p.cells }) (drop_variables (length s.store) (activate table.naming (call_freeing table.naming c t) t ((y, r) ∷ active) args s))
+      of_objects : (o : Object Shape Signature) (w : BindingPlace) (r : Object Place (ProcedureText N)) → BindingFits table.naming typing checked x o r → IsPlaced table typing ls checked (λ ls placement. PlacementFits table typing ls checked placement active) x o w r → o ≡ a_procedure signature
+          → ProgressRepresents typing (execution.call table.routines (suc c) t (target_of w).procedure (execution.levels_in_call ls (length low.cells) (target_of w).up p) record low { cells = p.cells }) (drop_variables (length s.store) (activate table.naming (call_freeing table.naming c t) t ((y, r) ∷ active) args s))
       of_objects (a_procedure sg) (at_target tg) (a_procedure code) bound at e =
           let (ps, eps, sig, fits) = bound in
           let (outer, inside, found) = at in
           let qs : List (TypedParameter N) = found.parameters in
           let same : ps ≡ qs = some_inverse (sym eps ∙ found.are_typed) in
           let signed : signature ≡ map (λ p. p.formal) qs = sym (ap (λ o. unwrap_or (signature_of (Some o)) []) e) ∙ (sig ∙ ap (map (λ p. p.formal)) same) in
-          of_text tg outer found.routine code.first_constructor code.text qs inside found.are_typed found.in_table signed (subst (λ ps. procedure_fits table.naming (bind_typed ps (heading x ps checked)) code.first_constructor code.text ≡ true) same fits) found.means
+          of_text tg outer found.routine code.first_constructor code.text qs inside found.are_typed found.in_table signed (subst (λ ps. procedure_fits table.naming (bind_typed_parameters ps (bind_procedure x ps checked)) code.first_constructor code.text ≡ true) same fits) found.means
       of_objects (a_procedure q) _ _ bound at e = absurd at
       of_objects _ w r bound at e = absurd (cc)
   activate-represents c t known typing ls (b ∷ checked) _ [] signature args low s p env placed e h fit cells there = absurd env
 
   pub calls-known : (c t : ℕ) → CallsKnown c t
   unfolding call_freeing execution.call
-  calls-known zero t typing ls checked placing active env placed x signature e args low s p h fit cells there = (refl, h.same_output)
-  calls-known (suc c) t typing ls checked placing active env placed x signature e args low s p h fit cells there =
-      activate-represents c t (calls-known c t) typing ls (from_binding table.naming checked x) (from_name table.naming placing x) (from_binding table.naming active x) signature args low s p (from-fit table.naming typing checked active x env) (from-placed table typing ls checked placing active x placed) e h fit cells there
+  calls-known zero t typing ls checked placement active env placed x signature e args low s p h fit cells there = (refl, h.same_output)
+  calls-known (suc c) t typing ls checked placement active env placed x signature e args low s p h fit cells there =
+      activate-represents c t (calls-known c t) typing ls (environment_from_binding table.naming checked x) (suffix_from_name table.naming placement x) (environment_from_binding table.naming active x) signature args low s p (from-fit table.naming typing checked active x env) (from-placed table typing ls checked placement active x placed) e h fit cells there

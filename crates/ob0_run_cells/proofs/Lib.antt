@@ -13,4 +13,4 @@ pub mod PassedArguments
 pub mod PlacedEnvironments
 pub mod PlacedDeclarations
 pub mod CallsLowered
-pub mod RunsLowered
+pub mod LoweringKeepsRuns

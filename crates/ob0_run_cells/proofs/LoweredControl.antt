@@ -2,16 +2,16 @@
 use Rattle.std.proofs.Common.{◌-◌}
 use Rattle.ob0_tree.specs.Tree.{Tree, branches, else_branch, else_part, elsif_branch, elsif_part, empty, end, expression, further_statement, items, maybe, more, none, one, repeat_loop, runs, sequence, statement, then_statement, while_loop}
 use Rattle.ob0_language_types.specs.Expressions.{evaluate}
-use Rattle.ob0_language_types.specs.WellTyped.{Typed}
+use Rattle.ob0_language_types.specs.WellTyped.{TypeMeanings}
 use Rattle.ob0_language_runs.specs.Runs.{execute, execute_all, execute_else, execute_elsifs, execute_further}
 use Rattle.ob0_run_machine.specs.Evaluation as machine
 use Rattle.ob0_run_machine.specs.Execution as execution
 use Rattle.ob0_run_machine.specs.Lowered as lowered
-use Rattle.ob0_run_cells.specs.LoweredStatements.{ElseMeans, ElsifsMean, FurtherMean, SequenceMeans, StatementMeans, Target}
+use Rattle.ob0_run_cells.specs.LoweredStatements.{ElseMeans, ElsifsMean, FurtherStatementsMean, SequenceMeans, StatementMeans, Target}
 use Rattle.ob0_run_cells.specs.Lowering.{Slot, TruthMeans, value_of_expression}
-use Rattle.ob0_run_cells.proofs.Represented.{choice-represents, going-on, truth-in, turns-represent, turns_until-represent}
+use Rattle.ob0_run_cells.proofs.Represented.{choice-represents, going-on, truth-in, execute_while-represent, execute_repeat-represent}
 
-module _ {N : Type 0} (checked : Typed N) (slots : N → Slot) (targets : N → Target) where
+module _ {N : Type 0} (checked : TypeMeanings N) (slots : N → Slot) (targets : N → Target) where
   pub branches-mean : (e : Tree N expression) (a : Tree N sequence) (rest : Tree N (items elsif_part)) (last : Tree N (maybe else_part)) (t : lowered.Truth) (body : lowered.Instructions) (bs : lowered.Branches) (otherwise : lowered.Instructions)
       → TruthMeans checked slots t (value_of_expression e) → SequenceMeans checked slots targets body a → ElsifsMean checked slots targets bs otherwise rest last → StatementMeans checked slots targets (lowered.chooses (lowered.branch t body bs) otherwise) (branches e a rest last)
   unfolding execution.execute execute
@@ -41,28 +41,28 @@ module _ {N : Type 0} (checked : Typed N) (slots : N → Slot) (targets : N → 
   pub while-means : (e : Tree N expression) (a : Tree N sequence) (t : lowered.Truth) (body : lowered.Instructions) → TruthMeans checked slots t (value_of_expression e) → SequenceMeans checked slots targets body a → StatementMeans checked slots targets (lowered.while_loop t body) (while_loop e a)
   unfolding execution.execute execute
   while-means e a t body ht ha b shown n low s h =
-      turns-represent n b.typing (λ s'. machine.truth b.levels s'.cells t) (λ s'. evaluate b.active s'.store e) (execution.execute_all b.lowered_enters n b.levels body) (execute_all b.active b.enters n a)
+      execute_while-represent n b.typing (λ s'. machine.truth b.levels s'.cells t) (λ s'. evaluate b.active s'.store e) (execution.execute_all b.lowered_enters n b.levels body) (execute_all b.active b.enters n a)
       (λ low s h. truth-in checked slots targets b shown t (value_of_expression e) ht low s h) (λ low s h. ha b shown n low s h) low s h
 
   pub repeat-means : (e : Tree N expression) (a : Tree N sequence) (t : lowered.Truth) (body : lowered.Instructions) → TruthMeans checked slots t (value_of_expression e) → SequenceMeans checked slots targets body a → StatementMeans checked slots targets (lowered.repeat_loop body t) (repeat_loop a e)
   unfolding execution.execute execute
   repeat-means e a t body ht ha b shown n low s h =
-      turns_until-represent (n - 1) b.typing (λ s'. machine.truth b.levels s'.cells t) (λ s'. evaluate b.active s'.store e) (execution.execute_all b.lowered_enters n b.levels body) (execute_all b.active b.enters n a)
+      execute_repeat-represent (n - 1) b.typing (λ s'. machine.truth b.levels s'.cells t) (λ s'. evaluate b.active s'.store e) (execution.execute_all b.lowered_enters n b.levels body) (execute_all b.active b.enters n a)
       (λ low s h. truth-in checked slots targets b shown t (value_of_expression e) ht low s h) (λ low s h. ha b shown n low s h) low s h
 
-  pub further-means : (a : Tree N statement) (c : lowered.Instruction) (rest : Tree N (items further_statement)) (cs : lowered.Instructions) → StatementMeans checked slots targets c a → FurtherMean checked slots targets cs rest → FurtherMean checked slots targets (lowered.before c cs) (more (then_statement a) rest)
+  pub further-means : (a : Tree N statement) (c : lowered.Instruction) (rest : Tree N (items further_statement)) (cs : lowered.Instructions) → StatementMeans checked slots targets c a → FurtherStatementsMean checked slots targets cs rest → FurtherStatementsMean checked slots targets (lowered.before c cs) (more (then_statement a) rest)
   unfolding execution.execute execute
   further-means a c rest cs hc hr b shown n low s h =
       going-on b.typing (execution.execute b.lowered_enters n b.levels c low) (execute b.active b.enters n a s) (execution.execute_all b.lowered_enters n b.levels cs) (execute_further b.active b.enters n rest) (hc b shown n low s h) (λ low s h. hr b shown n low s h)
 
-  pub first-empty : (rest : Tree N (items further_statement)) (cs : lowered.Instructions) → FurtherMean checked slots targets cs rest → SequenceMeans checked slots targets cs (runs empty rest)
+  pub first-empty : (rest : Tree N (items further_statement)) (cs : lowered.Instructions) → FurtherStatementsMean checked slots targets cs rest → SequenceMeans checked slots targets cs (runs empty rest)
   unfolding execute
   first-empty rest cs hr b shown n low s h = hr b shown n low s h
 
-  pub further-empty : (rest : Tree N (items further_statement)) (cs : lowered.Instructions) → FurtherMean checked slots targets cs rest → FurtherMean checked slots targets cs (more (then_statement empty) rest)
+  pub further-empty : (rest : Tree N (items further_statement)) (cs : lowered.Instructions) → FurtherStatementsMean checked slots targets cs rest → FurtherStatementsMean checked slots targets cs (more (then_statement empty) rest)
   unfolding execute
   further-empty rest cs hr b shown n low s h = hr b shown n low s h
 
-  pub sequence-ends : FurtherMean checked slots targets lowered.no_statement end
+  pub sequence-ends : FurtherStatementsMean checked slots targets lowered.no_statement end
   unfolding execution.execute execute
   sequence-ends b shown n low s h = h

@@ -5,12 +5,12 @@ use Rattle.ob0_tree.specs.declared.tree.AddOperator.{AddOperator}
 use Rattle.ob0_tree.specs.declared.tree.MultiplyOperator.{MultiplyOperator}
 use Rattle.ob0_tree.specs.Tree.{Tree, addend, adds, factor, integer, items, more, multiplier, multiplies, product, sum, term}
 use Rattle.ob0_language_types.specs.Expressions.{evaluate}
-use Rattle.ob0_language_types.specs.WellTyped.{Typed}
-use Rattle.ob0_language_values.specs.Values.{Outcome, Value, add, add_is_settled, ends, gives, multiply, multiply_is_settled, number, apply_sign, ◌>>=◌}
+use Rattle.ob0_language_types.specs.WellTyped.{TypeMeanings}
+use Rattle.ob0_language_values.specs.Values.{Outcome, Value, add, add_short_circuits, ends, gives, multiply, multiply_short_circuits, number, apply_sign, ◌>>=◌}
 use Rattle.ob0_run_machine.specs.Evaluation as machine
 use Rattle.ob0_run_machine.specs.Lowered as lowered
-use Rattle.ob0_run_cells.specs.Lowering.{Evaluated, Moment, NumberLeads, NumberMeans, RestOfChain, Slot, addends_left, cells_in, multipliers_left, value_of_factor, value_of_simple, value_of_term}
-use Rattle.ob0_run_cells.proofs.LoweredOutcomes.{Operates, gives-then, grouped-then, in_range-same, outcome-then, plus-same, followed_by}
+use Rattle.ob0_run_cells.specs.Lowering.{OutcomeByMoment, Moment, NumberStartsChain, NumberMeans, RestOfChain, Slot, remaining_addends, cells_in, remaining_multipliers, value_of_factor, value_of_simple, value_of_term}
+use Rattle.ob0_run_cells.proofs.LoweredOutcomes.{Operates, gives-then, grouped-then, checked_number-same, outcome-then, plus-same, followed_by}
 
 pub each-then : {A B : Type 0} (o : Outcome A) (f g : A → Outcome B) → ((a : A) → f a ≡ g a) → (o >>= f) ≡ (o >>= g)
 each-then (gives a) f g each = each a
@@ -22,69 +22,69 @@ pub unsettled : {A : Type 0} (o : Outcome Value) (is_settled : Value → Bool) (
 unsettled o is_settled step next never =
     grouped-then o step next ∙ each-then o (λ x. step x >>= next) (λ x. elim (is_settled x) [ true ↦ gives x | false ↦ step x ] >>= next) (λ x. ap (λ b. elim b [ true ↦ gives x | false ↦ step x ] >>= next) (sym (never x)))
 
-module _ {N : Type 0} (checked : Typed N) (slots : N → Slot) where
-  pub operation-means : (o : lowered.Operator) (op : Value → Value → Outcome Value) → Operates o op → (m n : lowered.Number) (v w : Evaluated N Value) → NumberMeans checked slots m v → NumberMeans checked slots n w
+module _ {N : Type 0} (checked : TypeMeanings N) (slots : N → Slot) where
+  pub operation-means : (o : lowered.Operator) (op : Value → Value → Outcome Value) → Operates o op → (m n : lowered.Number) (v w : OutcomeByMoment N Value) → NumberMeans checked slots m v → NumberMeans checked slots n w
       → NumberMeans checked slots (lowered.operation o m n) (λ z. v z >>= (λ x. w z >>= op x))
   operation-means o op operates m n v w hm hn z shown =
       outcome-then number number (machine.number z.levels (cells_in z) m) (v z) (λ a. followed_by (machine.number z.levels (cells_in z) n) (machine.operate o a)) (λ x. w z >>= op x) (hm z shown)
       (λ a. outcome-then number number (machine.number z.levels (cells_in z) n) (w z) (machine.operate o a) (op (number a)) (hn z shown) (operates a))
 
-  pub plus-means : (n : lowered.Number) (v : Evaluated N Value) → NumberMeans checked slots n v → NumberMeans checked slots (lowered.operation lowered.sum n (lowered.literal (pos 0))) (λ z. v z >>= apply_sign (Some sign.Plus))
+  pub plus-means : (n : lowered.Number) (v : OutcomeByMoment N Value) → NumberMeans checked slots n v → NumberMeans checked slots (lowered.operation lowered.sum n (lowered.literal (pos 0))) (λ z. v z >>= apply_sign (Some sign.Plus))
   plus-means n v hn z shown = outcome-then number number (machine.number z.levels (cells_in z) n) (v z) (λ a. machine.operate lowered.sum a (pos 0)) (apply_sign (Some sign.Plus)) (hn z shown) plus-same
 
-  pub negative-means : (n : lowered.Number) (v : Evaluated N Value) → NumberMeans checked slots n v → NumberMeans checked slots (lowered.negative n) (λ z. v z >>= apply_sign (Some sign.Minus))
-  negative-means n v hn z shown = outcome-then number number (machine.number z.levels (cells_in z) n) (v z) (λ a. machine.in_range (neg_ℤ a)) (apply_sign (Some sign.Minus)) (hn z shown) (λ a. in_range-same (neg_ℤ a))
+  pub negative-means : (n : lowered.Number) (v : OutcomeByMoment N Value) → NumberMeans checked slots n v → NumberMeans checked slots (lowered.negative n) (λ z. v z >>= apply_sign (Some sign.Minus))
+  negative-means n v hn z shown = outcome-then number number (machine.number z.levels (cells_in z) n) (v z) (λ a. machine.checked_number (neg_ℤ a)) (apply_sign (Some sign.Minus)) (hn z shown) (λ a. checked_number-same (neg_ℤ a))
 
   -- where nothing is left
-  pub number-whole : (n : lowered.Number) (rest : RestOfChain N Value) (whole : Evaluated N Value) → ((z : Moment N) (v : Value) → rest z v ≡ gives v) → NumberLeads checked slots n rest whole → NumberMeans checked slots n whole
+  pub number-whole : (n : lowered.Number) (rest : RestOfChain N Value) (whole : OutcomeByMoment N Value) → ((z : Moment N) (v : Value) → rest z v ≡ gives v) → NumberStartsChain checked slots n rest whole → NumberMeans checked slots n whole
   number-whole n rest whole ends_here h z shown =
       let (v, hv, ev) = h in
       let same : v z ≡ whole z = sym (gives-then (v z)) ∙ (each-then (v z) gives (rest z) (λ x. sym (ends_here z x)) ∙ ev z shown) in
       hv z shown ∙ same
 
-  pub addend-leads : (o : AddOperator) (op : lowered.Operator) → Operates op (add o) → ((x : Value) → add_is_settled o x ≡ false) → (m n : lowered.Number) (e : Tree N term) (rest : Tree N (items addend)) (whole : Evaluated N Value)
-      → NumberMeans checked slots n (value_of_term e) → NumberLeads checked slots m (addends_left (more (adds o e) rest)) whole → NumberLeads checked slots (lowered.operation op m n) (addends_left rest) whole
+  pub addend-leads : (o : AddOperator) (op : lowered.Operator) → Operates op (add o) → ((x : Value) → add_short_circuits o x ≡ false) → (m n : lowered.Number) (e : Tree N term) (rest : Tree N (items addend)) (whole : OutcomeByMoment N Value)
+      → NumberMeans checked slots n (value_of_term e) → NumberStartsChain checked slots m (remaining_addends (more (adds o e) rest)) whole → NumberStartsChain checked slots (lowered.operation op m n) (remaining_addends rest) whole
   unfolding evaluate
   addend-leads o op operates never m n e rest whole hn h =
       let (v, hv, ev) = h in (
         (λ z. v z >>= (λ x. value_of_term e z >>= add o x)),
         operation-means op (add o) operates m n v (value_of_term e) hv hn,
-        λ z shown. unsettled (v z) (add_is_settled o) (λ x. value_of_term e z >>= add o x) (addends_left rest z) never ∙ ev z shown,
+        λ z shown. unsettled (v z) (add_short_circuits o) (λ x. value_of_term e z >>= add o x) (remaining_addends rest z) never ∙ ev z shown,
       )
 
-  pub multiplier-leads : (o : MultiplyOperator) (op : lowered.Operator) → Operates op (multiply o) → ((x : Value) → multiply_is_settled o x ≡ false) → (m n : lowered.Number) (f : Tree N factor) (rest : Tree N (items multiplier)) (whole : Evaluated N Value)
-      → NumberMeans checked slots n (value_of_factor f) → NumberLeads checked slots m (multipliers_left (more (multiplies o f) rest)) whole → NumberLeads checked slots (lowered.operation op m n) (multipliers_left rest) whole
+  pub multiplier-leads : (o : MultiplyOperator) (op : lowered.Operator) → Operates op (multiply o) → ((x : Value) → multiply_short_circuits o x ≡ false) → (m n : lowered.Number) (f : Tree N factor) (rest : Tree N (items multiplier)) (whole : OutcomeByMoment N Value)
+      → NumberMeans checked slots n (value_of_factor f) → NumberStartsChain checked slots m (remaining_multipliers (more (multiplies o f) rest)) whole → NumberStartsChain checked slots (lowered.operation op m n) (remaining_multipliers rest) whole
   unfolding evaluate
   multiplier-leads o op operates never m n f rest whole hn h =
       let (v, hv, ev) = h in (
         (λ z. v z >>= (λ x. value_of_factor f z >>= multiply o x)),
         operation-means op (multiply o) operates m n v (value_of_factor f) hv hn,
-        λ z shown. unsettled (v z) (multiply_is_settled o) (λ x. value_of_factor f z >>= multiply o x) (multipliers_left rest z) never ∙ ev z shown,
+        λ z shown. unsettled (v z) (multiply_short_circuits o) (λ x. value_of_factor f z >>= multiply o x) (remaining_multipliers rest z) never ∙ ev z shown,
       )
 
-  pub product-begins : (f : Tree N factor) (rest : Tree N (items multiplier)) (n : lowered.Number) → NumberMeans checked slots n (value_of_factor f) → NumberLeads checked slots n (multipliers_left rest) (value_of_term (product f rest))
+  pub product-begins : (f : Tree N factor) (rest : Tree N (items multiplier)) (n : lowered.Number) → NumberMeans checked slots n (value_of_factor f) → NumberStartsChain checked slots n (remaining_multipliers rest) (value_of_term (product f rest))
   unfolding evaluate
   product-begins f rest n hn = (value_of_factor f, hn, λ z shown. refl)
 
-  pub sum-begins : (e : Tree N term) (rest : Tree N (items addend)) (n : lowered.Number) → NumberMeans checked slots n (value_of_term e) → NumberLeads checked slots n (addends_left rest) (value_of_simple (sum None e rest))
+  pub sum-begins : (e : Tree N term) (rest : Tree N (items addend)) (n : lowered.Number) → NumberMeans checked slots n (value_of_term e) → NumberStartsChain checked slots n (remaining_addends rest) (value_of_simple (sum None e rest))
   unfolding evaluate
   sum-begins e rest n hn = (value_of_term e, hn, λ z shown. refl)
 
   pub plus-begins : (e : Tree N term) (rest : Tree N (items addend)) (n : lowered.Number) → NumberMeans checked slots n (value_of_term e)
-      → NumberLeads checked slots (lowered.operation lowered.sum n (lowered.literal (pos 0))) (addends_left rest) (value_of_simple (sum (Some sign.Plus) e rest))
+      → NumberStartsChain checked slots (lowered.operation lowered.sum n (lowered.literal (pos 0))) (remaining_addends rest) (value_of_simple (sum (Some sign.Plus) e rest))
   unfolding evaluate
   plus-begins e rest n hn = (
     (λ z. value_of_term e z >>= apply_sign (Some sign.Plus)),
     plus-means n (value_of_term e) hn,
-    λ z shown. grouped-then (value_of_term e z) (apply_sign (Some sign.Plus)) (addends_left rest z),
+    λ z shown. grouped-then (value_of_term e z) (apply_sign (Some sign.Plus)) (remaining_addends rest z),
   )
 
-  pub minus-begins : (e : Tree N term) (rest : Tree N (items addend)) (n : lowered.Number) → NumberMeans checked slots n (value_of_term e) → NumberLeads checked slots (lowered.negative n) (addends_left rest) (value_of_simple (sum (Some sign.Minus) e rest))
+  pub minus-begins : (e : Tree N term) (rest : Tree N (items addend)) (n : lowered.Number) → NumberMeans checked slots n (value_of_term e) → NumberStartsChain checked slots (lowered.negative n) (remaining_addends rest) (value_of_simple (sum (Some sign.Minus) e rest))
   unfolding evaluate
   minus-begins e rest n hn = (
     (λ z. value_of_term e z >>= apply_sign (Some sign.Minus)),
     negative-means n (value_of_term e) hn,
-    λ z shown. grouped-then (value_of_term e z) (apply_sign (Some sign.Minus)) (addends_left rest z),
+    λ z shown. grouped-then (value_of_term e z) (apply_sign (Some sign.Minus)) (remaining_addends rest z),
   )
 
   pub integer-means : (n : ℕ) → NumberMeans checked slots (lowered.literal (pos n)) (value_of_factor (integer n))

@@ -7,12 +7,12 @@ use Rattle.ob0_tree.specs.declared.tree.Relation.TheVariants as relation
 use Rattle.ob0_tree.specs.declared.tree.Sign.TheVariants as sign
 use Rattle.ob0_tree.specs.declared.tree.AddOperator.TheVariants as add_operator
 use Rattle.ob0_tree.specs.declared.tree.MultiplyOperator.TheVariants as multiply_operator
-use Rattle.ob0_language_values.specs.Values.{End, Outcome, Overflow, Place, Shape, Value, add, divided, divided_by, ends, fits, gives, in_range, multiply, number, or_stuck, quotient, relate, remainder, apply_sign, truth, ◌>>=◌}
+use Rattle.ob0_language_values.specs.Values.{End, Outcome, Overflow, Place, Shape, Value, add, checked_division, division_outcome, ends, fits, gives, checked_number, multiply, number, or_stuck, quotient, relate, remainder, apply_sign, truth, ◌>>=◌}
 use Rattle.ob0_language_runs.specs.Fitting.{PlaceFits, StoreTyping}
 use Rattle.ob0_run_machine.specs.Evaluation as machine
 use Rattle.ob0_run_machine.specs.Lowered as lowered
 use Rattle.ob0_run_cells.specs.Cells.{address}
-use Rattle.ob0_run_cells.specs.Lowering.{GivesPlace, outcome_of, relation_of}
+use Rattle.ob0_run_cells.specs.Lowering.{PlaceOutcomeFits, outcome_of, relation_of}
 
 abbrev pub followed_by : {A B : Type 0} → machine.StepResult A → (A → machine.StepResult B) → machine.StepResult B
 followed_by = machine.◌>>=◌
@@ -41,35 +41,35 @@ range-same : (n : ℤ) (b : Bool) → outcome_of number (if b then machine.gives
 range-same n true = refl
 range-same n false = refl
 
-pub in_range-same : (n : ℤ) → outcome_of number (machine.in_range n) ≡ in_range n
-in_range-same n = range-same n (fits n)
+pub checked_number-same : (n : ℤ) → outcome_of number (machine.checked_number n) ≡ checked_number n
+checked_number-same n = range-same n (fits n)
 
-pub divided-same : (result : Option ℤ) → outcome_of number (machine.divided_by result) ≡ divided_by result
-divided-same None = refl
-divided-same (Some n) = in_range-same n
+pub checked_division-same : (result : Option ℤ) → outcome_of number (machine.division_outcome result) ≡ division_outcome result
+checked_division-same None = refl
+checked_division-same (Some n) = checked_number-same n
 
 -- operators between values, by those of lowered code
 abbrev pub Operates : lowered.Operator → (Value → Value → Outcome Value) → Type 0
 Operates o op = (a b : ℤ) → outcome_of number (machine.operate o a b) ≡ op (number a) (number b)
 
 pub sum-operates : Operates lowered.sum (add add_operator.Add)
-sum-operates a b = in_range-same (a +ℤ b)
+sum-operates a b = checked_number-same (a +ℤ b)
 
 pub difference-operates : Operates lowered.difference (add add_operator.Subtract)
-difference-operates a b = in_range-same (a -ℤ b)
+difference-operates a b = checked_number-same (a -ℤ b)
 
 pub product-operates : Operates lowered.product (multiply multiply_operator.Multiply)
-product-operates a b = in_range-same (a *ℤ b)
+product-operates a b = checked_number-same (a *ℤ b)
 
 pub quotient-operates : Operates lowered.quotient (multiply multiply_operator.Divide)
-quotient-operates a b = divided-same (divided quotient a b)
+quotient-operates a b = checked_division-same (checked_division quotient a b)
 
 pub remainder-operates : Operates lowered.remainder (multiply multiply_operator.Modulo)
-remainder-operates a b = divided-same (divided remainder a b)
+remainder-operates a b = checked_division-same (checked_division remainder a b)
 
 -- a sign `+`, as the sum with 0
 pub plus-same : (a : ℤ) → outcome_of number (machine.operate lowered.sum a (pos 0)) ≡ apply_sign (Some sign.Plus) (number a)
-plus-same a = let same : a +ℤ pos 0 ≡ a = omega (arith, ints) in in_range-same (a +ℤ pos 0) ∙ ap in_range same
+plus-same a = let same : a +ℤ pos 0 ≡ a = omega (arith, ints) in checked_number-same (a +ℤ pos 0) ∙ ap checked_number same
 
 pub compare-same : (r : Relation) (a b : ℤ) → gives (truth (machine.compare (relation_of r) a b)) ≡ relate r (number a) (number b)
 compare-same relation.Equal a b = refl
@@ -77,8 +77,8 @@ compare-same _ a b = refl
 
 -- addresses
 
-pub forward-same : (a offset : ℕ) → a + offset < 2 ^ 64 → machine.forward a offset ≡ a + offset
-forward-same a offset h = mod-eq_of_lt h
+pub add_offset-same : (a offset : ℕ) → a + offset < 2 ^ 64 → machine.add_offset a offset ≡ a + offset
+add_offset-same a offset h = mod-eq_of_lt h
 
 abbrev pub addresses : StoreTyping → Outcome Place → Outcome ℕ
 addresses typing w = w >>= (λ p. gives (address typing p))
@@ -89,7 +89,7 @@ same a = a
 -- what a place of lowered code is, and what the definition's is
 pub record Led (typing : StoreTyping) (s : Shape) (o : machine.StepResult ℕ) (w : Outcome Place) : Type 0 where
   pub is_same : outcome_of same o ≡ addresses typing w
-  pub is_place : GivesPlace typing s w
+  pub is_place : PlaceOutcomeFits typing s w
 
 pub given-same : {A : Type 0} (a b : A) → gives a ≡ gives b → a ≡ b
 given-same {A} a b e = ap (λ o. elim o [ gives x ↦ x | ends x ↦ a ]) e

@@ -6,11 +6,11 @@ use Rattle.ob0_tree.specs.declared.tree.AddOperator.TheVariants as add_operator
 use Rattle.ob0_tree.specs.declared.tree.MultiplyOperator.TheVariants as multiply_operator
 use Rattle.ob0_tree.specs.Tree.{Tree, addend, adds, compares, factor, items, more, multiplier, multiplies, negation, one, product, relates, simple, sum, term}
 use Rattle.ob0_language_types.specs.Expressions.{evaluate}
-use Rattle.ob0_language_types.specs.WellTyped.{Typed}
-use Rattle.ob0_language_values.specs.Values.{Outcome, Value, add, add_is_settled, gives, multiply, multiply_is_settled, negate, number, relate, truth, ◌>>=◌}
+use Rattle.ob0_language_types.specs.WellTyped.{TypeMeanings}
+use Rattle.ob0_language_values.specs.Values.{Outcome, Value, add, add_short_circuits, gives, multiply, multiply_short_circuits, negate, number, relate, truth, ◌>>=◌}
 use Rattle.ob0_run_machine.specs.Evaluation as machine
 use Rattle.ob0_run_machine.specs.Lowered as lowered
-use Rattle.ob0_run_cells.specs.Lowering.{Evaluated, Moment, NumberMeans, RestOfChain, Slot, TruthLeads, TruthMeans, addends_left, cells_in, multipliers_left, outcome_of, relation_of, value_of_expression, value_of_factor, value_of_simple, value_of_term}
+use Rattle.ob0_run_cells.specs.Lowering.{OutcomeByMoment, Moment, NumberMeans, RestOfChain, Slot, TruthStartsChain, TruthMeans, remaining_addends, cells_in, remaining_multipliers, outcome_of, relation_of, value_of_expression, value_of_factor, value_of_simple, value_of_term}
 use Rattle.ob0_run_cells.proofs.LoweredNumbers.{each-then}
 use Rattle.ob0_run_cells.proofs.LoweredOutcomes.{compare-same, gives-then, grouped-then, outcome-then, followed_by}
 
@@ -19,53 +19,53 @@ pub right-alone : (op : Value → Outcome Value) (o : machine.StepResult Bool) (
 right-alone op (machine.gives b) w same e = subst (λ w. gives (truth b) ≡ (w >>= op)) e (sym (same b))
 right-alone op (machine.ends x) w same e = ap (λ w. w >>= op) e
 
-module _ {N : Type 0} (checked : Typed N) (slots : N → Slot) where
-  pub either-means : (t u : lowered.Truth) (v w : Evaluated N Value) → TruthMeans checked slots t v → TruthMeans checked slots u w
-      → TruthMeans checked slots (lowered.either t u) (λ z. v z >>= (λ x. elim (add_is_settled add_operator.Or x) [ true ↦ gives x | false ↦ w z >>= add add_operator.Or x ]))
+module _ {N : Type 0} (checked : TypeMeanings N) (slots : N → Slot) where
+  pub either-means : (t u : lowered.Truth) (v w : OutcomeByMoment N Value) → TruthMeans checked slots t v → TruthMeans checked slots u w
+      → TruthMeans checked slots (lowered.either t u) (λ z. v z >>= (λ x. elim (add_short_circuits add_operator.Or x) [ true ↦ gives x | false ↦ w z >>= add add_operator.Or x ]))
   either-means t u v w ht hu z shown =
       outcome-then truth truth (machine.truth z.levels (cells_in z) t) (v z) (λ a. if a then machine.gives true else machine.truth z.levels (cells_in z) u)
-      (λ x. elim (add_is_settled add_operator.Or x) [ true ↦ gives x | false ↦ w z >>= add add_operator.Or x ]) (ht z shown)
-      (λ a. elim a as (λ a. outcome_of truth (if a then machine.gives true else machine.truth z.levels (cells_in z) u) ≡ elim (add_is_settled add_operator.Or (truth a)) [ true ↦ gives (truth a) | false ↦ w z >>= add add_operator.Or (truth a) ])
+      (λ x. elim (add_short_circuits add_operator.Or x) [ true ↦ gives x | false ↦ w z >>= add add_operator.Or x ]) (ht z shown)
+      (λ a. elim a as (λ a. outcome_of truth (if a then machine.gives true else machine.truth z.levels (cells_in z) u) ≡ elim (add_short_circuits add_operator.Or (truth a)) [ true ↦ gives (truth a) | false ↦ w z >>= add add_operator.Or (truth a) ])
       [ true ↦ refl | false ↦ right-alone (add add_operator.Or (truth false)) (machine.truth z.levels (cells_in z) u) (w z) (λ b. refl) (hu z shown) ])
 
-  pub both-means : (t u : lowered.Truth) (v w : Evaluated N Value) → TruthMeans checked slots t v → TruthMeans checked slots u w
-      → TruthMeans checked slots (lowered.both t u) (λ z. v z >>= (λ x. elim (multiply_is_settled multiply_operator.And x) [ true ↦ gives x | false ↦ w z >>= multiply multiply_operator.And x ]))
+  pub both-means : (t u : lowered.Truth) (v w : OutcomeByMoment N Value) → TruthMeans checked slots t v → TruthMeans checked slots u w
+      → TruthMeans checked slots (lowered.both t u) (λ z. v z >>= (λ x. elim (multiply_short_circuits multiply_operator.And x) [ true ↦ gives x | false ↦ w z >>= multiply multiply_operator.And x ]))
   both-means t u v w ht hu z shown =
       outcome-then truth truth (machine.truth z.levels (cells_in z) t) (v z) (λ a. if a then machine.truth z.levels (cells_in z) u else machine.gives false)
-      (λ x. elim (multiply_is_settled multiply_operator.And x) [ true ↦ gives x | false ↦ w z >>= multiply multiply_operator.And x ]) (ht z shown)
-      (λ a. elim a as (λ a. outcome_of truth (if a then machine.truth z.levels (cells_in z) u else machine.gives false) ≡ elim (multiply_is_settled multiply_operator.And (truth a)) [ true ↦ gives (truth a) | false ↦ w z >>= multiply multiply_operator.And (truth a) ])
+      (λ x. elim (multiply_short_circuits multiply_operator.And x) [ true ↦ gives x | false ↦ w z >>= multiply multiply_operator.And x ]) (ht z shown)
+      (λ a. elim a as (λ a. outcome_of truth (if a then machine.truth z.levels (cells_in z) u else machine.gives false) ≡ elim (multiply_short_circuits multiply_operator.And (truth a)) [ true ↦ gives (truth a) | false ↦ w z >>= multiply multiply_operator.And (truth a) ])
       [ true ↦ right-alone (multiply multiply_operator.And (truth true)) (machine.truth z.levels (cells_in z) u) (w z) (λ b. refl) (hu z shown) | false ↦ refl ])
 
-  pub truth-whole : (t : lowered.Truth) (rest : RestOfChain N Value) (whole : Evaluated N Value) → ((z : Moment N) (v : Value) → rest z v ≡ gives v) → TruthLeads checked slots t rest whole → TruthMeans checked slots t whole
+  pub truth-whole : (t : lowered.Truth) (rest : RestOfChain N Value) (whole : OutcomeByMoment N Value) → ((z : Moment N) (v : Value) → rest z v ≡ gives v) → TruthStartsChain checked slots t rest whole → TruthMeans checked slots t whole
   truth-whole t rest whole ends_here h z shown =
       let (v, hv, ev) = h in
       hv z shown ∙ (sym (gives-then (v z)) ∙ (each-then (v z) gives (rest z) (λ x. sym (ends_here z x)) ∙ ev z shown))
 
-  pub either-leads : (t u : lowered.Truth) (e : Tree N term) (rest : Tree N (items addend)) (whole : Evaluated N Value) → TruthMeans checked slots u (value_of_term e)
-      → TruthLeads checked slots t (addends_left (more (adds add_operator.Or e) rest)) whole → TruthLeads checked slots (lowered.either t u) (addends_left rest) whole
+  pub either-leads : (t u : lowered.Truth) (e : Tree N term) (rest : Tree N (items addend)) (whole : OutcomeByMoment N Value) → TruthMeans checked slots u (value_of_term e)
+      → TruthStartsChain checked slots t (remaining_addends (more (adds add_operator.Or e) rest)) whole → TruthStartsChain checked slots (lowered.either t u) (remaining_addends rest) whole
   unfolding evaluate
   either-leads t u e rest whole hu h =
       let (v, hv, ev) = h in (
-        (λ z. v z >>= (λ x. elim (add_is_settled add_operator.Or x) [ true ↦ gives x | false ↦ value_of_term e z >>= add add_operator.Or x ])),
+        (λ z. v z >>= (λ x. elim (add_short_circuits add_operator.Or x) [ true ↦ gives x | false ↦ value_of_term e z >>= add add_operator.Or x ])),
         either-means t u v (value_of_term e) hv hu,
-        λ z shown. grouped-then (v z) (λ x. elim (add_is_settled add_operator.Or x) [ true ↦ gives x | false ↦ value_of_term e z >>= add add_operator.Or x ]) (addends_left rest z) ∙ ev z shown,
+        λ z shown. grouped-then (v z) (λ x. elim (add_short_circuits add_operator.Or x) [ true ↦ gives x | false ↦ value_of_term e z >>= add add_operator.Or x ]) (remaining_addends rest z) ∙ ev z shown,
       )
 
-  pub both-leads : (t u : lowered.Truth) (f : Tree N factor) (rest : Tree N (items multiplier)) (whole : Evaluated N Value) → TruthMeans checked slots u (value_of_factor f)
-      → TruthLeads checked slots t (multipliers_left (more (multiplies multiply_operator.And f) rest)) whole → TruthLeads checked slots (lowered.both t u) (multipliers_left rest) whole
+  pub both-leads : (t u : lowered.Truth) (f : Tree N factor) (rest : Tree N (items multiplier)) (whole : OutcomeByMoment N Value) → TruthMeans checked slots u (value_of_factor f)
+      → TruthStartsChain checked slots t (remaining_multipliers (more (multiplies multiply_operator.And f) rest)) whole → TruthStartsChain checked slots (lowered.both t u) (remaining_multipliers rest) whole
   unfolding evaluate
   both-leads t u f rest whole hu h =
       let (v, hv, ev) = h in (
-        (λ z. v z >>= (λ x. elim (multiply_is_settled multiply_operator.And x) [ true ↦ gives x | false ↦ value_of_factor f z >>= multiply multiply_operator.And x ])),
+        (λ z. v z >>= (λ x. elim (multiply_short_circuits multiply_operator.And x) [ true ↦ gives x | false ↦ value_of_factor f z >>= multiply multiply_operator.And x ])),
         both-means t u v (value_of_factor f) hv hu,
-        λ z shown. grouped-then (v z) (λ x. elim (multiply_is_settled multiply_operator.And x) [ true ↦ gives x | false ↦ value_of_factor f z >>= multiply multiply_operator.And x ]) (multipliers_left rest z) ∙ ev z shown,
+        λ z shown. grouped-then (v z) (λ x. elim (multiply_short_circuits multiply_operator.And x) [ true ↦ gives x | false ↦ value_of_factor f z >>= multiply multiply_operator.And x ]) (remaining_multipliers rest z) ∙ ev z shown,
       )
 
-  pub product-begins : (f : Tree N factor) (rest : Tree N (items multiplier)) (t : lowered.Truth) → TruthMeans checked slots t (value_of_factor f) → TruthLeads checked slots t (multipliers_left rest) (value_of_term (product f rest))
+  pub product-begins : (f : Tree N factor) (rest : Tree N (items multiplier)) (t : lowered.Truth) → TruthMeans checked slots t (value_of_factor f) → TruthStartsChain checked slots t (remaining_multipliers rest) (value_of_term (product f rest))
   unfolding evaluate
   product-begins f rest t ht = (value_of_factor f, ht, λ z shown. refl)
 
-  pub sum-begins : (e : Tree N term) (rest : Tree N (items addend)) (t : lowered.Truth) → TruthMeans checked slots t (value_of_term e) → TruthLeads checked slots t (addends_left rest) (value_of_simple (sum None e rest))
+  pub sum-begins : (e : Tree N term) (rest : Tree N (items addend)) (t : lowered.Truth) → TruthMeans checked slots t (value_of_term e) → TruthStartsChain checked slots t (remaining_addends rest) (value_of_simple (sum None e rest))
   unfolding evaluate
   sum-begins e rest t ht = (value_of_term e, ht, λ z shown. refl)
 

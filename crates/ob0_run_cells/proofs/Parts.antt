@@ -2,7 +2,7 @@
 use Rattle.std.proofs.Common.{◌≡◌, ℕ, zero, suc, ◌+◌, ◌*◌, ◌<◌, ◌≤◌, true, false, List, [], ◌∷◌, ◌++◌, length, ℤ, if◌then◌else◌, nat_lt, Some, None, option_map, option_and_then, unwrap_or, sym, refl, ap, ◌∙◌, subst, arith, length-append}
 use Rattle.ob0_language_names.specs.Names.{Name, same_name}
 use Rattle.ob0_language_types.specs.Typing.{shape_of_field}
-use Rattle.ob0_language_values.specs.Values.{FieldShapes, Members, Shape, Step, Value, Values, array_shape, at_field, at_index, at_path, boolean_shape, count_values, elements, integer_shape, members, named_member, next_field_shape, next_member, next_value, no_field_shape, no_member, no_value, nth_value, number, part, record_shape, truth, with_at_path, with_named_member, with_nth_value, with_part}
+use Rattle.ob0_language_values.specs.Values.{FieldShapes, Members, Shape, Step, Value, Values, array_shape, at_field, at_index, value_at_path, boolean_shape, count_values, elements, integer_shape, members, named_member, next_field_shape, next_member, next_value, no_field_shape, no_member, no_value, nth_value, number, part, record_shape, truth, with_value_at_path, with_named_member, with_nth_value, with_part}
 use Rattle.ob0_language_runs.specs.Fitting.{EachHasShape, HasShape, HaveShapes, part_shape, shape_at_path}
 use Rattle.ob0_language_types.proofs.Conditions.{of_some}
 use Rattle.ob0_language_types.proofs.TypedElsewhere.{then_some}
@@ -96,7 +96,7 @@ part-lies _ _ step t h e = absurd h
 -- what lies at the end of a path, and what writing it makes of the whole
 abbrev pub PathLies : List Step → Value → Shape → Shape → Type 0
 PathLies path v s t =
-    (w : Value) × (at_path path v ≡ Some w) × HasShape w t × (write : Value → Value) × ((new : Value) → with_at_path path new v ≡ Some (write new)) × Lies cells_of v w write (offset path s)
+    (w : Value) × (value_at_path path v ≡ Some w) × HasShape w t × (write : Value → Value) × ((new : Value) → with_value_at_path path new v ≡ Some (write new)) × Lies cells_of v w write (offset path s)
 
 pub path-lies : (path : List Step) (v : Value) (s t : Shape) → HasShape v s → shape_at_path path s ≡ Some t → PathLies path v s t
 path-lies [] v s t h e = (v, refl, of_some (λ t. HasShape v t) e h, (λ new. new), (λ new. refl), lies-alone v)
@@ -105,10 +105,10 @@ path-lies (step ∷ path) v s t h e =
     let (w, ew, hw, l) = part-lies v s step u h eu in
     let (z, ez, hz, write, made, k) = path-lies path w u t hw e₁ in (
       z,
-      ap (option_and_then (at_path path)) ew ∙ ez,
+      ap (option_and_then (value_at_path path)) ew ∙ ez,
       hz,
       (λ new. with_part v step (write new)),
-      (λ new. ap (option_and_then (λ old. option_map (with_part v step) (with_at_path path new old))) ew ∙ ap (option_map (with_part v step)) (made new)),
+      (λ new. ap (option_and_then (λ old. option_map (with_part v step) (with_value_at_path path new old))) ew ∙ ap (option_map (with_part v step)) (made new)),
       subst (λ o. Lies cells_of v z (λ new. with_part v step (write new)) (step_offset s step + unwrap_or (option_map (offset path) o) 0)) (sym eu)
           (lies-within cells_of v w z (with_part v step) write (step_offset s step) (offset path u) l k),
     )

@@ -6,15 +6,15 @@ use Rattle.std.proofs.lemmas.List.{drop-append-le, take-append-le}
 use Rattle.ob0_tree.specs.Tree.{Tree, arguments, calls, expression, items, maybe, selector}
 use Rattle.ob0_language_types.specs.Arguments.{arguments_listed}
 use Rattle.ob0_language_types.specs.Expressions.{Object, a_procedure, designate, evaluate}
-use Rattle.ob0_language_types.specs.WellTyped.{Formal, Mode, Signature, Typed}
+use Rattle.ob0_language_types.specs.WellTyped.{FormalParameter, Mode, Signature, TypeMeanings}
 use Rattle.ob0_language_values.specs.Values.{Outcome, Place, Shape, Store, Value, ends, gives, number, or_stuck, read_place, truth, ◌>>=◌}
-use Rattle.ob0_language_runs.specs.Fitting.{ArgumentsFit, HasShape, ObjectFits, PlaceFits, StoreFits, StoreTyping, modes_in}
-use Rattle.ob0_language_runs.specs.Runs.{Argument, Progress, State, evaluate_argument, evaluate_arguments, execute, modes_of, perform, place_argument, use_in, value_argument}
+use Rattle.ob0_language_runs.specs.Fitting.{ArgumentsFit, HasShape, ObjectFits, PlaceFits, StoreFits, StoreTyping, signature_modes}
+use Rattle.ob0_language_runs.specs.Runs.{Argument, Progress, State, evaluate_argument, evaluate_arguments, execute, modes_of, perform_call, place_argument, use_result, value_argument}
 use Rattle.ob0_language_runs.proofs.SoundStatements.{first-argument}
 use Rattle.ob0_run_machine.specs.Evaluation as machine
 use Rattle.ob0_run_machine.specs.Execution as execution
 use Rattle.ob0_run_machine.specs.Lowered as lowered
-use Rattle.ob0_run_cells.specs.Cells.{address, all_cells, cells_of, size, sizes}
+use Rattle.ob0_run_cells.specs.Cells.{address, all_cells, cells_of, size, store_size}
 use Rattle.ob0_run_cells.specs.LoweredStatements.{ArgumentMeans, ArgumentsMean, Body, ProgressRepresents, Represents, ShowsBody, StatementMeans, Target, argument_addresses, argument_cells}
 use Rattle.ob0_run_cells.specs.Lowering.{Slot, end_of, outcome_of, place_of_designator, value_of_expression}
 use Rattle.ob0_run_cells.proofs.LoweredOutcomes.{Led, ended-same, given-same, grouped-then}
@@ -51,13 +51,13 @@ both-truth (machine.gives b) w e = subst (λ w. Both (λ b v. truth b ≡ v) (ma
 both-truth (machine.ends x) w e = subst (λ w. Both (λ b v. truth b ≡ v) (machine.ends x) w) e refl
 
 pub use-both : {A B : Type 0} (typing : StoreTyping) (R : A → B → Type 0) (low : execution.MachineState) (s : State) (o : machine.StepResult A) (w : Outcome B) (k : A → execution.MachineProgress) (j : B → Progress) → Represents typing low s → Both R o w
-    → ((a : A) (b : B) → R a b → ProgressRepresents typing (k a) (j b)) → ProgressRepresents typing (execution.use_in low o k) (use_in s w j)
+    → ((a : A) (b : B) → R a b → ProgressRepresents typing (k a) (j b)) → ProgressRepresents typing (execution.use_result low o k) (use_result s w j)
 use-both typing R low s (machine.gives a) (gives b) k j h r each = each a b r
 use-both typing R low s (machine.ends x) (ends y) k j h r each = (r, h.same_output)
 use-both typing R low s _ _ k j h r each = absurd r
 
 -- what was passed before, and what is after arguments
-pub record Passes (typing : StoreTyping) (fs : Signature) (done p : execution.Passed) (args : List Argument) : Type 0 where
+pub record Passes (typing : StoreTyping) (fs : Signature) (done p : execution.CallArguments) (args : List Argument) : Type 0 where
   pub arguments_fit : ArgumentsFit typing fs args
   pub cells_passed : p.cells ≡ done.cells ++ argument_cells args
   pub addresses_passed : p.addresses ≡ done.addresses ++ argument_addresses typing args
@@ -70,7 +70,7 @@ pub addresses-joined : (typing : StoreTyping) (a : Argument) (args : List Argume
 addresses-joined typing (place_argument p) args = refl
 addresses-joined typing (value_argument v) args = refl
 
-pub passes-on : (typing : StoreTyping) (f : Formal) (fs : Signature) (done p q : execution.Passed) (a : Argument) (args : List Argument) → Passes typing (f ∷ []) done p (a ∷ []) → Passes typing fs p q args → Passes typing (f ∷ fs) done q (a ∷ args)
+pub passes-on : (typing : StoreTyping) (f : FormalParameter) (fs : Signature) (done p q : execution.CallArguments) (a : Argument) (args : List Argument) → Passes typing (f ∷ []) done p (a ∷ []) → Passes typing fs p q args → Passes typing (f ∷ fs) done q (a ∷ args)
 passes-on typing f fs done p q a args h k = record {
   arguments_fit = first-argument typing f fs a args h.arguments_fit k.arguments_fit;
   cells_passed = k.cells_passed ∙ (ap (λ l. l ++ argument_cells args) h.cells_passed ∙ (append_assoc done.cells (argument_cells (a ∷ [])) (argument_cells args) ∙ ap (λ l. done.cells ++ l) (cells-joined a args)));
@@ -88,8 +88,8 @@ block-there cells others from n h =
     ap (λ b. if b then take n (drop from (cells ++ others)) else execution.zeros n) (le-leb (from + n) (length (cells ++ others)) within)
     ∙ (ap (take n) (drop-append-le from cells others start) ∙ take-append-le n (drop from cells) others left)
 
-module _ {N : Type 0} (checked : Typed N) (slots : N → Slot) (targets : N → Target) (b : Body N) (shown : ShowsBody checked slots targets b) (store : Store) (fits : StoreFits b.typing store) where
-  pub argument-passed : (f : Formal) (c : lowered.LoweredArgument) (e : Tree N expression) → ArgumentMeans checked slots f c e → (done : execution.Passed) (passed : List ℤ) → done.cells ≡ all_cells store ++ passed
+module _ {N : Type 0} (checked : TypeMeanings N) (slots : N → Slot) (targets : N → Target) (b : Body N) (shown : ShowsBody checked slots targets b) (store : Store) (fits : StoreFits b.typing store) where
+  pub argument-passed : (f : FormalParameter) (c : lowered.LoweredArgument) (e : Tree N expression) → ArgumentMeans checked slots f c e → (done : execution.CallArguments) (passed : List ℤ) → done.cells ≡ all_cells store ++ passed
       → Both (λ p a. Passes b.typing (f ∷ []) done p (a ∷ [])) (execution.pass b.levels c done) (evaluate_argument b.active store f.mode e)
   unfolding evaluate_argument
   argument-passed f (lowered.by_place q) e h done passed same =
@@ -134,7 +134,7 @@ module _ {N : Type 0} (checked : Typed N) (slots : N → Slot) (targets : N → 
       (both-led b.typing f.shape (machine.address b.levels done.cells q) (place here) (place-at checked slots targets b shown q f.shape place hq store passed done.cells fits same))
       (λ a p r. let at_p : HoldsSlice b.typing store p f.shape = places_are_slices b.typing store p f.shape fits r.1 in
       let w : Value = at_p.value in
-      let m : sizes b.typing ≡ length (all_cells store) = sym (store-size b.typing store fits) in
+      let m : store_size b.typing ≡ length (all_cells store) = sym (store-size b.typing store fits) in
       let block : execution.block_at done.cells a n ≡ cells_of w =
       (λ i. execution.block_at (same i) (r.0 i) (h.1 i)) ∙ (block-there (all_cells store) passed (address b.typing p) (size f.shape) (subst (λ k. address b.typing p + size f.shape ≤ k) m at_p.within) ∙ sym at_p.same_cells) in
       subst (λ o. Both (λ p a. Passes b.typing (f ∷ []) done p (a ∷ [])) (machine.gives (execution.pass_cells done (execution.block_at done.cells a n))) (or_stuck o >>= (λ v. gives (value_argument v)))) (sym at_p.is_read) record {
@@ -143,30 +143,30 @@ module _ {N : Type 0} (checked : Typed N) (slots : N → Slot) (targets : N → 
         addresses_passed = sym (append-nil done.addresses);
       }))))
 
-  pub arguments-passed : (fs : Signature) (cs : List lowered.LoweredArgument) (es : List (Tree N expression)) → ArgumentsMean checked slots fs cs es → (done : execution.Passed) (passed : List ℤ) → done.cells ≡ all_cells store ++ passed
-      → Both (λ p args. Passes b.typing fs done p args) (execution.pass_all b.levels cs done) (evaluate_arguments b.active store (modes_in fs) es)
+  pub arguments-passed : (fs : Signature) (cs : List lowered.LoweredArgument) (es : List (Tree N expression)) → ArgumentsMean checked slots fs cs es → (done : execution.CallArguments) (passed : List ℤ) → done.cells ≡ all_cells store ++ passed
+      → Both (λ p args. Passes b.typing fs done p args) (execution.pass_all b.levels cs done) (evaluate_arguments b.active store (signature_modes fs) es)
   unfolding evaluate_arguments
   arguments-passed [] [] [] h done passed same = record { arguments_fit = tt; cells_passed = sym (append-nil done.cells); addresses_passed = sym (append-nil done.addresses) }
   arguments-passed (f ∷ fs) (c ∷ cs) (e ∷ es) h done passed same =
-      both-then (λ p a. Passes b.typing (f ∷ []) done p (a ∷ [])) (λ p args. Passes b.typing (f ∷ fs) done p args) (execution.pass b.levels c done) (evaluate_argument b.active store f.mode e) (execution.pass_all b.levels cs) (λ a. evaluate_arguments b.active store (modes_in fs) es >>= (λ rest. gives (a ∷ rest)))
+      both-then (λ p a. Passes b.typing (f ∷ []) done p (a ∷ [])) (λ p args. Passes b.typing (f ∷ fs) done p args) (execution.pass b.levels c done) (evaluate_argument b.active store f.mode e) (execution.pass_all b.levels cs) (λ a. evaluate_arguments b.active store (signature_modes fs) es >>= (λ rest. gives (a ∷ rest)))
       (argument-passed f c e h.0 done passed same)
-      (λ p a one. both-made (λ q args. Passes b.typing fs p q args) (λ q args. Passes b.typing (f ∷ fs) done q args) (execution.pass_all b.levels cs p) (evaluate_arguments b.active store (modes_in fs) es) (λ rest. a ∷ rest)
+      (λ p a one. both-made (λ q args. Passes b.typing fs p q args) (λ q args. Passes b.typing (f ∷ fs) done q args) (execution.pass_all b.levels cs p) (evaluate_arguments b.active store (signature_modes fs) es) (λ rest. a ∷ rest)
       (arguments-passed fs cs es h.1 p (passed ++ argument_cells (a ∷ [])) (one.cells_passed ∙ (ap (λ l. l ++ argument_cells (a ∷ [])) same ∙ append_assoc (all_cells store) passed (argument_cells (a ∷ [])))))
       (λ q args more_passed. passes-on b.typing f fs done p q a args one more_passed))
   arguments-passed _ _ _ h done passed same = absurd h
 
-pub procedure-is : (typing : StoreTyping) (signature : Signature) (a : Option (Object Place (List Mode))) → ObjectFits typing (Some (a_procedure signature)) a → a ≡ Some (a_procedure (modes_in signature))
+pub procedure-is : (typing : StoreTyping) (signature : Signature) (a : Option (Object Place (List Mode))) → ObjectFits typing (Some (a_procedure signature)) a → a ≡ Some (a_procedure (signature_modes signature))
 procedure-is typing signature (Some (a_procedure modes)) h = ap (λ m. Some (a_procedure m)) h
 procedure-is typing signature _ h = absurd h
 
-pub call-means : {N : Type 0} (checked : Typed N) (slots : N → Slot) (targets : N → Target) (x : N) (es : Tree N (maybe arguments)) (signature : Signature) (cs : List lowered.LoweredArgument) → checked.object_for x ≡ Some (a_procedure signature) → ArgumentsMean checked slots signature cs (arguments_listed es)
+pub call-means : {N : Type 0} (checked : TypeMeanings N) (slots : N → Slot) (targets : N → Target) (x : N) (es : Tree N (maybe arguments)) (signature : Signature) (cs : List lowered.LoweredArgument) → checked.object_for x ≡ Some (a_procedure signature) → ArgumentsMean checked slots signature cs (arguments_listed es)
     → StatementMeans checked slots targets (lowered.calls (targets x).procedure (targets x).up cs) (calls x es)
 unfolding execution.execute execute
 call-means {N} checked slots targets x es signature cs st ha b shown t low s h =
-    let is_bound : b.active.object_for x ≡ Some (a_procedure (modes_in signature)) = procedure-is b.typing signature (b.active.object_for x) (subst (λ o. ObjectFits b.typing o (b.active.object_for x)) st (shown.names_fit.0 x)) in
-    let enter = λ (p : execution.Passed). b.lowered_enters (targets x).procedure (execution.entered b.levels (length low.cells) (targets x).up p) (record low { cells = p.cells }) in
-    let start : execution.Passed = record { cells = low.cells; addresses = [] } in
-    subst (λ o. ProgressRepresents b.typing (execution.use_in low (execution.pass_all b.levels cs start) enter) (use_in s (modes_of o >>= (λ modes. evaluate_arguments b.active s.store modes (arguments_listed es))) (λ args. perform o (b.enters x) args s))) (sym is_bound)
-    (use-both b.typing (λ p args. Passes b.typing signature start p args) low s (execution.pass_all b.levels cs start) (evaluate_arguments b.active s.store (modes_in signature) (arguments_listed es)) enter (λ args. b.enters x args s) h
+    let is_bound : b.active.object_for x ≡ Some (a_procedure (signature_modes signature)) = procedure-is b.typing signature (b.active.object_for x) (subst (λ o. ObjectFits b.typing o (b.active.object_for x)) st (shown.names_fit.0 x)) in
+    let enter = λ (p : execution.CallArguments). b.lowered_enters (targets x).procedure (execution.levels_in_call b.levels (length low.cells) (targets x).up p) (record low { cells = p.cells }) in
+    let start : execution.CallArguments = record { cells = low.cells; addresses = [] } in
+    subst (λ o. ProgressRepresents b.typing (execution.use_result low (execution.pass_all b.levels cs start) enter) (use_result s (modes_of o >>= (λ modes. evaluate_arguments b.active s.store modes (arguments_listed es))) (λ args. perform_call o (b.enters x) args s))) (sym is_bound)
+    (use-both b.typing (λ p args. Passes b.typing signature start p args) low s (execution.pass_all b.levels cs start) (evaluate_arguments b.active s.store (signature_modes signature) (arguments_listed es)) enter (λ args. b.enters x args s) h
     (arguments-passed checked slots targets b shown s.store h.store_fits signature cs (arguments_listed es) ha start [] (alone-cells checked slots targets b shown low s h))
     (λ p args r. shown.calls_represent x signature st args low s p h r.arguments_fit r.cells_passed r.addresses_passed))

@@ -1,31 +1,31 @@
 -- Placings that fit: names found in them, stores that grow, and what is seen from further in.
 use Rattle.std.proofs.Common.{◌≡◌, true, false, [], ◌∷◌, ◌++◌, drop, Some, None, sym, refl, ap, ◌∙◌, subst}
-use Rattle.ob0_language_types.specs.Environments.{from_binding, newest}
+use Rattle.ob0_language_types.specs.Environments.{environment_from_binding, newest_object}
 use Rattle.ob0_language_types.specs.Expressions.{Object, a_constant, a_procedure, a_standard, a_type, a_variable}
 use Rattle.ob0_language_types.specs.WellTyped.{Signature, TypeEnvironment}
 use Rattle.ob0_language_values.specs.Values.{Place, Shape}
 use Rattle.ob0_language_runs.specs.Fitting.{StoreTyping}
-use Rattle.ob0_language_runs.specs.Runs.{Activation, ProcedureText, passing}
+use Rattle.ob0_language_runs.specs.Runs.{Activation, ProcedureText, statement_object}
 use Rattle.ob0_run_machine.specs.Evaluation.{Level, Levels}
-use Rattle.ob0_run_cells.specs.Activations.{IsPlaced, RoutineTable, Placing, PlacingFits, Whereabouts, at_target, first_slot, from_name, in_slot, inward, inward_slot, inward_whereabouts, nowhere}
+use Rattle.ob0_run_cells.specs.Activations.{IsPlaced, RoutineTable, Placement, PlacementFits, BindingPlace, at_target, first_slot, suffix_from_name, in_slot, inward_placement, inward_slot, inward_binding_place, nowhere}
 use Rattle.ob0_run_cells.specs.Cells.{address}
 use Rattle.ob0_run_cells.specs.Lowering.{Slot, of_module, slot_address}
 use Rattle.ob0_run_cells.proofs.Places.{addresses_stay}
 
 module _ {N : Type 0} (table : RoutineTable N) where
   -- the bindings from a name's first on are placed too
-  pub from-placed : (typing : StoreTyping) (ls : Levels) (checked : TypeEnvironment N) (placing : Placing N) (active : Activation N) (x : N) → PlacingFits table typing ls checked placing active
-      → PlacingFits table typing ls (from_binding table.naming checked x) (from_name table.naming placing x) (from_binding table.naming active x)
+  pub from-placed : (typing : StoreTyping) (ls : Levels) (checked : TypeEnvironment N) (placement : Placement N) (active : Activation N) (x : N) → PlacementFits table typing ls checked placement active
+      → PlacementFits table typing ls (environment_from_binding table.naming checked x) (suffix_from_name table.naming placement x) (environment_from_binding table.naming active x)
   from-placed typing ls [] [] [] x h = tt
-  from-placed typing ls (b ∷ checked) (w ∷ placing) (d ∷ active) x h =
-      subst (λ y. PlacingFits table typing ls (elim (table.naming.same x b.0) [ true ↦ b ∷ checked | false ↦ from_binding table.naming checked x ]) (elim (table.naming.same x y) [ true ↦ w ∷ placing | false ↦ from_name table.naming placing x ]) (elim (table.naming.same x d.0) [ true ↦ d ∷ active | false ↦ from_binding table.naming active x ])) h.same_placed
-      (subst (λ y. PlacingFits table typing ls (elim (table.naming.same x b.0) [ true ↦ b ∷ checked | false ↦ from_binding table.naming checked x ]) (elim (table.naming.same x b.0) [ true ↦ w ∷ placing | false ↦ from_name table.naming placing x ]) (elim (table.naming.same x y) [ true ↦ d ∷ active | false ↦ from_binding table.naming active x ])) h.same_active
-      (elim (table.naming.same x b.0) as (λ v. PlacingFits table typing ls (elim v [ true ↦ b ∷ checked | false ↦ from_binding table.naming checked x ]) (elim v [ true ↦ w ∷ placing | false ↦ from_name table.naming placing x ]) (elim v [ true ↦ d ∷ active | false ↦ from_binding table.naming active x ]))
-      [ true ↦ h | false ↦ from-placed typing ls checked placing active x h.further ]))
+  from-placed typing ls (b ∷ checked) (w ∷ placement) (d ∷ active) x h =
+      subst (λ y. PlacementFits table typing ls (elim (table.naming.same x b.0) [ true ↦ b ∷ checked | false ↦ environment_from_binding table.naming checked x ]) (elim (table.naming.same x y) [ true ↦ w ∷ placement | false ↦ suffix_from_name table.naming placement x ]) (elim (table.naming.same x d.0) [ true ↦ d ∷ active | false ↦ environment_from_binding table.naming active x ])) h.same_placed
+      (subst (λ y. PlacementFits table typing ls (elim (table.naming.same x b.0) [ true ↦ b ∷ checked | false ↦ environment_from_binding table.naming checked x ]) (elim (table.naming.same x b.0) [ true ↦ w ∷ placement | false ↦ suffix_from_name table.naming placement x ]) (elim (table.naming.same x y) [ true ↦ d ∷ active | false ↦ environment_from_binding table.naming active x ])) h.same_active
+      (elim (table.naming.same x b.0) as (λ v. PlacementFits table typing ls (elim v [ true ↦ b ∷ checked | false ↦ environment_from_binding table.naming checked x ]) (elim v [ true ↦ w ∷ placement | false ↦ suffix_from_name table.naming placement x ]) (elim v [ true ↦ d ∷ active | false ↦ environment_from_binding table.naming active x ]))
+      [ true ↦ h | false ↦ from-placed typing ls checked placement active x h.further ]))
   from-placed typing ls _ _ _ x h = absurd h
 
-  slot-here : (typing : StoreTyping) (ls : Levels) (checked : TypeEnvironment N) (Fits : Levels → Placing N → Type 0) (x : N) (o : Object Shape Signature) (w : Whereabouts) (r : Object Place (ProcedureText N)) (p : Place)
-      → IsPlaced table typing ls checked Fits x o w r → passing (Some r) ≡ Some (a_variable p) → (rest : Placing N) → slot_address ls (first_slot ((x, w) ∷ rest)) ≡ address typing p
+  slot-here : (typing : StoreTyping) (ls : Levels) (checked : TypeEnvironment N) (Fits : Levels → Placement N → Type 0) (x : N) (o : Object Shape Signature) (w : BindingPlace) (r : Object Place (ProcedureText N)) (p : Place)
+      → IsPlaced table typing ls checked Fits x o w r → statement_object (Some r) ≡ Some (a_variable p) → (rest : Placement N) → slot_address ls (first_slot ((x, w) ∷ rest)) ≡ address typing p
   slot-here typing ls checked Fits x (a_variable s) (in_slot slot) (a_variable q) p h e rest = h.1 ∙ ap (λ o. address typing (elim o [ None ↦ q | Some v ↦ elim v [ a_variable p ↦ p | _ ↦ q ] ])) e
   slot-here typing ls checked Fits x (a_procedure s) (at_target t) (a_procedure c) p h e rest = absurd (cc)
   slot-here typing ls checked Fits x (a_type s) nowhere (a_type u) p h e rest = absurd (cc)
@@ -33,14 +33,14 @@ module _ {N : Type 0} (table : RoutineTable N) where
   slot-here typing ls checked Fits x (a_standard q) nowhere (a_standard r) p h e rest = absurd (cc)
   slot-here typing ls checked Fits x _ _ _ p h e rest = absurd h
 
-  pub slots-fit : (typing : StoreTyping) (ls : Levels) (checked : TypeEnvironment N) (placing : Placing N) (active : Activation N) → PlacingFits table typing ls checked placing active → (p : Place) → passing (newest active) ≡ Some (a_variable p) → slot_address ls (first_slot placing) ≡ address typing p
+  pub slots-fit : (typing : StoreTyping) (ls : Levels) (checked : TypeEnvironment N) (placement : Placement N) (active : Activation N) → PlacementFits table typing ls checked placement active → (p : Place) → statement_object (newest_object active) ≡ Some (a_variable p) → slot_address ls (first_slot placement) ≡ address typing p
   slots-fit typing ls [] [] [] h p e = absurd (cc)
-  slots-fit typing ls (b ∷ checked) (w ∷ placing) (d ∷ active) h p e = slot-here typing ls checked (λ ls placing. PlacingFits table typing ls checked placing active) b.0 b.1 w.1 d.1 p h.here e placing
+  slots-fit typing ls (b ∷ checked) (w ∷ placement) (d ∷ active) h p e = slot-here typing ls checked (λ ls placement. PlacementFits table typing ls checked placement active) b.0 b.1 w.1 d.1 p h.here e placement
   slots-fit typing ls _ _ _ h p e = absurd h
 
   -- stores grow
 
-  grows-here : (typing others : StoreTyping) (ls : Levels) (checked : TypeEnvironment N) (Fits Grown : Levels → Placing N → Type 0) → ((ls : Levels) (placing : Placing N) → Fits ls placing → Grown ls placing) → (x : N) (o : Object Shape Signature) (w : Whereabouts) (r : Object Place (ProcedureText N))
+  grows-here : (typing others : StoreTyping) (ls : Levels) (checked : TypeEnvironment N) (Fits Grown : Levels → Placement N → Type 0) → ((ls : Levels) (placement : Placement N) → Fits ls placement → Grown ls placement) → (x : N) (o : Object Shape Signature) (w : BindingPlace) (r : Object Place (ProcedureText N))
       → IsPlaced table typing ls checked Fits x o w r → IsPlaced table (typing ++ others) ls checked Grown x o w r
   grows-here typing others ls checked Fits Grown grow x (a_variable s) (in_slot slot) (a_variable p) h =
       let (fit, stays) = addresses_stay typing others p s h.0 in (fit, h.1 ∙ sym stays)
@@ -50,41 +50,41 @@ module _ {N : Type 0} (table : RoutineTable N) where
   grows-here typing others ls checked Fits Grown grow x (a_standard q) nowhere (a_standard r) h = tt
   grows-here typing others ls checked Fits Grown grow x _ _ _ h = absurd h
 
-  pub placing-grows : (typing others : StoreTyping) (checked : TypeEnvironment N) (active : Activation N) (ls : Levels) (placing : Placing N) → PlacingFits table typing ls checked placing active → PlacingFits table (typing ++ others) ls checked placing active
-  placing-grows typing others [] [] ls [] h = tt
-  placing-grows typing others (b ∷ checked) (d ∷ active) ls (w ∷ placing) h =
+  pub placement-grows : (typing others : StoreTyping) (checked : TypeEnvironment N) (active : Activation N) (ls : Levels) (placement : Placement N) → PlacementFits table typing ls checked placement active → PlacementFits table (typing ++ others) ls checked placement active
+  placement-grows typing others [] [] ls [] h = tt
+  placement-grows typing others (b ∷ checked) (d ∷ active) ls (w ∷ placement) h =
       record {
         same_active = h.same_active;
         same_placed = h.same_placed;
-        here = grows-here typing others ls checked (λ ls placing. PlacingFits table typing ls checked placing active) (λ ls placing. PlacingFits table (typing ++ others) ls checked placing active) (placing-grows typing others checked active) b.0 b.1 w.1 d.1 h.here;
-        further = placing-grows typing others checked active ls placing h.further;
+        here = grows-here typing others ls checked (λ ls placement. PlacementFits table typing ls checked placement active) (λ ls placement. PlacementFits table (typing ++ others) ls checked placement active) (placement-grows typing others checked active) b.0 b.1 w.1 d.1 h.here;
+        further = placement-grows typing others checked active ls placement h.further;
       }
-  placing-grows typing others [] (d ∷ active) ls [] h = absurd h
-  placing-grows typing others (b ∷ checked) [] ls [] h = absurd h
-  placing-grows typing others _ _ ls _ h = absurd h
+  placement-grows typing others [] (d ∷ active) ls [] h = absurd h
+  placement-grows typing others (b ∷ checked) [] ls [] h = absurd h
+  placement-grows typing others _ _ ls _ h = absurd h
 
   -- one activation further in
 
-  slot-inward : (l : Level) (ls : Levels) (s : Slot) → slot_address (l ∷ ls) (inward_slot s) ≡ slot_address ls s
-  slot-inward l ls (of_module at) = refl
-  slot-inward l ls _ = refl
+  slot-inward_placement : (l : Level) (ls : Levels) (s : Slot) → slot_address (l ∷ ls) (inward_slot s) ≡ slot_address ls s
+  slot-inward_placement l ls (of_module at) = refl
+  slot-inward_placement l ls _ = refl
 
-  inward-here : (typing : StoreTyping) (l : Level) (ls : Levels) (checked : TypeEnvironment N) (Fits : Levels → Placing N → Type 0) (x : N) (o : Object Shape Signature) (w : Whereabouts) (r : Object Place (ProcedureText N))
-      → IsPlaced table typing ls checked Fits x o w r → IsPlaced table typing (l ∷ ls) checked Fits x o (inward_whereabouts w) r
-  inward-here typing l ls checked Fits x (a_variable s) (in_slot slot) (a_variable p) h = (h.0, slot-inward l ls slot ∙ h.1)
-  inward-here typing l ls checked Fits x (a_procedure s) (at_target t) (a_procedure c) h = h
-  inward-here typing l ls checked Fits x (a_type s) nowhere (a_type u) h = tt
-  inward-here typing l ls checked Fits x (a_constant v) nowhere (a_constant w) h = tt
-  inward-here typing l ls checked Fits x (a_standard q) nowhere (a_standard r) h = tt
-  inward-here typing l ls checked Fits x _ _ _ h = absurd h
+  inward_placement-here : (typing : StoreTyping) (l : Level) (ls : Levels) (checked : TypeEnvironment N) (Fits : Levels → Placement N → Type 0) (x : N) (o : Object Shape Signature) (w : BindingPlace) (r : Object Place (ProcedureText N))
+      → IsPlaced table typing ls checked Fits x o w r → IsPlaced table typing (l ∷ ls) checked Fits x o (inward_binding_place w) r
+  inward_placement-here typing l ls checked Fits x (a_variable s) (in_slot slot) (a_variable p) h = (h.0, slot-inward_placement l ls slot ∙ h.1)
+  inward_placement-here typing l ls checked Fits x (a_procedure s) (at_target t) (a_procedure c) h = h
+  inward_placement-here typing l ls checked Fits x (a_type s) nowhere (a_type u) h = tt
+  inward_placement-here typing l ls checked Fits x (a_constant v) nowhere (a_constant w) h = tt
+  inward_placement-here typing l ls checked Fits x (a_standard q) nowhere (a_standard r) h = tt
+  inward_placement-here typing l ls checked Fits x _ _ _ h = absurd h
 
-  pub inward-fits : (typing : StoreTyping) (l : Level) (ls : Levels) (checked : TypeEnvironment N) (placing : Placing N) (active : Activation N) → PlacingFits table typing ls checked placing active → PlacingFits table typing (l ∷ ls) checked (inward placing) active
-  inward-fits typing l ls [] [] [] h = tt
-  inward-fits typing l ls (b ∷ checked) (w ∷ placing) (d ∷ active) h =
+  pub inward_placement-fits : (typing : StoreTyping) (l : Level) (ls : Levels) (checked : TypeEnvironment N) (placement : Placement N) (active : Activation N) → PlacementFits table typing ls checked placement active → PlacementFits table typing (l ∷ ls) checked (inward_placement placement) active
+  inward_placement-fits typing l ls [] [] [] h = tt
+  inward_placement-fits typing l ls (b ∷ checked) (w ∷ placement) (d ∷ active) h =
       record {
         same_active = h.same_active;
         same_placed = h.same_placed;
-        here = inward-here typing l ls checked (λ ls placing. PlacingFits table typing ls checked placing active) b.0 b.1 w.1 d.1 h.here;
-        further = inward-fits typing l ls checked placing active h.further;
+        here = inward_placement-here typing l ls checked (λ ls placement. PlacementFits table typing ls checked placement active) b.0 b.1 w.1 d.1 h.here;
+        further = inward_placement-fits typing l ls checked placement active h.further;
       }
-  inward-fits typing l ls _ _ _ h = absurd h
+  inward_placement-fits typing l ls _ _ _ h = absurd h

@@ -1,16 +1,16 @@
 -- What places hold lies in the cells of the store.
 use Rattle.std.proofs.Common.{◌≡◌, ℕ, zero, suc, ◌+◌, ◌≤◌, Bool, List, [], ◌∷◌, ◌++◌, length, take, ℤ, slice_get, slice_set, Some, option_map, option_and_then, unwrap_or, sym, refl, ap, ◌∙◌, subst, arith, length-append}
-use Rattle.ob0_language_values.specs.Values.{Place, Shape, Step, Store, Value, at_path, boolean_shape, integer_shape, number, read_place, truth, with_at_path, write_place}
+use Rattle.ob0_language_values.specs.Values.{Place, Shape, Step, Store, Value, value_at_path, boolean_shape, integer_shape, number, read_place, truth, with_value_at_path, write_place}
 use Rattle.ob0_language_runs.specs.Fitting.{HasShape, PlaceFits, StoreFits, StoreTyping, part_shape, shape_at_path}
 use Rattle.ob0_language_types.proofs.Conditions.{of_some}
 use Rattle.ob0_language_types.proofs.TypedElsewhere.{then_some}
 use Rattle.ob0_language_runs.proofs.Sound.{is_number, is_truth}
 use Rattle.ob0_language_runs.proofs.SoundStatements.{PlaceFits-grows, set-fits, slice_get-grows, with_path-fits}
-use Rattle.ob0_run_cells.specs.Cells.{address, all_cells, cells_at, cells_of, cells_with, offset, size, sizes, truth_cell}
+use Rattle.ob0_run_cells.specs.Cells.{address, all_cells, cells_at, cells_of, overwritten_cells, offset, size, store_size, truth_cell}
 use Rattle.ob0_run_cells.proofs.Parts.{cells-size, lies-inside, path-lies}
 use Rattle.ob0_run_cells.proofs.Splits.{Lies, lies-following, lies-first, lies-within, split-at, split-get, split-set, split-with}
 
-pub store-size : (typing : StoreTyping) (store : Store) → StoreFits typing store → length (all_cells store) ≡ sizes typing
+pub store-size : (typing : StoreTyping) (store : Store) → StoreFits typing store → length (all_cells store) ≡ store_size typing
 store-size [] [] h = refl
 store-size (s ∷ typing) (v ∷ store) h =
     length-append (cells_of v) (all_cells store) ∙ (ap (λ n. n + length (all_cells store)) (cells-size v s h.0) ∙ ap (λ n. size s + n) (store-size typing store h.1))
@@ -18,13 +18,13 @@ store-size _ _ h = absurd h
 
 -- a variable lies after the older ones
 pub variable-lies : (typing : StoreTyping) (store : Store) (n : ℕ) (s : Shape) → StoreFits typing store → slice_get typing n ≡ Some s
-    → (v : Value) × (slice_get store n ≡ Some v) × HasShape v s × Lies all_cells store v (slice_set store n) (sizes (take n typing))
+    → (v : Value) × (slice_get store n ≡ Some v) × HasShape v s × Lies all_cells store v (slice_set store n) (store_size (take n typing))
 variable-lies [] [] n s h e = absurd (cc)
 variable-lies (t ∷ typing) (v ∷ store) zero s h e =
     (v, refl, of_some (λ s. HasShape v s) e h.0, lies-first all_cells (v ∷ store) v (slice_set (v ∷ store) zero) (all_cells store) refl (λ new. refl))
 variable-lies (t ∷ typing) (v ∷ store) (suc n) s h e =
     let (w, ew, hw, l) = variable-lies typing store n s h.1 e in
-    (w, ew, hw, lies-following all_cells all_cells (v ∷ store) store w (slice_set (v ∷ store) (suc n)) (slice_set store n) (cells_of v) (size t) (sizes (take n typing)) refl (λ new. refl) (cells-size v t h.0) l)
+    (w, ew, hw, lies-following all_cells all_cells (v ∷ store) store w (slice_set (v ∷ store) (suc n)) (slice_set store n) (cells_of v) (size t) (store_size (take n typing)) refl (λ new. refl) (cells-size v t h.0) l)
 variable-lies _ _ n s h e = absurd h
 
 -- what lies at a place, and what writing it makes of the store
@@ -39,20 +39,20 @@ place-lies typing store p s h e =
     let (v, ev, hv, l) = variable-lies typing store p.variable t h et in
     let (w, ew, hw, write, made, k) = path-lies p.path v t s hv e₁ in (
       w,
-      ap (option_and_then (at_path p.path)) ev ∙ ew,
+      ap (option_and_then (value_at_path p.path)) ev ∙ ew,
       hw,
       (λ new. slice_set store p.variable (write new)),
-      (λ new. ap (option_and_then (λ old. option_map (slice_set store p.variable) (with_at_path p.path new old))) ev ∙ ap (option_map (slice_set store p.variable)) (made new)),
+      (λ new. ap (option_and_then (λ old. option_map (slice_set store p.variable) (with_value_at_path p.path new old))) ev ∙ ap (option_map (slice_set store p.variable)) (made new)),
       (λ new hn. let (u, eu, hu) = with_path-fits p.path v t s new hv e₁ hn in
           let same : u ≡ write new = ap (λ o. unwrap_or o (write new)) (sym eu ∙ made new) in
           set-fits typing store p.variable t (write new) h et (subst (λ u. HasShape u t) same hu)),
-      subst (λ o. Lies all_cells store w (λ new. slice_set store p.variable (write new)) (sizes (take p.variable typing) + unwrap_or (option_map (offset p.path) o) 0)) (sym et)
-          (lies-within all_cells store v w (slice_set store p.variable) write (sizes (take p.variable typing)) (offset p.path t) l k),
+      subst (λ o. Lies all_cells store w (λ new. slice_set store p.variable (write new)) (store_size (take p.variable typing) + unwrap_or (option_map (offset p.path) o) 0)) (sym et)
+          (lies-within all_cells store v w (slice_set store p.variable) write (store_size (take p.variable typing)) (offset p.path t) l k),
     )
 
 -- a place holds a value of a type, whose cells are those of the store from the place's address on
 pub record HoldsSlice (typing : StoreTyping) (store : Store) (p : Place) (s : Shape) : Type 0 where
-  pub within : address typing p + size s ≤ sizes typing
+  pub within : address typing p + size s ≤ store_size typing
   pub value : Value
   pub is_read : read_place store p ≡ Some value
   pub has_shape : HasShape value s
@@ -61,7 +61,7 @@ pub record HoldsSlice (typing : StoreTyping) (store : Store) (p : Place) (s : Sh
 pub places_are_slices : (typing : StoreTyping) (store : Store) (p : Place) (s : Shape) → StoreFits typing store → PlaceFits typing p s → HoldsSlice typing store p s
 places_are_slices typing store p s h e =
     let (v, ev, hv, write, made, fits, l) = place-lies typing store p s h e in record {
-      within = lies-inside all_cells store v write (address typing p) (size s) (sizes typing) l (cells-size v s hv) (store-size typing store h);
+      within = lies-inside all_cells store v write (address typing p) (size s) (store_size typing) l (cells-size v s hv) (store-size typing store h);
       value = v;
       is_read = ev;
       has_shape = hv;
@@ -75,13 +75,13 @@ pub record WritesPlace (typing : StoreTyping) (store : Store) (p : Place) (new :
   pub store_fits : StoreFits typing after
   pub same_cells : all_cells after ≡ cells
 
-pub writing_places_writes_slices : (typing : StoreTyping) (store : Store) (p : Place) (s : Shape) (new : Value) → StoreFits typing store → PlaceFits typing p s → HasShape new s → WritesPlace typing store p new (cells_with (address typing p) (cells_of new) (all_cells store))
+pub writing_places_writes_slices : (typing : StoreTyping) (store : Store) (p : Place) (s : Shape) (new : Value) → StoreFits typing store → PlaceFits typing p s → HasShape new s → WritesPlace typing store p new (overwritten_cells (address typing p) (cells_of new) (all_cells store))
 writing_places_writes_slices typing store p s new h e hn =
     let (v, ev, hv, write, made, fits, l) = place-lies typing store p s h e in record {
       after = write new;
       is_written = made new;
       store_fits = fits new hn;
-      same_cells = l.is_written new ∙ (split-with l.before (cells_of v) (cells_of new) l.after (address typing p) l.begins (cells-size new s hn ∙ sym (cells-size v s hv)) ∙ ap (cells_with (address typing p) (cells_of new)) (sym l.is_split));
+      same_cells = l.is_written new ∙ (split-with l.before (cells_of v) (cells_of new) l.after (address typing p) l.begins (cells-size new s hn ∙ sym (cells-size v s hv)) ∙ ap (overwritten_cells (address typing p) (cells_of new)) (sym l.is_split));
     }
 
 -- a value of one cell is read from it, and written to it
@@ -145,6 +145,6 @@ pub addresses_stay : (typing others : StoreTyping) (p : Place) (s : Shape) → P
 addresses_stay typing others p s fit =
     let (t, et, e₁) = then_some (slice_get typing p.variable) (shape_at_path p.path) s fit in (
       PlaceFits-grows typing others p s fit,
-      ap (λ l. sizes l + unwrap_or (option_map (offset p.path) (slice_get (typing ++ others) p.variable)) 0) (taken-stays typing others p.variable t et)
-          ∙ ap (λ o. sizes (take p.variable typing) + unwrap_or (option_map (offset p.path) o) 0) (slice_get-grows typing others p.variable t et ∙ sym et),
+      ap (λ l. store_size l + unwrap_or (option_map (offset p.path) (slice_get (typing ++ others) p.variable)) 0) (taken-stays typing others p.variable t et)
+          ∙ ap (λ o. store_size (take p.variable typing) + unwrap_or (option_map (offset p.path) o) 0) (slice_get-grows typing others p.variable t et ∙ sym et),
     )

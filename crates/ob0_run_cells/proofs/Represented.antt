@@ -1,28 +1,28 @@
 -- Steps that states of lowered code and of the definition make alike.
 use Rattle.std.proofs.Common.{◌≡◌, ℕ, zero, suc, Bool, true, false, List, [], ◌∷◌, ◌++◌, take, drop, ℤ, slice_set, sym, refl, ap, ◌∙◌, subst, append-nil}
 use Rattle.std.proofs.lemmas.List.{map-append}
-use Rattle.ob0_language_types.specs.WellTyped.{Typed}
+use Rattle.ob0_language_types.specs.WellTyped.{TypeMeanings}
 use Rattle.ob0_language_values.specs.Values.{Outcome, Place, Shape, Store, TurnBound, Value, boolean_shape, ends, gives, integer_shape, number, or_stuck, truth}
 use Rattle.ob0_language_runs.specs.Fitting.{PlaceFits, StoreFits, StoreTyping}
-use Rattle.ob0_language_runs.specs.Runs.{Progress, State, choose, continue_with, append_output, read_number, running, stopped, store_at, turns, turns_until, use_in}
+use Rattle.ob0_language_runs.specs.Runs.{Progress, State, choose, continue_with, append_output, read_number, running, stopped, store_at, execute_while, execute_repeat, use_result}
 use Rattle.ob0_run_machine.specs.Evaluation as machine
 use Rattle.ob0_run_machine.specs.Execution as execution
 use Rattle.ob0_run_machine.specs.Lowered as lowered
 use Rattle.ob0_run_cells.specs.Cells.{address, all_cells, truth_cell}
 use Rattle.ob0_run_cells.specs.LoweredStatements.{Body, ProgressRepresents, Represents, ShowsBody, Target, written_of}
-use Rattle.ob0_run_cells.specs.Lowering.{Evaluated, Moment, NumberMeans, PlaceMeans, Shows, Slot, TruthMeans, end_of, outcome_of}
+use Rattle.ob0_run_cells.specs.Lowering.{OutcomeByMoment, Moment, NumberMeans, PlaceMeans, Shows, Slot, TruthMeans, end_of, outcome_of}
 use Rattle.ob0_run_cells.proofs.LoweredOutcomes.{Led, ended-same, given-same}
 use Rattle.ob0_run_cells.proofs.Places.{numbers_are_cells, truths_are_cells}
 
 -- an evaluation, and what comes of what it gives
 
 pub use-represents : {A B : Type 0} (typing : StoreTyping) (f : A → B) (low : execution.MachineState) (s : State) (o : machine.StepResult A) (w : Outcome B) (k : A → execution.MachineProgress) (j : B → Progress) → Represents typing low s → outcome_of f o ≡ w
-    → ((a : A) → o ≡ machine.gives a → ProgressRepresents typing (k a) (j (f a))) → ProgressRepresents typing (execution.use_in low o k) (use_in s w j)
-use-represents typing f low s (machine.gives a) w k j h e each = subst (λ w. ProgressRepresents typing (k a) (use_in s w j)) e (each a refl)
-use-represents typing f low s (machine.ends x) w k j h e each = subst (λ w. ProgressRepresents typing (execution.stopped x low.output) (use_in s w j)) e (refl, h.same_output)
+    → ((a : A) → o ≡ machine.gives a → ProgressRepresents typing (k a) (j (f a))) → ProgressRepresents typing (execution.use_result low o k) (use_result s w j)
+use-represents typing f low s (machine.gives a) w k j h e each = subst (λ w. ProgressRepresents typing (k a) (use_result s w j)) e (each a refl)
+use-represents typing f low s (machine.ends x) w k j h e each = subst (λ w. ProgressRepresents typing (execution.stopped x low.output) (use_result s w j)) e (refl, h.same_output)
 
 pub use-place : (typing : StoreTyping) (shape : Shape) (low : execution.MachineState) (s : State) (o : machine.StepResult ℕ) (w : Outcome Place) (k : ℕ → execution.MachineProgress) (j : Place → Progress) → Represents typing low s → Led typing shape o w
-    → ((p : Place) → PlaceFits typing p shape → ProgressRepresents typing (k (address typing p)) (j p)) → ProgressRepresents typing (execution.use_in low o k) (use_in s w j)
+    → ((p : Place) → PlaceFits typing p shape → ProgressRepresents typing (k (address typing p)) (j p)) → ProgressRepresents typing (execution.use_result low o k) (use_result s w j)
 use-place typing shape low s (machine.gives a) (gives p) k j h led each =
     let e : a ≡ address typing p = given-same a (address typing p) led.is_same in
     subst (λ a. ProgressRepresents typing (k a) (j p)) (sym e) (each p led.is_place)
@@ -30,10 +30,10 @@ use-place typing shape low s (machine.ends x) (ends y) k j h led each = (ended-s
 use-place typing shape low s _ _ k j h led each = let e = led.is_same in absurd (cc)
 
 pub choice-represents : (typing : StoreTyping) (low : execution.MachineState) (s : State) (o : machine.StepResult Bool) (w : Outcome Value) (k l : execution.MachineState → execution.MachineProgress) (i j : State → Progress) → Represents typing low s → outcome_of truth o ≡ w
-    → ProgressRepresents typing (k low) (i s) → ProgressRepresents typing (l low) (j s) → ProgressRepresents typing (execution.choose low o k l) (use_in s w (λ v. choose s v i j))
-choice-represents typing low s (machine.gives true) w k l i j h e on off = subst (λ w. ProgressRepresents typing (k low) (use_in s w (λ v. choose s v i j))) e on
-choice-represents typing low s (machine.gives false) w k l i j h e on off = subst (λ w. ProgressRepresents typing (l low) (use_in s w (λ v. choose s v i j))) e off
-choice-represents typing low s (machine.ends x) w k l i j h e on off = subst (λ w. ProgressRepresents typing (execution.stopped x low.output) (use_in s w (λ v. choose s v i j))) e (refl, h.same_output)
+    → ProgressRepresents typing (k low) (i s) → ProgressRepresents typing (l low) (j s) → ProgressRepresents typing (execution.choose low o k l) (use_result s w (λ v. choose s v i j))
+choice-represents typing low s (machine.gives true) w k l i j h e on off = subst (λ w. ProgressRepresents typing (k low) (use_result s w (λ v. choose s v i j))) e on
+choice-represents typing low s (machine.gives false) w k l i j h e on off = subst (λ w. ProgressRepresents typing (l low) (use_result s w (λ v. choose s v i j))) e off
+choice-represents typing low s (machine.ends x) w k l i j h e on off = subst (λ w. ProgressRepresents typing (execution.stopped x low.output) (use_result s w (λ v. choose s v i j))) e (refl, h.same_output)
 
 -- what follows in every state
 abbrev pub Follows : StoreTyping → (execution.MachineState → execution.MachineProgress) → (State → Progress) → Type 0
@@ -49,22 +49,22 @@ going-on typing _ _ k j h follows = absurd h
 abbrev pub SameConditions : StoreTyping → (execution.MachineState → machine.StepResult Bool) → (State → Outcome Value) → Type 0
 SameConditions typing c d = (low : execution.MachineState) (s : State) → Represents typing low s → outcome_of truth (c low) ≡ d s
 
-pub turns-represent : (t : ℕ) (typing : StoreTyping) (c : execution.MachineState → machine.StepResult Bool) (d : State → Outcome Value) (k : execution.MachineState → execution.MachineProgress) (j : State → Progress)
-    → SameConditions typing c d → Follows typing k j → Follows typing (execution.turns t c k) (turns t d j)
-turns-represent zero typing c d k j same follows low s h =
+pub execute_while-represent : (t : ℕ) (typing : StoreTyping) (c : execution.MachineState → machine.StepResult Bool) (d : State → Outcome Value) (k : execution.MachineState → execution.MachineProgress) (j : State → Progress)
+    → SameConditions typing c d → Follows typing k j → Follows typing (execution.execute_while t c k) (execute_while t d j)
+execute_while-represent zero typing c d k j same follows low s h =
     choice-represents typing low s (c low) (d s) (λ s'. execution.stopped machine.TurnBound s'.output) execution.running (λ s'. stopped TurnBound s'.output) running h (same low s h) (refl, h.same_output) h
-turns-represent (suc t) typing c d k j same follows low s h =
-    choice-represents typing low s (c low) (d s) (λ s'. execution.continue_with (k s') (execution.turns t c k)) execution.running (λ s'. continue_with (j s') (turns t d j)) running h (same low s h)
-    (going-on typing (k low) (j s) (execution.turns t c k) (turns t d j) (follows low s h) (turns-represent t typing c d k j same follows)) h
+execute_while-represent (suc t) typing c d k j same follows low s h =
+    choice-represents typing low s (c low) (d s) (λ s'. execution.continue_with (k s') (execution.execute_while t c k)) execution.running (λ s'. continue_with (j s') (execute_while t d j)) running h (same low s h)
+    (going-on typing (k low) (j s) (execution.execute_while t c k) (execute_while t d j) (follows low s h) (execute_while-represent t typing c d k j same follows)) h
 
-pub turns_until-represent : (t : ℕ) (typing : StoreTyping) (c : execution.MachineState → machine.StepResult Bool) (d : State → Outcome Value) (k : execution.MachineState → execution.MachineProgress) (j : State → Progress)
-    → SameConditions typing c d → Follows typing k j → Follows typing (execution.turns_until t c k) (turns_until t d j)
-turns_until-represent zero typing c d k j same follows low s h =
-    going-on typing (k low) (j s) (λ s'. execution.choose s' (c s') execution.running (λ s''. execution.stopped machine.TurnBound s''.output)) (λ s'. use_in s' (d s') (λ v. choose s' v running (λ s''. stopped TurnBound s''.output))) (follows low s h)
+pub execute_repeat-represent : (t : ℕ) (typing : StoreTyping) (c : execution.MachineState → machine.StepResult Bool) (d : State → Outcome Value) (k : execution.MachineState → execution.MachineProgress) (j : State → Progress)
+    → SameConditions typing c d → Follows typing k j → Follows typing (execution.execute_repeat t c k) (execute_repeat t d j)
+execute_repeat-represent zero typing c d k j same follows low s h =
+    going-on typing (k low) (j s) (λ s'. execution.choose s' (c s') execution.running (λ s''. execution.stopped machine.TurnBound s''.output)) (λ s'. use_result s' (d s') (λ v. choose s' v running (λ s''. stopped TurnBound s''.output))) (follows low s h)
     (λ low s h. choice-represents typing low s (c low) (d s) execution.running (λ s''. execution.stopped machine.TurnBound s''.output) running (λ s''. stopped TurnBound s''.output) h (same low s h) h (refl, h.same_output))
-turns_until-represent (suc t) typing c d k j same follows low s h =
-    going-on typing (k low) (j s) (λ s'. execution.choose s' (c s') execution.running (execution.turns_until t c k)) (λ s'. use_in s' (d s') (λ v. choose s' v running (turns_until t d j))) (follows low s h)
-    (λ low s h. choice-represents typing low s (c low) (d s) execution.running (execution.turns_until t c k) running (turns_until t d j) h (same low s h) h (turns_until-represent t typing c d k j same follows low s h))
+execute_repeat-represent (suc t) typing c d k j same follows low s h =
+    going-on typing (k low) (j s) (λ s'. execution.choose s' (c s') execution.running (execution.execute_repeat t c k)) (λ s'. use_result s' (d s') (λ v. choose s' v running (execute_repeat t d j))) (follows low s h)
+    (λ low s h. choice-represents typing low s (c low) (d s) execution.running (execution.execute_repeat t c k) running (execute_repeat t d j) h (same low s h) h (execute_repeat-represent t typing c d k j same follows low s h))
 
 pub as_cell-same : (b : Bool) → machine.as_cell b ≡ truth_cell b
 as_cell-same true = refl
@@ -77,7 +77,7 @@ pub number-stored : (typing : StoreTyping) (low : execution.MachineState) (s : S
 number-stored typing low s p n h fit =
     let (found, writes) = numbers_are_cells typing s.store p h.store_fits fit in
     let done = writes n in
-    subst (λ o. ProgressRepresents typing (execution.running (execution.store_at low (address typing p) n)) (use_in s (or_stuck o) (λ store. running record s { store = store }))) (sym done.is_written) record {
+    subst (λ o. ProgressRepresents typing (execution.running (execution.store_at low (address typing p) n)) (use_result s (or_stuck o) (λ store. running record s { store = store }))) (sym done.is_written) record {
       store_fits = done.store_fits;
       same_cells = ap (λ l. slice_set l (address typing p) n) h.same_cells ∙ sym done.same_cells;
       same_input = h.same_input;
@@ -89,7 +89,7 @@ pub truth-stored : (typing : StoreTyping) (low : execution.MachineState) (s : St
 truth-stored typing low s p b h fit =
     let (found, writes) = truths_are_cells typing s.store p h.store_fits fit in
     let done = writes b in
-    subst (λ o. ProgressRepresents typing (execution.running (execution.store_at low (address typing p) (machine.as_cell b))) (use_in s (or_stuck o) (λ store. running record s { store = store }))) (sym done.is_written) record {
+    subst (λ o. ProgressRepresents typing (execution.running (execution.store_at low (address typing p) (machine.as_cell b))) (use_result s (or_stuck o) (λ store. running record s { store = store }))) (sym done.is_written) record {
       store_fits = done.store_fits;
       same_cells = ap (λ l. slice_set l (address typing p) (machine.as_cell b)) h.same_cells ∙ (ap (slice_set (all_cells s.store) (address typing p)) (as_cell-same b) ∙ sym done.same_cells);
       same_input = h.same_input;
@@ -116,7 +116,7 @@ put-represents typing low s i h = record {
 abbrev pub moment : {N : Type 0} → Body N → Store → List ℤ → Moment N
 moment b store passed = record { typing = b.typing; store = store; passed = passed; active = b.active; levels = b.levels }
 
-module _ {N : Type 0} (checked : Typed N) (slots : N → Slot) (targets : N → Target) (b : Body N) (shown : ShowsBody checked slots targets b) where
+module _ {N : Type 0} (checked : TypeMeanings N) (slots : N → Slot) (targets : N → Target) (b : Body N) (shown : ShowsBody checked slots targets b) where
   pub moment-shown : (store : Store) (passed : List ℤ) → StoreFits b.typing store → Shows checked slots (moment b store passed)
   moment-shown store passed fits = record {
     store_fits = fits;
@@ -125,17 +125,17 @@ module _ {N : Type 0} (checked : Typed N) (slots : N → Slot) (targets : N → 
     has_addresses = shown.has_addresses;
   }
 
-  pub number-at : (n : lowered.Number) (w : Evaluated N Value) → NumberMeans checked slots n w → (store : Store) (passed cells : List ℤ) → StoreFits b.typing store → cells ≡ all_cells store ++ passed
+  pub number-at : (n : lowered.Number) (w : OutcomeByMoment N Value) → NumberMeans checked slots n w → (store : Store) (passed cells : List ℤ) → StoreFits b.typing store → cells ≡ all_cells store ++ passed
       → outcome_of number (machine.number b.levels cells n) ≡ w (moment b store passed)
   number-at n w hn store passed cells fits e =
       subst (λ l. outcome_of number (machine.number b.levels l n) ≡ w (moment b store passed)) (sym e) (hn (moment b store passed) (moment-shown store passed fits))
 
-  pub truth-at : (t : lowered.Truth) (w : Evaluated N Value) → TruthMeans checked slots t w → (store : Store) (passed cells : List ℤ) → StoreFits b.typing store → cells ≡ all_cells store ++ passed
+  pub truth-at : (t : lowered.Truth) (w : OutcomeByMoment N Value) → TruthMeans checked slots t w → (store : Store) (passed cells : List ℤ) → StoreFits b.typing store → cells ≡ all_cells store ++ passed
       → outcome_of truth (machine.truth b.levels cells t) ≡ w (moment b store passed)
   truth-at t w ht store passed cells fits e =
       subst (λ l. outcome_of truth (machine.truth b.levels l t) ≡ w (moment b store passed)) (sym e) (ht (moment b store passed) (moment-shown store passed fits))
 
-  pub place-at : (q : lowered.Place) (shape : Shape) (w : Evaluated N Place) → PlaceMeans checked slots q shape w → (store : Store) (passed cells : List ℤ) → StoreFits b.typing store → cells ≡ all_cells store ++ passed
+  pub place-at : (q : lowered.Place) (shape : Shape) (w : OutcomeByMoment N Place) → PlaceMeans checked slots q shape w → (store : Store) (passed cells : List ℤ) → StoreFits b.typing store → cells ≡ all_cells store ++ passed
       → Led b.typing shape (machine.address b.levels cells q) (w (moment b store passed))
   place-at q shape w hq store passed cells fits e =
       let m = hq (moment b store passed) (moment-shown store passed fits) in
@@ -146,12 +146,12 @@ module _ {N : Type 0} (checked : Typed N) (slots : N → Slot) (targets : N → 
   pub alone-cells : (low : execution.MachineState) (s : State) → Represents b.typing low s → low.cells ≡ all_cells s.store ++ []
   alone-cells low s h = h.same_cells ∙ sym (append-nil (all_cells s.store))
 
-  pub number-in : (n : lowered.Number) (w : Evaluated N Value) → NumberMeans checked slots n w → (low : execution.MachineState) (s : State) → Represents b.typing low s
+  pub number-in : (n : lowered.Number) (w : OutcomeByMoment N Value) → NumberMeans checked slots n w → (low : execution.MachineState) (s : State) → Represents b.typing low s
       → outcome_of number (machine.number b.levels low.cells n) ≡ w (moment b s.store [])
   number-in n w hn low s h = number-at n w hn s.store [] low.cells h.store_fits (alone-cells low s h)
 
-  pub truth-in : (t : lowered.Truth) (w : Evaluated N Value) → TruthMeans checked slots t w → (low : execution.MachineState) (s : State) → Represents b.typing low s → outcome_of truth (machine.truth b.levels low.cells t) ≡ w (moment b s.store [])
+  pub truth-in : (t : lowered.Truth) (w : OutcomeByMoment N Value) → TruthMeans checked slots t w → (low : execution.MachineState) (s : State) → Represents b.typing low s → outcome_of truth (machine.truth b.levels low.cells t) ≡ w (moment b s.store [])
   truth-in t w ht low s h = truth-at t w ht s.store [] low.cells h.store_fits (alone-cells low s h)
 
-  pub place-in : (q : lowered.Place) (shape : Shape) (w : Evaluated N Place) → PlaceMeans checked slots q shape w → (low : execution.MachineState) (s : State) → Represents b.typing low s → Led b.typing shape (machine.address b.levels low.cells q) (w (moment b s.store []))
+  pub place-in : (q : lowered.Place) (shape : Shape) (w : OutcomeByMoment N Place) → PlaceMeans checked slots q shape w → (low : execution.MachineState) (s : State) → Represents b.typing low s → Led b.typing shape (machine.address b.levels low.cells q) (w (moment b s.store []))
   place-in q shape w hq low s h = place-at q shape w hq s.store [] low.cells h.store_fits (alone-cells low s h)

@@ -2,7 +2,7 @@
 -- Rule: none; laws of lowered programs.
 use Rattle.std.specs.Prelude.{◌≡◌, ℕ, IfSome, List, map, ℤ}
 use Rattle.ob0_tree.specs.Tree.{Tree, module_text}
-use Rattle.ob0_language_names.specs.Names.{Name, as_labels}
+use Rattle.ob0_language_names.specs.Names.{Name, naming_by_label}
 use Rattle.ob0_language_names.specs.Scopes.{numbered}
 use Rattle.ob0_language_types.specs.WellTyped.{WellTyped}
 use Rattle.ob0_language_runs.specs.Runs.{Run, run}
@@ -18,9 +18,9 @@ run_of r = record { output = map written_of r.output; ending = end_of r.ending }
 
 -- States that a program lowered from a well-typed module runs as the module does, for each input
 -- and all bounds, if there is room.
-abbrev pub RunsLowered : Type 0
-RunsLowered =
+abbrev pub LoweringKeepsRuns : Type 0
+LoweringKeepsRuns =
     (m : Tree Name module_text) (program : lowered.LoweredCode) (c t : ℕ) (input : List ℤ)
     → WellTyped m
-    → ProgramMeans as_labels (numbered m) program
+    → ProgramMeans naming_by_label (numbered m) program
     → IfSome (execution.run program input c t) (λ r. run_of r ≡ run m input c t)

@@ -3,7 +3,7 @@
 -- A placement has the names of an environment with their places: a variable is in a slot, a
 -- procedure at a target. The meaning of a block is the record `BlockIsPlaced`, the meaning of a
 -- procedure the record `HasRoutine`; in both the recursive part is a parameter. `IsPlaced` keeps
--- the placement at a procedure's declaration with the procedure's binding, and `PlacingFits`
+-- the placement at a procedure's declaration with the procedure's binding, and `PlacementFits`
 -- recurses over the bindings of the activation with that placement. So no slot has to be translated
 -- back to an outer level. The code of a module has to meet `ProgramMeans` for its numbered tree, by
 -- the laws of productions and by the recursion of `BlockMeans` over declarations. A procedure may
@@ -13,13 +13,13 @@
 -- Rule: none; for contracts of lowering, against docs/LANGUAGE.md, Runs 6.
 use Rattle.std.specs.Prelude.{◌≡◌, ℕ, suc, ◌+◌, ◌≤◌, true, false, List, [], ◌∷◌, drop, slice_get, Some, Option, option_and_then}
 use Rattle.ob0_tree.specs.Tree.{Tree, begins, block, body, declares, declares_procedure, declares_variable, end, has_body, item, items, maybe, module_text, more, none, one, procedure, variable}
-use Rattle.ob0_language_names.specs.Names.{Label, Naming, as_labels}
-use Rattle.ob0_language_names.specs.Parts.{block_constants, block_types, block_variables, constant_names, formal_sections, module_block, named_types, names_listed, procedure_formals, procedure_name}
-use Rattle.ob0_language_types.specs.Declarations.{after_types, after_variables, declare_first, formals_constructors, procedure_constructors}
+use Rattle.ob0_language_names.specs.Names.{Label, Naming, naming_by_label}
+use Rattle.ob0_language_names.specs.Parts.{block_constants, block_types, block_variables, constant_names, formal_sections, module_block, declared_type_names, names_in_list, procedure_formals, procedure_name}
+use Rattle.ob0_language_types.specs.Declarations.{constructor_after_types, constructor_after_variables, declare_first, formals_constructor_count, procedure_constructor_count}
 use Rattle.ob0_language_types.specs.Environments.{meanings, outermost}
 use Rattle.ob0_language_types.specs.Expressions.{Object, a_constant, a_procedure, a_standard, a_type, a_variable}
-use Rattle.ob0_language_types.specs.Typing.{constructors, denoted}
-use Rattle.ob0_language_types.specs.WellTyped.{Mode, Signature, TypeEnvironment, TypedParameter, bind_names, bind_typed, by_place, by_value, declare_typed, heading, typed_parameters}
+use Rattle.ob0_language_types.specs.Typing.{constructor_count, denoted}
+use Rattle.ob0_language_types.specs.WellTyped.{Mode, Signature, TypeEnvironment, TypedParameter, bind_names, bind_typed_parameters, by_place, by_value, declare_typed, bind_procedure, typed_parameters}
 use Rattle.ob0_language_values.specs.Values.{Place, Shape}
 use Rattle.ob0_language_runs.specs.Fitting.{PlaceFits, StoreTyping}
 use Rattle.ob0_language_runs.specs.Runs.{Activation, ProcedureText}
@@ -31,50 +31,50 @@ use Rattle.ob0_run_cells.specs.Lowering.{Slot, held, by_reference, of_module, sl
 
 -- the place of a declaration in lowered code: a slot for a variable, a target for a procedure, or
 -- nowhere for anything else
-pub data Whereabouts : Type 0 where
-  nowhere : Whereabouts
-  in_slot : Slot → Whereabouts
-  at_target : Target → Whereabouts
+pub data BindingPlace : Type 0 where
+  nowhere : BindingPlace
+  in_slot : Slot → BindingPlace
+  at_target : Target → BindingPlace
 
 -- the place of each bound name in lowered code, the newest name first, as in an environment
-abbrev pub Placing : Type 0 → Type 0
-Placing N = List (N × Whereabouts)
+abbrev pub Placement : Type 0 → Type 0
+Placement N = List (N × BindingPlace)
 
 -- the suffix of a placement that begins with the newest binding of a name; empty if there is none
-abbrev pub from_name : {N : Type 0} → Naming N → Placing N → N → Placing N
-from_name naming [] x = []
-from_name naming (b ∷ placing) x =
-    elim (naming.same x b.0) [ true ↦ b ∷ placing | false ↦ from_name naming placing x ]
+abbrev pub suffix_from_name : {N : Type 0} → Naming N → Placement N → N → Placement N
+suffix_from_name naming [] x = []
+suffix_from_name naming (b ∷ placement) x =
+    elim (naming.same x b.0) [ true ↦ b ∷ placement | false ↦ suffix_from_name naming placement x ]
 
 -- the slot of a variable; the module's first cell for anything else
-abbrev pub slot_of : Whereabouts → Slot
+abbrev pub slot_of : BindingPlace → Slot
 slot_of nowhere = of_module 0
 slot_of (in_slot s) = s
 slot_of (at_target t) = of_module 0
 
 -- the target of a procedure; index 0 and level 0 for anything else
-abbrev pub target_of : Whereabouts → Target
+abbrev pub target_of : BindingPlace → Target
 target_of nowhere = record { procedure = 0; up = 0 }
 target_of (in_slot s) = record { procedure = 0; up = 0 }
 target_of (at_target t) = t
 
 -- the slot of the first binding; the module's first cell if there is none
-abbrev pub first_slot : {N : Type 0} → Placing N → Slot
+abbrev pub first_slot : {N : Type 0} → Placement N → Slot
 first_slot [] = of_module 0
-first_slot (b ∷ placing) = slot_of b.1
+first_slot (b ∷ placement) = slot_of b.1
 
 -- the target of the first binding; index 0 and level 0 if there is none
-abbrev pub first_target : {N : Type 0} → Placing N → Target
+abbrev pub first_target : {N : Type 0} → Placement N → Target
 first_target [] = record { procedure = 0; up = 0 }
-first_target (b ∷ placing) = target_of b.1
+first_target (b ∷ placement) = target_of b.1
 
 -- the slot that a name has in a placement
-abbrev pub slots_in : {N : Type 0} → Naming N → Placing N → N → Slot
-slots_in naming placing x = first_slot (from_name naming placing x)
+abbrev pub slot_in_placement : {N : Type 0} → Naming N → Placement N → N → Slot
+slot_in_placement naming placement x = first_slot (suffix_from_name naming placement x)
 
 -- the target that a name has in a placement
-abbrev pub targets_in : {N : Type 0} → Naming N → Placing N → N → Target
-targets_in naming placing x = first_target (from_name naming placing x)
+abbrev pub target_in_placement : {N : Type 0} → Naming N → Placement N → N → Target
+target_in_placement naming placement x = first_target (suffix_from_name naming placement x)
 
 -- a slot, seen from one more level inside
 abbrev pub inward_slot : Slot → Slot
@@ -83,37 +83,37 @@ inward_slot (held up at) = held (suc up) at
 inward_slot (by_reference up at) = by_reference (suc up) at
 
 -- the place of a declaration, seen from one more level inside
-abbrev pub inward_whereabouts : Whereabouts → Whereabouts
-inward_whereabouts nowhere = nowhere
-inward_whereabouts (in_slot s) = in_slot (inward_slot s)
-inward_whereabouts (at_target t) = at_target record t { up = suc t.up }
+abbrev pub inward_binding_place : BindingPlace → BindingPlace
+inward_binding_place nowhere = nowhere
+inward_binding_place (in_slot s) = in_slot (inward_slot s)
+inward_binding_place (at_target t) = at_target record t { up = suc t.up }
 
 -- a placement, seen from one more level inside
-abbrev pub inward : {N : Type 0} → Placing N → Placing N
-inward [] = []
-inward (b ∷ placing) = (b.0, inward_whereabouts b.1) ∷ inward placing
+abbrev pub inward_placement : {N : Type 0} → Placement N → Placement N
+inward_placement [] = []
+inward_placement (b ∷ placement) = (b.0, inward_binding_place b.1) ∷ inward_placement placement
 
 -- the placement so far of the names of an activation, the number of its cells, and the number of
 -- its VAR parameters
 pub record Placed (N : Type 0) : Type 0 where
-  pub placing : Placing N
+  pub placement : Placement N
   pub cells : ℕ
   pub reference_places : ℕ
 
 -- The placement after one more name: a value has n new cells, a VAR parameter has the next index.
-abbrev pub place_one : {N : Type 0} → (ℕ → Slot) → Mode → N → ℕ → Placed N → Placed N
-place_one at by_value x n p =
-    record p { placing = (x, in_slot (at p.cells)) ∷ p.placing; cells = p.cells + n }
-place_one at by_place x n p =
+abbrev pub place_name : {N : Type 0} → (ℕ → Slot) → Mode → N → ℕ → Placed N → Placed N
+place_name at by_value x n p =
+    record p { placement = (x, in_slot (at p.cells)) ∷ p.placement; cells = p.cells + n }
+place_name at by_place x n p =
     record p {
-      placing = (x, in_slot (by_reference 0 p.reference_places)) ∷ p.placing;
+      placement = (x, in_slot (by_reference 0 p.reference_places)) ∷ p.placement;
       reference_places = suc p.reference_places;
     }
 
 -- The placement after names of one type, each in n new cells.
 abbrev pub place_names : {N : Type 0} → (ℕ → Slot) → List N → ℕ → Placed N → Placed N
 place_names at [] n p = p
-place_names at (x ∷ xs) n p = place_names at xs n (place_one at by_value x n p)
+place_names at (x ∷ xs) n p = place_names at xs n (place_name at by_value x n p)
 
 -- The placement after the variables of a block. None if one of their types denotes nothing.
 unfoldable pub place_variables : {N : Type 0}
@@ -128,42 +128,42 @@ unfolding denoted
 place_variables naming at checked k end p = Some p
 place_variables naming at checked k (more (declares_variable ns u) gs) p =
     option_and_then (λ s. place_variables naming at
-    (bind_names (names_listed ns) (a_variable s) checked) (k + constructors u) gs
-    (place_names at (names_listed ns) (size s) p)) (denoted (meanings naming checked) k u)
+    (bind_names (names_in_list ns) (a_variable s) checked) (k + constructor_count u) gs
+    (place_names at (names_in_list ns) (size s) p)) (denoted (meanings naming checked) k u)
 
 -- The placement after these parameters.
 abbrev pub place_parameters : {N : Type 0} → List (TypedParameter N) → Placed N → Placed N
 place_parameters [] p = p
 place_parameters (q ∷ ps) p =
-    place_parameters ps (place_one (held 0) q.formal.mode q.name (size q.formal.shape) p)
+    place_parameters ps (place_name (held 0) q.formal.mode q.name (size q.formal.shape) p)
 
 -- A placement with names added that are nowhere, such as the names of constants and types.
-abbrev pub hide_names : {N : Type 0} → List N → Placing N → Placing N
-hide_names [] placing = placing
-hide_names (x ∷ xs) placing = hide_names xs ((x, nowhere) ∷ placing)
+abbrev pub bind_to_nowhere : {N : Type 0} → List N → Placement N → Placement N
+bind_to_nowhere [] placement = placement
+bind_to_nowhere (x ∷ xs) placement = bind_to_nowhere xs ((x, nowhere) ∷ placement)
 
 -- the target of a procedure with this index, seen from the activation in which it is declared
-abbrev pub own_target : ℕ → Whereabouts
-own_target i = at_target record { procedure = i; up = 0 }
+abbrev pub local_target : ℕ → BindingPlace
+local_target i = at_target record { procedure = i; up = 0 }
 
 -- the placement of a procedure's parameters, followed by the names around the procedure, seen from
 -- one more level inside
-abbrev pub entered_placing : {N : Type 0} → List (TypedParameter N) → Placing N → Placed N
-entered_placing ps placing =
-    place_parameters ps record { placing = inward placing; cells = 0; reference_places = 0 }
+abbrev pub parameter_placement : {N : Type 0} → List (TypedParameter N) → Placement N → Placed N
+parameter_placement ps placement =
+    place_parameters ps record { placement = inward_placement placement; cells = 0; reference_places = 0 }
 
 -- states that code means a body, in the environment in which its statements are checked; without a
 -- body there is no code
 abbrev pub BodyMeans : {N : Type 0}
     → Naming N
     → TypeEnvironment N
-    → Placing N
+    → Placement N
     → lowered.Instructions
     → Tree N (maybe body)
     → Type 0
-BodyMeans naming checked placing code none = code ≡ lowered.no_statement
-BodyMeans naming checked placing code (one (begins statements)) =
-    SequenceMeans (meanings naming checked) (slots_in naming placing) (targets_in naming placing)
+BodyMeans naming checked placement code none = code ≡ lowered.no_statement
+BodyMeans naming checked placement code (one (begins statements)) =
+    SequenceMeans (meanings naming checked) (slot_in_placement naming placement) (target_in_placement naming placement)
     code statements
 
 -- the lowered procedures of a module, and the naming, which says when two names are the same
@@ -173,41 +173,41 @@ pub record RoutineTable (N : Type 0) : Type 0 where
 
 -- the routine table of a module whose names are labels
 abbrev pub label_table : List lowered.Routine → RoutineTable Label
-label_table routines = record { routines = routines; naming = as_labels }
+label_table routines = record { routines = routines; naming = naming_by_label }
 
 -- Runs 6: states that the routine at an index of the table means a procedure, which is declared in
--- the environment `checked` with the placement `placing`
+-- the environment `checked` with the placement `placement`
 pub record HasRoutine {N : Type 0} (table : RoutineTable N) (checked : TypeEnvironment N)
-    (placing : Placing N) (x : N) (k : ℕ) (text : Tree N (item procedure)) (index : ℕ)
+    (placement : Placement N) (x : N) (k : ℕ) (text : Tree N (item procedure)) (index : ℕ)
     (Means : TypeEnvironment N → Placed N → lowered.Routine → Type 0) : Type 0 where
   pub parameters : List (TypedParameter N)
   pub routine : lowered.Routine
   pub are_typed : typed_parameters table.naming checked k (procedure_formals text)
       ≡ Some parameters
   pub in_table : slice_get table.routines index ≡ Some routine
-  pub means : Means (bind_typed parameters (heading x parameters checked))
-      (entered_placing parameters ((x, own_target index) ∷ placing)) routine
+  pub means : Means (bind_typed_parameters parameters (bind_procedure x parameters checked))
+      (parameter_placement parameters ((x, local_target index) ∷ placement)) routine
 
 -- Runs 1 and 6: states that the variables of a block are placed in `cells` cells after the cells of
 -- p; `Inside` is the meaning of its procedures and statements
 pub record BlockIsPlaced {N : Type 0} (table : RoutineTable N) (at : ℕ → Slot)
     (checked : TypeEnvironment N) (p : Placed N) (k cells : ℕ) (b : Tree N block)
-    (Inside : TypeEnvironment N → Placing N → Type 0) : Type 0 where
+    (Inside : TypeEnvironment N → Placement N → Type 0) : Type 0 where
   pub first : TypeEnvironment N
   pub inner : TypeEnvironment N
   pub placed : Placed N
   pub first_declared : declare_first table.naming checked k b ≡ Some first
-  pub variables_declared : declare_typed table.naming (after_types k b) (block_variables b) first
+  pub variables_declared : declare_typed table.naming (constructor_after_types k b) (block_variables b) first
       ≡ Some inner
-  pub variables_placed : place_variables table.naming at first (after_types k b)
+  pub variables_placed : place_variables table.naming at first (constructor_after_types k b)
       (block_variables b) record p {
-        placing
-            = hide_names (named_types (block_types b))
-            (hide_names (constant_names (block_constants b)) p.placing);
+        placement
+            = bind_to_nowhere (declared_type_names (block_types b))
+            (bind_to_nowhere (constant_names (block_constants b)) p.placement);
       }
       ≡ Some placed
   pub cells_counted : p.cells + cells ≡ placed.cells
-  pub inside : Inside inner placed.placing
+  pub inside : Inside inner placed.placement
 
 -- states that a table has the code of the procedures of a block and of the procedures inside them;
 -- `cells` is the number of cells of the block's own variables
@@ -226,28 +226,28 @@ abbrev mutual
       → Type 0
   BlockMeans {N} table at checked p k cells code (has_body (declares cs ts vs ps) statements) =
       BlockIsPlaced table at checked p k cells (has_body (declares cs ts vs ps) statements)
-      (λ inner placing. ProceduresMean table inner placing
-      (after_variables k (has_body (declares cs ts vs ps) statements)) code statements ps)
+      (λ inner placement. ProceduresMean table inner placement
+      (constructor_after_variables k (has_body (declares cs ts vs ps) statements)) code statements ps)
 
   -- Runs 6: states that each procedure has code in the table, and that `code` means the statements
   -- of the block
   pub ProceduresMean : {N : Type 0}
       → RoutineTable N
       → TypeEnvironment N
-      → Placing N
+      → Placement N
       → ℕ
       → lowered.Instructions
       → Tree N (maybe body)
       → Tree N (items procedure)
       → Type 0
-  ProceduresMean table checked placing k code statements end =
-      BodyMeans table.naming checked placing code statements
-  ProceduresMean {N} table checked placing k code statements (more p rest) =
+  ProceduresMean table checked placement k code statements end =
+      BodyMeans table.naming checked placement code statements
+  ProceduresMean {N} table checked placement k code statements (more p rest) =
       (index : ℕ)
-      × (here : HasRoutine table checked placing (procedure_name p) k p index
+      × (here : HasRoutine table checked placement (procedure_name p) k p index
       (λ checked placed routine. ProcedureMeans table checked placed k routine p))
-      × ProceduresMean table (heading (procedure_name p) here.parameters checked)
-      ((procedure_name p, own_target index) ∷ placing) (k + procedure_constructors p) code
+      × ProceduresMean table (bind_procedure (procedure_name p) here.parameters checked)
+      ((procedure_name p, local_target index) ∷ placement) (k + procedure_constructor_count p) code
       statements rest
 
   -- Runs 6: states that a routine means the block of this procedure
@@ -260,7 +260,7 @@ abbrev mutual
       → Tree N (item procedure)
       → Type 0
   ProcedureMeans table checked p k routine (declares_procedure x fs b closing) =
-      BlockMeans table (held 0) checked p (k + formals_constructors (formal_sections fs))
+      BlockMeans table (held 0) checked p (k + formals_constructor_count (formal_sections fs))
       routine.cells routine.body b
 
 -- states that one binding is placed, in front of older ones: the slot of a variable has the address
@@ -270,10 +270,10 @@ abbrev pub IsPlaced : {N : Type 0}
     → StoreTyping
     → Levels
     → TypeEnvironment N
-    → (Levels → Placing N → Type 0)
+    → (Levels → Placement N → Type 0)
     → N
     → Object Shape Signature
-    → Whereabouts
+    → BindingPlace
     → Object Place (ProcedureText N)
     → Type 0
 IsPlaced table typing ls checked Fits x (a_variable s) (in_slot slot) (a_variable p) =
@@ -281,7 +281,7 @@ IsPlaced table typing ls checked Fits x (a_variable s) (in_slot slot) (a_variabl
 IsPlaced {N} table typing ls checked Fits x (a_procedure signature) (at_target t)
     (a_procedure code)
     =
-    (outer : Placing N)
+    (outer : Placement N)
     × Fits (drop t.up ls) outer
     × HasRoutine table checked outer x code.first_constructor code.text t.procedure
     (λ checked placed routine. ProcedureMeans table checked placed code.first_constructor routine
@@ -302,25 +302,25 @@ pub record FitsFirst {N : Type 0} (checked placed active : N) (Here Further : Ty
 
 -- Runs 1 and 6: states that a placement is right for the bindings of an activation, as seen from
 -- these levels
-abbrev pub PlacingFits : {N : Type 0}
+abbrev pub PlacementFits : {N : Type 0}
     → RoutineTable N
     → StoreTyping
     → Levels
     → TypeEnvironment N
-    → Placing N
+    → Placement N
     → Activation N
     → Type 0
-PlacingFits table typing ls [] [] [] = Unit {0}
-PlacingFits table typing ls (b ∷ checked) (w ∷ placing) (d ∷ active) =
+PlacementFits table typing ls [] [] [] = Unit {0}
+PlacementFits table typing ls (b ∷ checked) (w ∷ placement) (d ∷ active) =
     FitsFirst b.0 w.0 d.0
     (IsPlaced table typing ls checked
-    (λ ls placing. PlacingFits table typing ls checked placing active) b.0 b.1 w.1 d.1)
-    (PlacingFits table typing ls checked placing active)
-PlacingFits table typing ls _ _ _ = ⊥
+    (λ ls placement. PlacementFits table typing ls checked placement active) b.0 b.1 w.1 d.1)
+    (PlacementFits table typing ls checked placement active)
+PlacementFits table typing ls _ _ _ = ⊥
 
 -- the placement of the predeclared names, which are nowhere
-abbrev pub outermost_placing : {N : Type 0} → Naming N → Placing N
-outermost_placing naming =
+abbrev pub outermost_placement : {N : Type 0} → Naming N → Placement N
+outermost_placement naming =
     (naming.predeclared 6, nowhere)
     ∷ (naming.predeclared 5, nowhere)
     ∷ (naming.predeclared 4, nowhere)
@@ -340,5 +340,5 @@ abbrev pub ProgramMeans : {N : Type 0}
 ProgramMeans naming m program =
     BlockMeans record { routines = program.procedures; naming = naming } of_module
     (outermost naming) record
-    { placing = outermost_placing naming; cells = 0; reference_places = 0 } 0 program.cells
+    { placement = outermost_placement naming; cells = 0; reference_places = 0 } 0 program.cells
     program.body (module_block m)

@@ -51,9 +51,9 @@ abbrev mutual
   field_sizes (next_field_shape x s rest) = size s + field_sizes rest
 
 -- the number of cells of all variables in a store with these types
-abbrev pub sizes : StoreTyping → ℕ
-sizes [] = 0
-sizes (s ∷ typing) = size s + sizes typing
+abbrev pub store_size : StoreTyping → ℕ
+store_size [] = 0
+store_size (s ∷ typing) = size s + store_size typing
 
 -- the offset of a field in its record: the number of cells of the fields before it
 abbrev pub field_offset : FieldShapes → Name → ℕ
@@ -77,7 +77,7 @@ offset (step ∷ path) s =
 -- the address of a place: the offset of its first cell among the cells of a store
 abbrev pub address : StoreTyping → Place → ℕ
 address typing p =
-    sizes (take p.variable typing)
+    store_size (take p.variable typing)
     + unwrap_or (option_map (offset p.path) (slice_get typing p.variable)) 0
 
 -- the n cells that begin at an address
@@ -85,5 +85,5 @@ abbrev pub cells_at : ℕ → ℕ → List ℤ → List ℤ
 cells_at address n cells = take n (drop address cells)
 
 -- the cells after new cells were written over the cells at an address
-abbrev pub cells_with : ℕ → List ℤ → List ℤ → List ℤ
-cells_with address new cells = take address cells ++ (new ++ drop (address + length new) cells)
+abbrev pub overwritten_cells : ℕ → List ℤ → List ℤ → List ℤ
+overwritten_cells address new cells = take address cells ++ (new ++ drop (address + length new) cells)

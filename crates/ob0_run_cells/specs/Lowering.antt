@@ -1,8 +1,8 @@
 -- The meaning of lowered places, numbers and truths: they give the places and values of a module's
 -- designators and expressions, at each moment of a run.
--- A meaning is a relation between lowered code and a function of the moment (`Evaluated`), not a
+-- A meaning is a relation between lowered code and a function of the moment (`OutcomeByMoment`), not a
 -- tree. So operators need no types: a number of lowered code means a number. Only places and
--- variables need types. The value of an array or a record is in the cells at a place (`ValueAt`),
+-- variables need types. The value of an array or a record is in the cells at a place (`HoldsValue`),
 -- even if its expression is in parentheses. Only a VAR argument has to be a designator without
 -- operators (`IsAt`). While arguments are passed, their cells follow the cells of the store
 -- (`passed` of a moment), so a meaning also holds then. A sign `+` is lowered to a sum with 0,
@@ -13,13 +13,13 @@ use Rattle.ob0_tree.specs.declared.tree.Relation.{Relation}
 use Rattle.ob0_tree.specs.declared.tree.Relation.TheVariants as relation
 use Rattle.ob0_tree.specs.Tree.{Tree, addend, expression, factor, items, multiplier, selector, simple, term}
 use Rattle.ob0_language_types.specs.Expressions.{Meanings, a_variable, designate, evaluate, evaluate_addends, evaluate_factor, evaluate_multipliers, evaluate_simple, evaluate_term, follow}
-use Rattle.ob0_language_types.specs.WellTyped.{Mode, Typed}
+use Rattle.ob0_language_types.specs.WellTyped.{Mode, TypeMeanings}
 use Rattle.ob0_language_values.specs.Values.{CallBound, Divisor, Done, End, Index, InputEnd, Outcome, Overflow, Place, Shape, Step, Store, TurnBound, Value, ends, gives, number, or_stuck, read_place, truth, ◌>>=◌}
 use Rattle.ob0_language_runs.specs.Fitting.{MeaningsFit, PlaceFits, StoreFits, StoreTyping}
 use Rattle.ob0_run_machine.specs.Evaluation as machine
 use Rattle.ob0_run_machine.specs.Evaluation.{Levels, level_at}
 use Rattle.ob0_run_machine.specs.Lowered as lowered
-use Rattle.ob0_run_cells.specs.Cells.{address, all_cells, sizes}
+use Rattle.ob0_run_cells.specs.Cells.{address, all_cells, store_size}
 
 -- the slot of a variable: an offset in the cells of the module or of the activation `up` levels
 -- out; or a VAR parameter of the activation `up` levels out, by its index among the VAR parameters
@@ -43,11 +43,11 @@ slot_place (by_reference up index) = lowered.passed up index 0
 
 -- the place at an offset within another place
 abbrev pub part_at : lowered.Place → ℕ → lowered.Place
-part_at (lowered.in_module at) k = lowered.in_module (machine.forward at k)
-part_at (lowered.here at) k = lowered.here (machine.forward at k)
-part_at (lowered.outside up at) k = lowered.outside up (machine.forward at k)
-part_at (lowered.passed up index at) k = lowered.passed up index (machine.forward at k)
-part_at (lowered.element q i n s at) k = lowered.element q i n s (machine.forward at k)
+part_at (lowered.in_module at) k = lowered.in_module (machine.add_offset at k)
+part_at (lowered.here at) k = lowered.here (machine.add_offset at k)
+part_at (lowered.outside up at) k = lowered.outside up (machine.add_offset at k)
+part_at (lowered.passed up index at) k = lowered.passed up index (machine.add_offset at k)
+part_at (lowered.element q i n s at) k = lowered.element q i n s (machine.add_offset at k)
 
 -- a moment of a run: the store and its types, the cells of arguments that are being passed, the
 -- meanings of names, and the activations that lowered code sees
@@ -64,13 +64,13 @@ cells_in m = all_cells m.store ++ m.passed
 
 -- states that a moment belongs to a checked module: its store and names fit, its variables are in
 -- their slots, and it has fewer cells than addresses
-pub record Shows {N : Type 0} (checked : Typed N) (slots : N → Slot) (m : Moment N) : Type 0 where
+pub record Shows {N : Type 0} (checked : TypeMeanings N) (slots : N → Slot) (m : Moment N) : Type 0 where
   pub store_fits : StoreFits m.typing m.store
   pub names_fit : MeaningsFit m.typing checked m.active
   pub variables_in_slots : (x : N) (p : Place)
       → m.active.object_for x ≡ Some (a_variable p)
       → slot_address m.levels (slots x) ≡ address m.typing p
-  pub has_addresses : sizes m.typing < 2 ^ 64
+  pub has_addresses : store_size m.typing < 2 ^ 64
 
 -- the end of a run that an end of a lowered run stands for
 abbrev pub end_of : machine.Halt → End
@@ -88,16 +88,16 @@ outcome_of f (machine.gives a) = gives (f a)
 outcome_of f (machine.ends e) = ends (end_of e)
 
 -- an evaluation: the outcome at each moment
-abbrev pub Evaluated : Type 0 → Type 0 → Type 0
-Evaluated N A = Moment N → Outcome A
+abbrev pub OutcomeByMoment : Type 0 → Type 0 → Type 0
+OutcomeByMoment N A = Moment N → Outcome A
 
 -- states that a number of lowered code has the outcome of an evaluation at each moment of the
 -- module
 abbrev pub NumberMeans : {N : Type 0}
-    → Typed N
+    → TypeMeanings N
     → (N → Slot)
     → lowered.Number
-    → Evaluated N Value
+    → OutcomeByMoment N Value
     → Type 0
 NumberMeans {N} checked slots n value =
     (m : Moment N)
@@ -106,10 +106,10 @@ NumberMeans {N} checked slots n value =
 
 -- states that a truth of lowered code has the outcome of an evaluation at each moment of the module
 abbrev pub TruthMeans : {N : Type 0}
-    → Typed N
+    → TypeMeanings N
     → (N → Slot)
     → lowered.Truth
-    → Evaluated N Value
+    → OutcomeByMoment N Value
     → Type 0
 TruthMeans {N} checked slots t value =
     (m : Moment N)
@@ -117,59 +117,59 @@ TruthMeans {N} checked slots t value =
     → outcome_of truth (machine.truth m.levels (cells_in m) t) ≡ value m
 
 -- States that an outcome is an end of the run, or a place that holds values of a type.
-abbrev pub GivesPlace : StoreTyping → Shape → Outcome Place → Type 0
-GivesPlace typing s (gives p) = PlaceFits typing p s
-GivesPlace typing s (ends e) = Unit {0}
+abbrev pub PlaceOutcomeFits : StoreTyping → Shape → Outcome Place → Type 0
+PlaceOutcomeFits typing s (gives p) = PlaceFits typing p s
+PlaceOutcomeFits typing s (ends e) = Unit {0}
 
 -- states that a place of lowered code has the address of an evaluated place, which holds values of
 -- a type
 abbrev pub PlaceMeans : {N : Type 0}
-    → Typed N
+    → TypeMeanings N
     → (N → Slot)
     → lowered.Place
     → Shape
-    → Evaluated N Place
+    → OutcomeByMoment N Place
     → Type 0
 PlaceMeans {N} checked slots q s value =
     (m : Moment N) → Shows checked slots m
     → (outcome_of (λ a. a) (machine.address m.levels (cells_in m) q)
     ≡ (value m >>= (λ p. gives (address m.typing p))))
-    × GivesPlace m.typing s (value m)
+    × PlaceOutcomeFits m.typing s (value m)
 
 -- states that an evaluated value of a type is the value in the store at the place that a place of
 -- lowered code means
-abbrev pub ValueAt : {N : Type 0}
-    → Typed N
+abbrev pub HoldsValue : {N : Type 0}
+    → TypeMeanings N
     → (N → Slot)
     → lowered.Place
     → Shape
-    → Evaluated N Value
+    → OutcomeByMoment N Value
     → Type 0
-ValueAt {N} checked slots q s value =
-    (place : Evaluated N Place)
+HoldsValue {N} checked slots q s value =
+    (place : OutcomeByMoment N Place)
     × PlaceMeans checked slots q s place
     × ((m : Moment N)
     → Shows checked slots m
     → value m ≡ (place m >>= (λ p. or_stuck (read_place m.store p))))
 
 -- the value of an expression at a moment
-abbrev pub value_of_expression : {N : Type 0} → Tree N expression → Evaluated N Value
+abbrev pub value_of_expression : {N : Type 0} → Tree N expression → OutcomeByMoment N Value
 value_of_expression e m = evaluate m.active m.store e
 
 -- the value of a simple expression at a moment
-abbrev pub value_of_simple : {N : Type 0} → Tree N simple → Evaluated N Value
+abbrev pub value_of_simple : {N : Type 0} → Tree N simple → OutcomeByMoment N Value
 value_of_simple e m = evaluate_simple m.active m.store e
 
 -- the value of a term at a moment
-abbrev pub value_of_term : {N : Type 0} → Tree N term → Evaluated N Value
+abbrev pub value_of_term : {N : Type 0} → Tree N term → OutcomeByMoment N Value
 value_of_term e m = evaluate_term m.active m.store e
 
 -- the value of a factor at a moment
-abbrev pub value_of_factor : {N : Type 0} → Tree N factor → Evaluated N Value
+abbrev pub value_of_factor : {N : Type 0} → Tree N factor → OutcomeByMoment N Value
 value_of_factor e m = evaluate_factor m.active m.store e
 
 -- the place of a designator at a moment
-abbrev pub place_of_designator : {N : Type 0} → N → Tree N (items selector) → Evaluated N Place
+abbrev pub place_of_designator : {N : Type 0} → N → Tree N (items selector) → OutcomeByMoment N Place
 place_of_designator x path m = designate m.active m.store x path
 
 -- the rest of a chain: the outcome of the remaining operators or selectors, as a function of the
@@ -178,71 +178,71 @@ abbrev pub RestOfChain : Type 0 → Type 0 → Type 0
 RestOfChain N A = Moment N → A → Outcome A
 
 -- the outcome of the remaining addends at a moment, from the value so far
-abbrev pub addends_left : {N : Type 0} → Tree N (items addend) → RestOfChain N Value
-addends_left rest m v = evaluate_addends m.active m.store v rest
+abbrev pub remaining_addends : {N : Type 0} → Tree N (items addend) → RestOfChain N Value
+remaining_addends rest m v = evaluate_addends m.active m.store v rest
 
 -- the outcome of the remaining factors at a moment, from the value so far
-abbrev pub multipliers_left : {N : Type 0} → Tree N (items multiplier) → RestOfChain N Value
-multipliers_left rest m v = evaluate_multipliers m.active m.store v rest
+abbrev pub remaining_multipliers : {N : Type 0} → Tree N (items multiplier) → RestOfChain N Value
+remaining_multipliers rest m v = evaluate_multipliers m.active m.store v rest
 
 -- a place with more steps at the end of its path
-abbrev pub further : Place → List Step → Place
-further p steps = record { variable = p.variable; path = p.path ++ steps }
+abbrev pub extended_place : Place → List Step → Place
+extended_place p steps = record { variable = p.variable; path = p.path ++ steps }
 
 -- the outcome of the remaining selectors at a moment, from the place so far
-abbrev pub selectors_left : {N : Type 0} → Tree N (items selector) → RestOfChain N Place
-selectors_left rest m p =
+abbrev pub remaining_selectors : {N : Type 0} → Tree N (items selector) → RestOfChain N Place
+remaining_selectors rest m p =
     or_stuck (read_place m.store p) >>=
-    (λ v. follow m.active m.store v rest >>= (λ steps. gives (further p steps)))
+    (λ v. follow m.active m.store v rest >>= (λ steps. gives (extended_place p steps)))
 
 -- states that some evaluation that `Means` describes, followed by the rest of a chain, is the
 -- evaluation of the whole
-abbrev pub Leads : {N A : Type 0}
-    → Typed N
+abbrev pub StartsChain : {N A : Type 0}
+    → TypeMeanings N
     → (N → Slot)
-    → (Evaluated N A → Type 0)
+    → (OutcomeByMoment N A → Type 0)
     → RestOfChain N A
-    → Evaluated N A
+    → OutcomeByMoment N A
     → Type 0
-Leads {N} {A} checked slots Means rest whole =
-    (so_far : Evaluated N A)
+StartsChain {N} {A} checked slots Means rest whole =
+    (so_far : OutcomeByMoment N A)
     × Means so_far
     × ((m : Moment N) → Shows checked slots m → (so_far m >>= rest m) ≡ whole m)
 
 -- States that a place of lowered code means a place so far, which with the remaining selectors
 -- gives the whole designator.
-abbrev pub PlaceLeads : {N : Type 0}
-    → Typed N
+abbrev pub PlaceStartsChain : {N : Type 0}
+    → TypeMeanings N
     → (N → Slot)
     → lowered.Place
     → Shape
     → Tree N (items selector)
-    → Evaluated N Place
+    → OutcomeByMoment N Place
     → Type 0
-PlaceLeads checked slots q s rest =
-    Leads checked slots (PlaceMeans checked slots q s) (selectors_left rest)
+PlaceStartsChain checked slots q s rest =
+    StartsChain checked slots (PlaceMeans checked slots q s) (remaining_selectors rest)
 
 -- States that a number of lowered code means a number so far, which with the rest of a chain gives
 -- the whole.
-abbrev pub NumberLeads : {N : Type 0}
-    → Typed N
+abbrev pub NumberStartsChain : {N : Type 0}
+    → TypeMeanings N
     → (N → Slot)
     → lowered.Number
     → RestOfChain N Value
-    → Evaluated N Value
+    → OutcomeByMoment N Value
     → Type 0
-NumberLeads checked slots n = Leads checked slots (NumberMeans checked slots n)
+NumberStartsChain checked slots n = StartsChain checked slots (NumberMeans checked slots n)
 
 -- States that a truth of lowered code means a truth so far, which with the rest of a chain gives
 -- the whole.
-abbrev pub TruthLeads : {N : Type 0}
-    → Typed N
+abbrev pub TruthStartsChain : {N : Type 0}
+    → TypeMeanings N
     → (N → Slot)
     → lowered.Truth
     → RestOfChain N Value
-    → Evaluated N Value
+    → OutcomeByMoment N Value
     → Type 0
-TruthLeads checked slots t = Leads checked slots (TruthMeans checked slots t)
+TruthStartsChain checked slots t = StartsChain checked slots (TruthMeans checked slots t)
 
 -- the machine's relation that a relation of the language stands for
 abbrev pub relation_of : Relation → lowered.Comparator

@@ -1,9 +1,9 @@
 //! The law about runs of lowered programs, as the contract of a function that does nothing.
 
-ghost use Rattle.ob0_run_cells.specs.ActivationLaws.{RunsLowered};
+ghost use Rattle.ob0_run_cells.specs.ActivationLaws.{LoweringKeepsRuns};
 
 /// States that a program lowered from a well-typed module runs as the module does, if the run has
 /// room.
-pub fn runs_lowered()
-    ensures { RunsLowered }
+pub fn lowering_keeps_runs()
+    ensures { LoweringKeepsRuns }
 {}

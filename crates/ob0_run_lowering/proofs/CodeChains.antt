@@ -6,9 +6,9 @@ use Rattle.ob0_tree.specs.Tree.{Tree, Item, addend, adds, item, items, end, fiel
 use Rattle.ob0_tree.specs.View.{items_of}
 use Rattle.ob0_language_names.specs.Names.{Label}
 use Rattle.ob0_scope_table.specs.Resolution.{Resolution}
-use Rattle.ob0_scope_table.specs.InLabels.{in_labels}
-use Rattle.ob0_run_lowering.specs.Codes.{ExpressionCode, FoundPlace, added, multiplied}
-use Rattle.ob0_run_lowering.specs.Trees.{addends_code, factor_code, multipliers_code, selected_once, selected_place, term_code}
+use Rattle.ob0_scope_table.specs.LabelledTrees.{tree_with_labels}
+use Rattle.ob0_run_lowering.specs.Codes.{ExpressionCode, FoundPlace, addition_code, multiplication_code}
+use Rattle.ob0_run_lowering.specs.Trees.{addends_code, factor_code, multipliers_code, place_after_selector, selected_place, term_code}
 use Rattle.ob0_run_lowering.specs.declared.scene.Scene.{Scene}
 
 pub record IsFold {X : Type 0} {i : Item} (chain : X → Tree Label (items i) → X) (step : X → Tree Label (item i) → X) : Type 0 where
@@ -16,47 +16,47 @@ pub record IsFold {X : Type 0} {i : Item} (chain : X → Tree Label (items i) �
   pub stepped : (x : X) (t : Tree Label (item i)) (ts : Tree Label (items i)) → chain x (more t ts) ≡ chain (step x t) ts
 
 pub record Folded {X A : Type 0} {i : Item} (chain : X → Tree Label (items i) → X) (r : Resolution) (f : A → Tree ℕ (item i)) (start : X) (xs : List A) (done : ℕ) (out : X) : Type 0 where
-  pub so_far : chain out (in_labels r (items_of f (drop done xs))) ≡ chain start (in_labels r (items_of f xs))
+  pub so_far : chain out (tree_with_labels r (items_of f (drop done xs))) ≡ chain start (tree_with_labels r (items_of f xs))
 
 pub fold_goes_on : {X A : Type 0} {i : Item} {chain : X → Tree Label (items i) → X} {step : X → Tree Label (item i) → X} {r : Resolution} {f : A → Tree ℕ (item i)} {start : X} {xs : List A} {done : ℕ} {out : X} (x : A) (next : X)
-    → IsFold chain step → Folded chain r f start xs done out → done < length xs → x ≡ get_or xs done x → next ≡ step out (in_labels r (f x)) → Folded chain r f start xs (done + 1) next
+    → IsFold chain step → Folded chain r f start xs done out → done < length xs → x ≡ get_or xs done x → next ≡ step out (tree_with_labels r (f x)) → Folded chain r f start xs (done + 1) next
 fold_goes_on {chain = chain} {step = step} {r = r} {f = f} {xs = xs} {done = done} {out = out} x next h c less here given =
     let split : drop done xs ≡ x ∷ drop (done + 1) xs = drop_more xs done x less ∙ ap (λ y. y ∷ drop (done + 1) xs) (sym here) in
     record {
-      so_far = ap (λ y. chain y (in_labels r (items_of f (drop (done + 1) xs)))) given
-          ∙ sym (h.stepped out (in_labels r (f x)) (in_labels r (items_of f (drop (done + 1) xs))))
-          ∙ sym (ap (λ ys. chain out (in_labels r (items_of f ys))) split)
+      so_far = ap (λ y. chain y (tree_with_labels r (items_of f (drop (done + 1) xs)))) given
+          ∙ sym (h.stepped out (tree_with_labels r (f x)) (tree_with_labels r (items_of f (drop (done + 1) xs))))
+          ∙ sym (ap (λ ys. chain out (tree_with_labels r (items_of f ys))) split)
           ∙ c.so_far;
     }
 
 pub fold_ends : {X A : Type 0} {i : Item} {chain : X → Tree Label (items i) → X} {step : X → Tree Label (item i) → X} {r : Resolution} {f : A → Tree ℕ (item i)} {start : X} {xs : List A} {done : ℕ} {out : X}
-    → IsFold chain step → Folded chain r f start xs done out → length xs ≤ done → out ≡ chain start (in_labels r (items_of f xs))
+    → IsFold chain step → Folded chain r f start xs done out → length xs ≤ done → out ≡ chain start (tree_with_labels r (items_of f xs))
 fold_ends {chain = chain} {r = r} {f = f} {xs = xs} {done = done} {out = out} h c all =
-    sym (h.ended out) ∙ sym (ap (λ ys. chain out (in_labels r (items_of f ys))) (drop_all done xs all)) ∙ c.so_far
+    sym (h.ended out) ∙ sym (ap (λ ys. chain out (tree_with_labels r (items_of f ys))) (drop_all done xs all)) ∙ c.so_far
 
 -- the chains of codes
 
 abbrev pub added_once : Scene → ExpressionCode → Tree Label (item addend) → ExpressionCode
-added_once scene c (adds o t) = added o c (term_code scene t)
+added_once scene c (adds o t) = addition_code o c (term_code scene t)
 
 abbrev pub multiplied_once : Scene → ExpressionCode → Tree Label (item multiplier) → ExpressionCode
-multiplied_once scene c (multiplies o f) = multiplied o c (factor_code scene f)
+multiplied_once scene c (multiplies o f) = multiplication_code o c (factor_code scene f)
 
-added-stepped : (scene : Scene) (c : ExpressionCode) (t : Tree Label (item addend)) (ts : Tree Label (items addend)) → addends_code scene c (more t ts) ≡ addends_code scene (added_once scene c t) ts
-added-stepped scene c (adds o t) ts = refl
+addition_code-stepped : (scene : Scene) (c : ExpressionCode) (t : Tree Label (item addend)) (ts : Tree Label (items addend)) → addends_code scene c (more t ts) ≡ addends_code scene (added_once scene c t) ts
+addition_code-stepped scene c (adds o t) ts = refl
 
-multiplied-stepped : (scene : Scene) (c : ExpressionCode) (t : Tree Label (item multiplier)) (ts : Tree Label (items multiplier)) → multipliers_code scene c (more t ts) ≡ multipliers_code scene (multiplied_once scene c t) ts
-multiplied-stepped scene c (multiplies o f) ts = refl
+multiplication_code-stepped : (scene : Scene) (c : ExpressionCode) (t : Tree Label (item multiplier)) (ts : Tree Label (items multiplier)) → multipliers_code scene c (more t ts) ≡ multipliers_code scene (multiplied_once scene c t) ts
+multiplication_code-stepped scene c (multiplies o f) ts = refl
 
-selected-stepped : (scene : Scene) (o : Option FoundPlace) (t : Tree Label (item selector)) (ts : Tree Label (items selector)) → selected_place scene o (more t ts) ≡ selected_place scene (selected_once scene o t) ts
+selected-stepped : (scene : Scene) (o : Option FoundPlace) (t : Tree Label (item selector)) (ts : Tree Label (items selector)) → selected_place scene o (more t ts) ≡ selected_place scene (place_after_selector scene o t) ts
 selected-stepped scene o (field x) ts = refl
 selected-stepped scene o (index e) ts = refl
 
 pub added_fold : (scene : Scene) → IsFold (addends_code scene) (added_once scene)
-added_fold scene = record { ended = λ c. refl; stepped = added-stepped scene }
+added_fold scene = record { ended = λ c. refl; stepped = addition_code-stepped scene }
 
 pub multiplied_fold : (scene : Scene) → IsFold (multipliers_code scene) (multiplied_once scene)
-multiplied_fold scene = record { ended = λ c. refl; stepped = multiplied-stepped scene }
+multiplied_fold scene = record { ended = λ c. refl; stepped = multiplication_code-stepped scene }
 
-pub selected_fold : (scene : Scene) → IsFold (selected_place scene) (selected_once scene)
+pub selected_fold : (scene : Scene) → IsFold (selected_place scene) (place_after_selector scene)
 selected_fold scene = record { ended = λ o. refl; stepped = selected-stepped scene }

@@ -11,116 +11,116 @@ use Rattle.ob0_tree.specs.declared.tree.MultiplyOperator.TheVariants as multiply
 use Rattle.ob0_tree.specs.Tree.{Tree, addend, adds, compares, end, expression, factor, items, more, multiplier, multiplies, negation, none, one, parenthesised, product, relates, simple, sum, term}
 use Rattle.ob0_language_names.specs.Names.{Label}
 use Rattle.ob0_language_types.specs.Expressions.{evaluate}
-use Rattle.ob0_language_types.specs.Typing.{add_type, complement_type, multiply_type, relation_type, sign_type}
-use Rattle.ob0_language_types.specs.WellTyped.{Typed}
+use Rattle.ob0_language_types.specs.Typing.{addition_type, negation_type, multiplication_type, relation_type, sign_type}
+use Rattle.ob0_language_types.specs.WellTyped.{TypeMeanings}
 use Rattle.ob0_language_types.proofs.Literals.{some_inverse}
 use Rattle.ob0_language_values.specs.Values.{Outcome, Shape, Value, array_shape, boolean_shape, ends, gives, integer_shape, record_shape, ◌>>=◌}
 use Rattle.ob0_run_machine.specs.Lowered as lowered
 use Rattle.ob0_run_cells.specs.Cells.{size}
-use Rattle.ob0_run_cells.specs.Lowering.{Evaluated, Leads, NumberLeads, NumberMeans, RestOfChain, Slot, TruthLeads, TruthMeans, ValueAt, addends_left, multipliers_left, value_of_expression, value_of_factor, value_of_simple, value_of_term}
+use Rattle.ob0_run_cells.specs.Lowering.{OutcomeByMoment, StartsChain, NumberStartsChain, NumberMeans, RestOfChain, Slot, TruthStartsChain, TruthMeans, HoldsValue, remaining_addends, remaining_multipliers, value_of_expression, value_of_factor, value_of_simple, value_of_term}
 use Rattle.ob0_run_cells.proofs.LoweredNumbers as numbers
 use Rattle.ob0_run_cells.proofs.LoweredOutcomes.{difference-operates, product-operates, quotient-operates, remainder-operates, sum-operates}
 use Rattle.ob0_run_cells.proofs.LoweredTruths as truths
-use Rattle.ob0_run_lowering.specs.Codes.{ExpressionCode, CodeMeans, a_block, a_number, a_truth, added, multiplied, negated, related, signed}
+use Rattle.ob0_run_lowering.specs.Codes.{ExpressionCode, CodeMeans, a_block, a_number, a_truth, addition_code, multiplication_code, negation_code, related, signed_code}
 
 -- a code so far, and what is left of a chain
-abbrev pub CodeLeads : Typed Label → (Label → Slot) → ExpressionCode → Shape → RestOfChain Label Value → Evaluated Label Value → Type 0
-CodeLeads checked slots (a_number n) integer_shape rest whole = NumberLeads checked slots n rest whole
-CodeLeads checked slots (a_truth t) boolean_shape rest whole = TruthLeads checked slots t rest whole
-CodeLeads checked slots (a_block q n) (array_shape k m s) rest whole = (n ≡ size (array_shape k m s)) × Leads checked slots (ValueAt checked slots q (array_shape k m s)) rest whole
-CodeLeads checked slots (a_block q n) (record_shape k fs) rest whole = (n ≡ size (record_shape k fs)) × Leads checked slots (ValueAt checked slots q (record_shape k fs)) rest whole
+abbrev pub CodeLeads : TypeMeanings Label → (Label → Slot) → ExpressionCode → Shape → RestOfChain Label Value → OutcomeByMoment Label Value → Type 0
+CodeLeads checked slots (a_number n) integer_shape rest whole = NumberStartsChain checked slots n rest whole
+CodeLeads checked slots (a_truth t) boolean_shape rest whole = TruthStartsChain checked slots t rest whole
+CodeLeads checked slots (a_block q n) (array_shape k m s) rest whole = (n ≡ size (array_shape k m s)) × StartsChain checked slots (HoldsValue checked slots q (array_shape k m s)) rest whole
+CodeLeads checked slots (a_block q n) (record_shape k fs) rest whole = (n ≡ size (record_shape k fs)) × StartsChain checked slots (HoldsValue checked slots q (record_shape k fs)) rest whole
 CodeLeads checked slots _ _ rest whole = ⊥
 
 -- two codes with their variants, and a type
 two-codes : (P : ExpressionCode → ExpressionCode → Shape → Type 0) {c d c' d' : ExpressionCode} {z z' : Shape} → c ≡ c' → d ≡ d' → Some z' ≡ Some z → P c' d' z' → P c d z
 two-codes P {c = c} {d = d} {c' = c'} {d' = d'} {z = z} {z' = z'} ec ed ez h = subst (λ z. P c d z) (some_inverse ez) (subst (λ c. P c d z') (sym ec) (subst (λ d. P c' d z') (sym ed) h))
 
-module _ (checked : Typed Label) (slots : Label → Slot) where
+module _ (checked : TypeMeanings Label) (slots : Label → Slot) where
   -- the code of an INTEGER is a number, that of a BOOLEAN a truth
-  pub number-code : (c : ExpressionCode) (value : Evaluated Label Value) → CodeMeans checked slots c integer_shape value → (n : lowered.Number) × (c ≡ a_number n) × NumberMeans checked slots n value
+  pub number-code : (c : ExpressionCode) (value : OutcomeByMoment Label Value) → CodeMeans checked slots c integer_shape value → (n : lowered.Number) × (c ≡ a_number n) × NumberMeans checked slots n value
   number-code (a_number n) value h = (n, refl, h)
   number-code _ value h = absurd h
 
-  pub truth-code : (c : ExpressionCode) (value : Evaluated Label Value) → CodeMeans checked slots c boolean_shape value → (t : lowered.Truth) × (c ≡ a_truth t) × TruthMeans checked slots t value
+  pub truth-code : (c : ExpressionCode) (value : OutcomeByMoment Label Value) → CodeMeans checked slots c boolean_shape value → (t : lowered.Truth) × (c ≡ a_truth t) × TruthMeans checked slots t value
   truth-code (a_truth t) value h = (t, refl, h)
   truth-code _ value h = absurd h
 
-  pub number-leads : (c : ExpressionCode) (rest : RestOfChain Label Value) (whole : Evaluated Label Value) → CodeLeads checked slots c integer_shape rest whole → (n : lowered.Number) × (c ≡ a_number n) × NumberLeads checked slots n rest whole
+  pub number-leads : (c : ExpressionCode) (rest : RestOfChain Label Value) (whole : OutcomeByMoment Label Value) → CodeLeads checked slots c integer_shape rest whole → (n : lowered.Number) × (c ≡ a_number n) × NumberStartsChain checked slots n rest whole
   number-leads (a_number n) rest whole h = (n, refl, h)
   number-leads _ rest whole h = absurd h
 
-  pub truth-leads : (c : ExpressionCode) (rest : RestOfChain Label Value) (whole : Evaluated Label Value) → CodeLeads checked slots c boolean_shape rest whole → (t : lowered.Truth) × (c ≡ a_truth t) × TruthLeads checked slots t rest whole
+  pub truth-leads : (c : ExpressionCode) (rest : RestOfChain Label Value) (whole : OutcomeByMoment Label Value) → CodeLeads checked slots c boolean_shape rest whole → (t : lowered.Truth) × (c ≡ a_truth t) × TruthStartsChain checked slots t rest whole
   truth-leads (a_truth t) rest whole h = (t, refl, h)
   truth-leads _ rest whole h = absurd h
 
-  module _ (e : Tree Label term) (rest : Tree Label (items addend)) (whole : Evaluated Label Value) where
+  module _ (e : Tree Label term) (rest : Tree Label (items addend)) (whole : OutcomeByMoment Label Value) where
     abbrev AddedLeads : AddOperator → ExpressionCode → ExpressionCode → Shape → Type 0
-    AddedLeads o c d z = CodeLeads checked slots (added o c d) z (addends_left rest) whole
+    AddedLeads o c d z = CodeLeads checked slots (addition_code o c d) z (remaining_addends rest) whole
 
-    numbers-added : (o : AddOperator) (c d : ExpressionCode) (z : Shape) → ((m n : lowered.Number) → NumberMeans checked slots n (value_of_term e) → NumberLeads checked slots m (addends_left (more (adds o e) rest)) whole → AddedLeads o (a_number m) (a_number n) integer_shape)
-        → Some integer_shape ≡ Some z → CodeLeads checked slots c integer_shape (addends_left (more (adds o e) rest)) whole → CodeMeans checked slots d integer_shape (value_of_term e) → AddedLeads o c d z
-    numbers-added o c d z step h hc hd =
-        let (m, em, hm) = number-leads c (addends_left (more (adds o e) rest)) whole hc in
+    numbers-addition_code : (o : AddOperator) (c d : ExpressionCode) (z : Shape) → ((m n : lowered.Number) → NumberMeans checked slots n (value_of_term e) → NumberStartsChain checked slots m (remaining_addends (more (adds o e) rest)) whole → AddedLeads o (a_number m) (a_number n) integer_shape)
+        → Some integer_shape ≡ Some z → CodeLeads checked slots c integer_shape (remaining_addends (more (adds o e) rest)) whole → CodeMeans checked slots d integer_shape (value_of_term e) → AddedLeads o c d z
+    numbers-addition_code o c d z step h hc hd =
+        let (m, em, hm) = number-leads c (remaining_addends (more (adds o e) rest)) whole hc in
         let (n, en, hn) = number-code d (value_of_term e) hd in
         two-codes (AddedLeads o) em en h (step m n hn hm)
 
-    pub added-leads : (o : AddOperator) (c d : ExpressionCode) (x y z : Shape) → add_type o x y ≡ Some z → CodeLeads checked slots c x (addends_left (more (adds o e) rest)) whole → CodeMeans checked slots d y (value_of_term e) → AddedLeads o c d z
-    added-leads add_operator.Add c d integer_shape integer_shape z h hc hd = numbers-added add_operator.Add c d z (λ m n hn hm. numbers.addend-leads checked slots add_operator.Add lowered.sum sum-operates (λ x. refl) m n e rest whole hn hm) h hc hd
-    added-leads add_operator.Subtract c d integer_shape integer_shape z h hc hd = numbers-added add_operator.Subtract c d z (λ m n hn hm. numbers.addend-leads checked slots add_operator.Subtract lowered.difference difference-operates (λ x. refl) m n e rest whole hn hm) h hc hd
-    added-leads add_operator.Or c d boolean_shape boolean_shape z h hc hd =
-        let (t, et, ht) = truth-leads c (addends_left (more (adds add_operator.Or e) rest)) whole hc in
+    pub addition_code-leads : (o : AddOperator) (c d : ExpressionCode) (x y z : Shape) → addition_type o x y ≡ Some z → CodeLeads checked slots c x (remaining_addends (more (adds o e) rest)) whole → CodeMeans checked slots d y (value_of_term e) → AddedLeads o c d z
+    addition_code-leads add_operator.Add c d integer_shape integer_shape z h hc hd = numbers-addition_code add_operator.Add c d z (λ m n hn hm. numbers.addend-leads checked slots add_operator.Add lowered.sum sum-operates (λ x. refl) m n e rest whole hn hm) h hc hd
+    addition_code-leads add_operator.Subtract c d integer_shape integer_shape z h hc hd = numbers-addition_code add_operator.Subtract c d z (λ m n hn hm. numbers.addend-leads checked slots add_operator.Subtract lowered.difference difference-operates (λ x. refl) m n e rest whole hn hm) h hc hd
+    addition_code-leads add_operator.Or c d boolean_shape boolean_shape z h hc hd =
+        let (t, et, ht) = truth-leads c (remaining_addends (more (adds add_operator.Or e) rest)) whole hc in
         let (u, eu, hu) = truth-code d (value_of_term e) hd in
         two-codes (AddedLeads add_operator.Or) et eu h (truths.either-leads checked slots t u e rest whole hu ht)
-    added-leads _ c d _ _ z h hc hd = absurd (cc)
+    addition_code-leads _ c d _ _ z h hc hd = absurd (cc)
 
-  module _ (f : Tree Label factor) (rest : Tree Label (items multiplier)) (whole : Evaluated Label Value) where
+  module _ (f : Tree Label factor) (rest : Tree Label (items multiplier)) (whole : OutcomeByMoment Label Value) where
     abbrev MultipliedLeads : MultiplyOperator → ExpressionCode → ExpressionCode → Shape → Type 0
-    MultipliedLeads o c d z = CodeLeads checked slots (multiplied o c d) z (multipliers_left rest) whole
+    MultipliedLeads o c d z = CodeLeads checked slots (multiplication_code o c d) z (remaining_multipliers rest) whole
 
-    numbers-multiplied : (o : MultiplyOperator) (c d : ExpressionCode) (z : Shape) → ((m n : lowered.Number) → NumberMeans checked slots n (value_of_factor f) → NumberLeads checked slots m (multipliers_left (more (multiplies o f) rest)) whole → MultipliedLeads o (a_number m) (a_number n) integer_shape)
-        → Some integer_shape ≡ Some z → CodeLeads checked slots c integer_shape (multipliers_left (more (multiplies o f) rest)) whole → CodeMeans checked slots d integer_shape (value_of_factor f) → MultipliedLeads o c d z
-    numbers-multiplied o c d z step h hc hd =
-        let (m, em, hm) = number-leads c (multipliers_left (more (multiplies o f) rest)) whole hc in
+    numbers-multiplication_code : (o : MultiplyOperator) (c d : ExpressionCode) (z : Shape) → ((m n : lowered.Number) → NumberMeans checked slots n (value_of_factor f) → NumberStartsChain checked slots m (remaining_multipliers (more (multiplies o f) rest)) whole → MultipliedLeads o (a_number m) (a_number n) integer_shape)
+        → Some integer_shape ≡ Some z → CodeLeads checked slots c integer_shape (remaining_multipliers (more (multiplies o f) rest)) whole → CodeMeans checked slots d integer_shape (value_of_factor f) → MultipliedLeads o c d z
+    numbers-multiplication_code o c d z step h hc hd =
+        let (m, em, hm) = number-leads c (remaining_multipliers (more (multiplies o f) rest)) whole hc in
         let (n, en, hn) = number-code d (value_of_factor f) hd in
         two-codes (MultipliedLeads o) em en h (step m n hn hm)
 
-    pub multiplied-leads : (o : MultiplyOperator) (c d : ExpressionCode) (x y z : Shape) → multiply_type o x y ≡ Some z → CodeLeads checked slots c x (multipliers_left (more (multiplies o f) rest)) whole → CodeMeans checked slots d y (value_of_factor f) → MultipliedLeads o c d z
-    multiplied-leads multiply_operator.Multiply c d integer_shape integer_shape z h hc hd = numbers-multiplied multiply_operator.Multiply c d z (λ m n hn hm. numbers.multiplier-leads checked slots multiply_operator.Multiply lowered.product product-operates (λ x. refl) m n f rest whole hn hm) h hc hd
-    multiplied-leads multiply_operator.Divide c d integer_shape integer_shape z h hc hd = numbers-multiplied multiply_operator.Divide c d z (λ m n hn hm. numbers.multiplier-leads checked slots multiply_operator.Divide lowered.quotient quotient-operates (λ x. refl) m n f rest whole hn hm) h hc hd
-    multiplied-leads multiply_operator.Modulo c d integer_shape integer_shape z h hc hd = numbers-multiplied multiply_operator.Modulo c d z (λ m n hn hm. numbers.multiplier-leads checked slots multiply_operator.Modulo lowered.remainder remainder-operates (λ x. refl) m n f rest whole hn hm) h hc hd
-    multiplied-leads multiply_operator.And c d boolean_shape boolean_shape z h hc hd =
-        let (t, et, ht) = truth-leads c (multipliers_left (more (multiplies multiply_operator.And f) rest)) whole hc in
+    pub multiplication_code-leads : (o : MultiplyOperator) (c d : ExpressionCode) (x y z : Shape) → multiplication_type o x y ≡ Some z → CodeLeads checked slots c x (remaining_multipliers (more (multiplies o f) rest)) whole → CodeMeans checked slots d y (value_of_factor f) → MultipliedLeads o c d z
+    multiplication_code-leads multiply_operator.Multiply c d integer_shape integer_shape z h hc hd = numbers-multiplication_code multiply_operator.Multiply c d z (λ m n hn hm. numbers.multiplier-leads checked slots multiply_operator.Multiply lowered.product product-operates (λ x. refl) m n f rest whole hn hm) h hc hd
+    multiplication_code-leads multiply_operator.Divide c d integer_shape integer_shape z h hc hd = numbers-multiplication_code multiply_operator.Divide c d z (λ m n hn hm. numbers.multiplier-leads checked slots multiply_operator.Divide lowered.quotient quotient-operates (λ x. refl) m n f rest whole hn hm) h hc hd
+    multiplication_code-leads multiply_operator.Modulo c d integer_shape integer_shape z h hc hd = numbers-multiplication_code multiply_operator.Modulo c d z (λ m n hn hm. numbers.multiplier-leads checked slots multiply_operator.Modulo lowered.remainder remainder-operates (λ x. refl) m n f rest whole hn hm) h hc hd
+    multiplication_code-leads multiply_operator.And c d boolean_shape boolean_shape z h hc hd =
+        let (t, et, ht) = truth-leads c (remaining_multipliers (more (multiplies multiply_operator.And f) rest)) whole hc in
         let (u, eu, hu) = truth-code d (value_of_factor f) hd in
         two-codes (MultipliedLeads multiply_operator.And) et eu h (truths.both-leads checked slots t u f rest whole hu ht)
-    multiplied-leads _ c d _ _ z h hc hd = absurd (cc)
+    multiplication_code-leads _ c d _ _ z h hc hd = absurd (cc)
 
   -- a chain begins with its first operand
 
-  value-begins : (q : lowered.Place) (s : Shape) (f : Tree Label factor) (rest : Tree Label (items multiplier)) → ValueAt checked slots q s (value_of_factor f) → Leads checked slots (ValueAt checked slots q s) (multipliers_left rest) (value_of_term (product f rest))
+  value-begins : (q : lowered.Place) (s : Shape) (f : Tree Label factor) (rest : Tree Label (items multiplier)) → HoldsValue checked slots q s (value_of_factor f) → StartsChain checked slots (HoldsValue checked slots q s) (remaining_multipliers rest) (value_of_term (product f rest))
   unfolding evaluate
   value-begins q s f rest h = (value_of_factor f, h, λ z shown. refl)
 
-  pub term-begins : (c : ExpressionCode) (x : Shape) (f : Tree Label factor) (rest : Tree Label (items multiplier)) → CodeMeans checked slots c x (value_of_factor f) → CodeLeads checked slots c x (multipliers_left rest) (value_of_term (product f rest))
+  pub term-begins : (c : ExpressionCode) (x : Shape) (f : Tree Label factor) (rest : Tree Label (items multiplier)) → CodeMeans checked slots c x (value_of_factor f) → CodeLeads checked slots c x (remaining_multipliers rest) (value_of_term (product f rest))
   term-begins (a_number n) integer_shape f rest h = numbers.product-begins checked slots f rest n h
   term-begins (a_truth t) boolean_shape f rest h = truths.product-begins checked slots f rest t h
   term-begins (a_block q n) (array_shape k m s) f rest h = (h.0, value-begins q (array_shape k m s) f rest h.1)
   term-begins (a_block q n) (record_shape k fs) f rest h = (h.0, value-begins q (record_shape k fs) f rest h.1)
   term-begins _ _ f rest h = absurd h
 
-  value-signed : (q : lowered.Place) (s : Shape) (e : Tree Label term) (rest : Tree Label (items addend)) → ValueAt checked slots q s (value_of_term e) → Leads checked slots (ValueAt checked slots q s) (addends_left rest) (value_of_simple (sum None e rest))
+  value-signed_code : (q : lowered.Place) (s : Shape) (e : Tree Label term) (rest : Tree Label (items addend)) → HoldsValue checked slots q s (value_of_term e) → StartsChain checked slots (HoldsValue checked slots q s) (remaining_addends rest) (value_of_simple (sum None e rest))
   unfolding evaluate
-  value-signed q s e rest h = (value_of_term e, h, λ z shown. refl)
+  value-signed_code q s e rest h = (value_of_term e, h, λ z shown. refl)
 
-  unsigned-begins : (c : ExpressionCode) (x : Shape) (e : Tree Label term) (rest : Tree Label (items addend)) → CodeMeans checked slots c x (value_of_term e) → CodeLeads checked slots c x (addends_left rest) (value_of_simple (sum None e rest))
+  unsigned-begins : (c : ExpressionCode) (x : Shape) (e : Tree Label term) (rest : Tree Label (items addend)) → CodeMeans checked slots c x (value_of_term e) → CodeLeads checked slots c x (remaining_addends rest) (value_of_simple (sum None e rest))
   unsigned-begins (a_number n) integer_shape e rest h = numbers.sum-begins checked slots e rest n h
   unsigned-begins (a_truth t) boolean_shape e rest h = truths.sum-begins checked slots e rest t h
-  unsigned-begins (a_block q n) (array_shape k m s) e rest h = (h.0, value-signed q (array_shape k m s) e rest h.1)
-  unsigned-begins (a_block q n) (record_shape k fs) e rest h = (h.0, value-signed q (record_shape k fs) e rest h.1)
+  unsigned-begins (a_block q n) (array_shape k m s) e rest h = (h.0, value-signed_code q (array_shape k m s) e rest h.1)
+  unsigned-begins (a_block q n) (record_shape k fs) e rest h = (h.0, value-signed_code q (record_shape k fs) e rest h.1)
   unsigned-begins _ _ e rest h = absurd h
 
   module _ (e : Tree Label term) (rest : Tree Label (items addend)) where
     abbrev SignedLeads : Option Sign → ExpressionCode → Shape → Type 0
-    SignedLeads g c y = CodeLeads checked slots (signed g c) y (addends_left rest) (value_of_simple (sum g e rest))
+    SignedLeads g c y = CodeLeads checked slots (signed_code g c) y (remaining_addends rest) (value_of_simple (sum g e rest))
 
     one-code : (g : Option Sign) (c c' : ExpressionCode) (y y' : Shape) → c ≡ c' → Some y' ≡ Some y → SignedLeads g c' y' → SignedLeads g c y
     one-code g c c' y y' ec ey h = subst (λ y. SignedLeads g c y) (some_inverse ey) (subst (λ c. SignedLeads g c y') (sym ec) h)
@@ -133,7 +133,7 @@ module _ (checked : Typed Label) (slots : Label → Slot) where
 
   -- where nothing is left, what was found is the whole
 
-  value-whole : (q : lowered.Place) (s : Shape) (rest : RestOfChain Label Value) (whole : Evaluated Label Value) → ((z : _) (v : Value) → rest z v ≡ gives v) → Leads checked slots (ValueAt checked slots q s) rest whole → ValueAt checked slots q s whole
+  value-whole : (q : lowered.Place) (s : Shape) (rest : RestOfChain Label Value) (whole : OutcomeByMoment Label Value) → ((z : _) (v : Value) → rest z v ≡ gives v) → StartsChain checked slots (HoldsValue checked slots q s) rest whole → HoldsValue checked slots q s whole
   value-whole q s rest whole ends_here h =
       let (v, hv, ev) = h in
       (hv.0, hv.1, λ z shown. sym (ev z shown) ∙ given-end (v z) (rest z) (ends_here z) ∙ hv.2 z shown)
@@ -142,20 +142,20 @@ module _ (checked : Typed Label) (slots : Label → Slot) where
       given-end (gives v) k h = h v
       given-end (ends x) k h = refl
 
-  pub leads-end : (c : ExpressionCode) (x : Shape) (rest : RestOfChain Label Value) (whole : Evaluated Label Value) → ((z : _) (v : Value) → rest z v ≡ gives v) → CodeLeads checked slots c x rest whole → CodeMeans checked slots c x whole
+  pub leads-end : (c : ExpressionCode) (x : Shape) (rest : RestOfChain Label Value) (whole : OutcomeByMoment Label Value) → ((z : _) (v : Value) → rest z v ≡ gives v) → CodeLeads checked slots c x rest whole → CodeMeans checked slots c x whole
   leads-end (a_number n) integer_shape rest whole ends_here h = numbers.number-whole checked slots n rest whole ends_here h
   leads-end (a_truth t) boolean_shape rest whole ends_here h = truths.truth-whole checked slots t rest whole ends_here h
   leads-end (a_block q n) (array_shape k m s) rest whole ends_here h = (h.0, value-whole q (array_shape k m s) rest whole ends_here h.1)
   leads-end (a_block q n) (record_shape k fs) rest whole ends_here h = (h.0, value-whole q (record_shape k fs) rest whole ends_here h.1)
   leads-end _ _ rest whole ends_here h = absurd h
 
-  pub addends-end : (c : ExpressionCode) (x : Shape) (whole : Evaluated Label Value) → CodeLeads checked slots c x (addends_left end) whole → CodeMeans checked slots c x whole
+  pub addends-end : (c : ExpressionCode) (x : Shape) (whole : OutcomeByMoment Label Value) → CodeLeads checked slots c x (remaining_addends end) whole → CodeMeans checked slots c x whole
   unfolding evaluate
-  addends-end c x whole h = leads-end c x (addends_left end) whole (λ z v. refl) h
+  addends-end c x whole h = leads-end c x (remaining_addends end) whole (λ z v. refl) h
 
-  pub multipliers-end : (c : ExpressionCode) (x : Shape) (whole : Evaluated Label Value) → CodeLeads checked slots c x (multipliers_left end) whole → CodeMeans checked slots c x whole
+  pub multipliers-end : (c : ExpressionCode) (x : Shape) (whole : OutcomeByMoment Label Value) → CodeLeads checked slots c x (remaining_multipliers end) whole → CodeMeans checked slots c x whole
   unfolding evaluate
-  multipliers-end c x whole h = leads-end c x (multipliers_left end) whole (λ z v. refl) h
+  multipliers-end c x whole h = leads-end c x (remaining_multipliers end) whole (λ z v. refl) h
 
   -- an expression without a relation is its sum, and what is in parentheses evaluates to the same
 
@@ -167,11 +167,11 @@ module _ (checked : Typed Label) (slots : Label → Slot) where
   unfolding evaluate
   parenthesised-means c s e h = h
 
-  pub negated-means : (f : Tree Label factor) (c : ExpressionCode) (x s : Shape) → complement_type x ≡ Some s → CodeMeans checked slots c x (value_of_factor f) → CodeMeans checked slots (negated c) s (value_of_factor (negation f))
-  negated-means f c boolean_shape s h hc =
+  pub negation_code-means : (f : Tree Label factor) (c : ExpressionCode) (x s : Shape) → negation_type x ≡ Some s → CodeMeans checked slots c x (value_of_factor f) → CodeMeans checked slots (negation_code c) s (value_of_factor (negation f))
+  negation_code-means f c boolean_shape s h hc =
       let (t, et, ht) = truth-code c (value_of_factor f) hc in
-      subst (λ s. CodeMeans checked slots (negated c) s (value_of_factor (negation f))) (some_inverse h) (subst (λ c. CodeMeans checked slots (negated c) boolean_shape (value_of_factor (negation f))) (sym et) (truths.negation-means checked slots f t ht))
-  negated-means f c _ s h hc = absurd (cc)
+      subst (λ s. CodeMeans checked slots (negation_code c) s (value_of_factor (negation f))) (some_inverse h) (subst (λ c. CodeMeans checked slots (negation_code c) boolean_shape (value_of_factor (negation f))) (sym et) (truths.negation-means checked slots f t ht))
+  negation_code-means f c _ s h hc = absurd (cc)
 
   module _ (a b : Tree Label simple) where
     abbrev RelatedMeans : Relation → ExpressionCode → ExpressionCode → Shape → Type 0

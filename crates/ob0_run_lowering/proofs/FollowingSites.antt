@@ -3,51 +3,51 @@ use Rattle.std.proofs.Common.{◌≡◌, ℕ, suc, ◌+◌, ◌-◌, ◌<◌, �
 use Rattle.std.proofs.Math.ListN.{set}
 use Rattle.std.proofs.lemmas.List.{append-nil, drop_all, drop_more, get_or-set_other, get_or-set_same, length-set}
 use Rattle.ob0_types_table.proofs.Sighted.{last_of}
-use Rattle.ob0_run_cells.specs.Activations.{Placed, in_slot, place_one}
+use Rattle.ob0_run_cells.specs.Activations.{Placed, in_slot, place_name}
 use Rattle.ob0_run_cells.specs.Lowering.{Slot, by_reference}
-use Rattle.ob0_run_lowering.specs.Scenes.{seen_from, site_at}
+use Rattle.ob0_run_lowering.specs.Scenes.{place_seen_from, site_at}
 use Rattle.ob0_run_lowering.specs.declared.scene.Site.{Site}
 use Rattle.ob0_run_lowering.specs.declared.scene.Site.TheVariants as site
 use Rattle.ob0_tree.specs.Tree.{Tree, further_section, items, more, then_section}
 use Rattle.ob0_tree.specs.View.{names_of, section_of}
-use Rattle.ob0_tree.specs.declared.tree.Section.{Section}
-use Rattle.ob0_scope_table.specs.InLabels.{in_labels}
+use Rattle.ob0_tree.specs.declared.tree.ParameterSection.{ParameterSection}
+use Rattle.ob0_scope_table.specs.LabelledTrees.{tree_with_labels}
 use Rattle.ob0_types_table.proofs.LabelledParts.{section-mode, section-names}
-use Rattle.ob0_language_names.specs.Parts.{names_listed}
+use Rattle.ob0_language_names.specs.Parts.{names_in_list}
 use Rattle.ob0_scope_table.specs.Resolution.{Resolution}
 use Rattle.ob0_types_table.specs.Tables.{mode_of}
-use Rattle.ob0_language_names.specs.Names.{Label, Name, as_names}
-use Rattle.ob0_language_names.specs.Scopes.{as_label}
+use Rattle.ob0_language_names.specs.Names.{Label, Name, naming_by_spelling}
+use Rattle.ob0_language_names.specs.Scopes.{label_from_ordinal}
 use Rattle.ob0_language_types.specs.WellTyped.{by_place, by_value}
-use Rattle.ob0_run_lowering.specs.Placed.{AllWithin, Follows, IsRestored, LocatesAll, IsFrame, IsNextSite, Places, LocatesAs, before_all, place_each, place_sections, put_at, put_site, slots_at}
+use Rattle.ob0_run_lowering.specs.Placed.{OrdinalsAreBelow, Follows, IsRestored, LocatesAll, IsFrame, IsNextSite, Places, LocatesAs, sites_before_hiding, place_each, place_sections, sites_with_binding, sites_with, variable_slot}
 use Rattle.ob0_run_lowering.specs.declared.visible_sites.Frame.{Frame}
-use Rattle.ob0_run_lowering.specs.declared.visible_sites.Hidden.{Hidden}
+use Rattle.ob0_run_lowering.specs.declared.visible_sites.HiddenSite.{HiddenSite}
 use Rattle.ob0_run_lowering.specs.declared.visible_sites.VisibleSites.{VisibleSites}
 use Rattle.ob0_run_lowering.proofs.Placings.{holds_bound}
 
-within-weaken : (m n : ℕ) (hs : List Hidden) → m ≤ n → AllWithin m hs → AllWithin n hs
+within-weaken : (m n : ℕ) (hs : List HiddenSite) → m ≤ n → OrdinalsAreBelow m hs → OrdinalsAreBelow n hs
 within-weaken m n [] le a = tt
 within-weaken m n (h ∷ hs) le a = (omega (arith, a.0, le), within-weaken m n hs le a.1)
 
-within-append : (n : ℕ) (xs ys : List Hidden) → AllWithin n xs → AllWithin n ys → AllWithin n (xs ++ ys)
+within-append : (n : ℕ) (xs ys : List HiddenSite) → OrdinalsAreBelow n xs → OrdinalsAreBelow n ys → OrdinalsAreBelow n (xs ++ ys)
 within-append n [] ys a b = b
 within-append n (x ∷ xs) ys a b = (a.0, within-append n xs ys a.1 b)
 
-within-front : (n : ℕ) (xs ys : List Hidden) → AllWithin n (xs ++ ys) → AllWithin n xs
+within-front : (n : ℕ) (xs ys : List HiddenSite) → OrdinalsAreBelow n (xs ++ ys) → OrdinalsAreBelow n xs
 within-front n [] ys a = tt
 within-front n (x ∷ xs) ys a = (a.0, within-front n xs ys a.1)
 
-within-back : (n : ℕ) (xs ys : List Hidden) → AllWithin n (xs ++ ys) → AllWithin n ys
+within-back : (n : ℕ) (xs ys : List HiddenSite) → OrdinalsAreBelow n (xs ++ ys) → OrdinalsAreBelow n ys
 within-back n [] ys a = a
 within-back n (x ∷ xs) ys a = within-back n xs ys a.1
 
-before_all-append : (xs ys : List Hidden) (f : ℕ → Site) → before_all (xs ++ ys) f ≡ before_all xs (before_all ys f)
-before_all-append [] ys f = refl
-before_all-append (x ∷ xs) ys f = ap (put_site x.ordinal x.before) (before_all-append xs ys f)
+sites_before_hiding-append : (xs ys : List HiddenSite) (f : ℕ → Site) → sites_before_hiding (xs ++ ys) f ≡ sites_before_hiding xs (sites_before_hiding ys f)
+sites_before_hiding-append [] ys f = refl
+sites_before_hiding-append (x ∷ xs) ys f = ap (sites_with x.ordinal x.before) (sites_before_hiding-append xs ys f)
 
 -- tables that are the same at each ordinal
-before_all-same : (xs : List Hidden) (f g : ℕ → Site) → ((k : ℕ) → f k ≡ g k) → (k : ℕ) → before_all xs f k ≡ before_all xs g k
-before_all-same xs f g same k = ap (λ (h : ℕ → Site). before_all xs h k) (λ i j. same j i)
+sites_before_hiding-same : (xs : List HiddenSite) (f g : ℕ → Site) → ((k : ℕ) → f k ≡ g k) → (k : ℕ) → sites_before_hiding xs f k ≡ sites_before_hiding xs g k
+sites_before_hiding-same xs f g same k = ap (λ (h : ℕ → Site). sites_before_hiding xs h k) (λ i j. same j i)
 
 pub follows_itself : (w : VisibleSites) → Follows w w
 follows_itself w = record { more = []; added = sym (append-nil w.hidden.items); within = tt; longer = le_refl (length w.sites.items); goes_back = λ k. refl }
@@ -59,8 +59,8 @@ follows_then w v u a b = record {
   within = within-append (length u.sites.items) a.more b.more (within-weaken (length v.sites.items) (length u.sites.items) a.more b.longer a.within) b.within;
   longer = omega (arith, a.longer, b.longer);
   goes_back = λ k.
-      ap (λ f. f k) (before_all-append a.more b.more (site_at u.sites.items))
-      ∙ before_all-same a.more (before_all b.more (site_at u.sites.items)) (site_at v.sites.items) b.goes_back k
+      ap (λ f. f k) (sites_before_hiding-append a.more b.more (site_at u.sites.items))
+      ∙ sites_before_hiding-same a.more (sites_before_hiding b.more (site_at u.sites.items)) (site_at v.sites.items) b.goes_back k
       ∙ a.goes_back k;
 }
 
@@ -71,7 +71,7 @@ follows_back w v u after a b g = record {
   added = g.0 ∙ a.added;
   within = within-weaken (length v.sites.items) (length after.sites.items) a.more (omega (arith, b.longer, g.2)) a.within;
   longer = omega (arith, a.longer, b.longer, g.2);
-  goes_back = λ k. before_all-same a.more (site_at after.sites.items) (site_at v.sites.items) g.1 k ∙ a.goes_back k;
+  goes_back = λ k. sites_before_hiding-same a.more (site_at after.sites.items) (site_at v.sites.items) g.1 k ∙ a.goes_back k;
 }
 
 -- a site put into the table
@@ -87,12 +87,12 @@ site-set xs j s k room = by (k == j) refl
 abbrev pub AllBack : VisibleSites → ℕ → VisibleSites → Type 0
 AllBack start mark now = (w : VisibleSites) → Follows w start → mark ≡ length w.hidden.items → Follows w now × (length now.sites.items ≡ length start.sites.items)
 
-pub back_on : (start now v : VisibleSites) (mark : ℕ) (last : Hidden) → AllBack start mark now → mark < length now.hidden.items → now.hidden.items ≡ v.hidden.items ++ last ∷ [] → v.sites.items ≡ set now.sites.items last.ordinal last.before → AllBack start mark v
+pub back_on : (start now v : VisibleSites) (mark : ℕ) (last : HiddenSite) → AllBack start mark now → mark < length now.hidden.items → now.hidden.items ≡ v.hidden.items ++ last ∷ [] → v.sites.items ≡ set now.sites.items last.ordinal last.before → AllBack start mark v
 back_on start now v mark last back less popped put = λ w f is.
     let so_far = back w f is in
     let a : Follows w now = so_far.0 in
     let left = last_of w.hidden.items a.more v.hidden.items last (sym a.added ∙ popped) (omega (arith, ap length a.added, is, less)) in
-    let parts : AllWithin (length now.sites.items) (left.0 ++ last ∷ []) = subst (AllWithin (length now.sites.items)) left.1 a.within in
+    let parts : OrdinalsAreBelow (length now.sites.items) (left.0 ++ last ∷ []) = subst (OrdinalsAreBelow (length now.sites.items)) left.1 a.within in
     let room : suc last.ordinal ≤ length now.sites.items = (within-back (length now.sites.items) left.0 (last ∷ []) parts).0 in
     let long : length v.sites.items ≡ length now.sites.items = ap length put ∙ length-set now.sites.items last.ordinal last.before in (
       record {
@@ -101,9 +101,9 @@ back_on start now v mark last back less popped put = λ w f is.
         within = within-weaken (length now.sites.items) (length v.sites.items) left.0 (omega (arith, long)) (within-front (length now.sites.items) left.0 (last ∷ []) parts);
         longer = omega (arith, long, a.longer);
         goes_back = λ k.
-            before_all-same left.0 (site_at v.sites.items) (before_all (last ∷ []) (site_at now.sites.items)) (λ j. ap (λ xs. site_at xs j) put ∙ site-set now.sites.items last.ordinal last.before j room) k
-            ∙ ap (λ f. f k) (sym (before_all-append left.0 (last ∷ []) (site_at now.sites.items)))
-            ∙ ap (λ hs. before_all hs (site_at now.sites.items) k) (sym left.1)
+            sites_before_hiding-same left.0 (site_at v.sites.items) (sites_before_hiding (last ∷ []) (site_at now.sites.items)) (λ j. ap (λ xs. site_at xs j) put ∙ site-set now.sites.items last.ordinal last.before j room) k
+            ∙ ap (λ f. f k) (sym (sites_before_hiding-append left.0 (last ∷ []) (site_at now.sites.items)))
+            ∙ ap (λ hs. sites_before_hiding hs (site_at now.sites.items) k) (sym left.1)
             ∙ a.goes_back k;
       },
       long ∙ so_far.1,
@@ -119,7 +119,7 @@ back_ends start now mark back all w f is =
     let a : Follows w now = so_far.0 in
     let none : a.more ≡ [] = nil_of w.hidden.items a.more (omega (arith, ap length a.added, all, is)) in (
       a.added ∙ ap (λ hs. w.hidden.items ++ hs) none ∙ append-nil w.hidden.items,
-      λ k. ap (λ hs. before_all hs (site_at now.sites.items) k) (sym none) ∙ a.goes_back k,
+      λ k. ap (λ hs. sites_before_hiding hs (site_at now.sites.items) k) (sym none) ∙ a.goes_back k,
       so_far.1,
     )
 
@@ -129,15 +129,15 @@ pub places_as : (w v : VisibleSites) (f g : Frame) (first second : Placed Label 
 places_as w v f g first second same a = subst (λ (step : Placed Label → Placed Label). Places w v f step g) (λ i p. same p i) a
 
 -- one name
-pub place-by_reference : (w v : VisibleSites) (f g : Frame) (size_of : Label → ℕ) (o : Option ℕ) (name : Name) → ((k : ℕ) → site_at v.sites.items k ≡ put_at o (site.ByReference f.depth f.references) (site_at w.sites.items) k) → Follows w v → g ≡ record f { references = f.references + 1 }
-    → Places w v f (place_one (slots_at f.depth) by_place (as_label as_names o name) (size_of (as_label as_names o name))) g
+pub place-by_reference : (w v : VisibleSites) (f g : Frame) (size_of : Label → ℕ) (o : Option ℕ) (name : Name) → ((k : ℕ) → site_at v.sites.items k ≡ sites_with_binding o (site.ByReference f.depth f.references) (site_at w.sites.items) k) → Follows w v → g ≡ record f { references = f.references + 1 }
+    → Places w v f (place_name (variable_slot f.depth) by_place (label_from_ordinal naming_by_spelling o name) (size_of (label_from_ordinal naming_by_spelling o name))) g
 place-by_reference w v f g size_of o name put follows is =
     let none : f.depth - f.depth ≡ 0 = omega arith in
-    let seen : seen_from f.depth (site.ByReference f.depth f.references) ≡ in_slot (by_reference 0 f.references) = ap (λ up. in_slot (by_reference up f.references)) none in
-    subst (λ (z : Frame). Places w v f (place_one (slots_at f.depth) by_place (as_label as_names o name) (size_of (as_label as_names o name))) z) (sym is)
+    let seen : place_seen_from f.depth (site.ByReference f.depth f.references) ≡ in_slot (by_reference 0 f.references) = ap (λ up. in_slot (by_reference up f.references)) none in
+    subst (λ (z : Frame). Places w v f (place_name (variable_slot f.depth) by_place (label_from_ordinal naming_by_spelling o name) (size_of (label_from_ordinal naming_by_spelling o name))) z) (sym is)
     record {
       placed = λ p h. record {
-        holds = holds_bound w.sites.items v.sites.items f.depth p.placing o name (site.ByReference f.depth f.references) (in_slot (by_reference 0 p.reference_places)) (le_refl f.depth, seen ∙ ap (λ n. in_slot (by_reference 0 n)) h.reference_places) put h.holds;
+        holds = holds_bound w.sites.items v.sites.items f.depth p.placement o name (site.ByReference f.depth f.references) (in_slot (by_reference 0 p.reference_places)) (le_refl f.depth, seen ∙ ap (λ n. in_slot (by_reference 0 n)) h.reference_places) put h.holds;
         cells = h.cells;
         reference_places = ap (λ n. n + 1) h.reference_places ∙ omega arith;
       };
@@ -146,17 +146,17 @@ place-by_reference w v f g size_of o name put follows is =
       more_cells = le_refl f.cells;
     }
 
-next-reports : (f : Frame) (s : Site) (n : ℕ) → IsNextSite f s → f.cells ≡ n → LocatesAs f.depth s (in_slot (slots_at f.depth n))
-next-reports f s n next e = (next.0, next.1 ∙ ap (λ m. in_slot (slots_at f.depth m)) e)
+next-reports : (f : Frame) (s : Site) (n : ℕ) → IsNextSite f s → f.cells ≡ n → LocatesAs f.depth s (in_slot (variable_slot f.depth n))
+next-reports f s n next e = (next.0, next.1 ∙ ap (λ m. in_slot (variable_slot f.depth m)) e)
 
-pub place-held : (w v : VisibleSites) (f g : Frame) (size_of : Label → ℕ) (o : Option ℕ) (name : Name) (s : Site) (n : ℕ) → IsNextSite f s → ((k : ℕ) → site_at v.sites.items k ≡ put_at o s (site_at w.sites.items) k) → Follows w v → g ≡ record f { cells = f.cells + n }
-    → n ≡ size_of (as_label as_names o name) → Places w v f (place_one (slots_at f.depth) by_value (as_label as_names o name) (size_of (as_label as_names o name))) g
+pub place-held : (w v : VisibleSites) (f g : Frame) (size_of : Label → ℕ) (o : Option ℕ) (name : Name) (s : Site) (n : ℕ) → IsNextSite f s → ((k : ℕ) → site_at v.sites.items k ≡ sites_with_binding o s (site_at w.sites.items) k) → Follows w v → g ≡ record f { cells = f.cells + n }
+    → n ≡ size_of (label_from_ordinal naming_by_spelling o name) → Places w v f (place_name (variable_slot f.depth) by_value (label_from_ordinal naming_by_spelling o name) (size_of (label_from_ordinal naming_by_spelling o name))) g
 place-held w v f g size_of o name s n next put follows is size =
     let cells : g.cells ≡ f.cells + n = ap (λ (z : Frame). z.cells) is in
     record {
       placed = λ p h. record {
-        holds = subst (λ d. LocatesAll v.sites.items d ((as_label as_names o name, in_slot (slots_at f.depth p.cells)) ∷ p.placing)) (sym (ap (λ (z : Frame). z.depth) is))
-            (holds_bound w.sites.items v.sites.items f.depth p.placing o name s (in_slot (slots_at f.depth p.cells)) (next-reports f s p.cells next h.cells) put h.holds);
+        holds = subst (λ d. LocatesAll v.sites.items d ((label_from_ordinal naming_by_spelling o name, in_slot (variable_slot f.depth p.cells)) ∷ p.placement)) (sym (ap (λ (z : Frame). z.depth) is))
+            (holds_bound w.sites.items v.sites.items f.depth p.placement o name s (in_slot (variable_slot f.depth p.cells)) (next-reports f s p.cells next h.cells) put h.holds);
         cells = cells ∙ (λ i. h.cells i + size i);
         reference_places = ap (λ (z : Frame). z.references) is ∙ h.reference_places;
       };
@@ -202,6 +202,6 @@ pub as_deep : (w v : VisibleSites) (f g : Frame) (m n : ℕ) (step : ℕ → Pla
 as_deep w v f g m n step same a = subst (λ k. Places w v f (step k) g) same a
 
 -- the names of a section, by how it is written
-pub section_step : (r : Resolution) (at : ℕ → Slot) (size_of : Label → ℕ) (s : Section) (fs : Tree Label (items further_section)) (p : Placed Label)
-    → place_sections at size_of (more (then_section (in_labels r (section_of s))) fs) p ≡ place_sections at size_of fs (place_each at size_of (mode_of s.by_reference) (names_listed (in_labels r (names_of s.names))) p)
+pub section_step : (r : Resolution) (at : ℕ → Slot) (size_of : Label → ℕ) (s : ParameterSection) (fs : Tree Label (items further_section)) (p : Placed Label)
+    → place_sections at size_of (more (then_section (tree_with_labels r (section_of s))) fs) p ≡ place_sections at size_of fs (place_each at size_of (mode_of s.by_reference) (names_in_list (tree_with_labels r (names_of s.names))) p)
 section_step r at size_of s fs p = λ i. place_sections at size_of fs (place_each at size_of (section-mode mode_of refl refl r s i) (section-names r s i) p)

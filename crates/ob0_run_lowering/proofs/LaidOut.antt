@@ -7,16 +7,16 @@ use Rattle.std.proofs.Math.Seq.{take-suc}
 use Rattle.ob0_language_names.specs.Names.{Name, same_name}
 use Rattle.ob0_run_machine.specs.Evaluation as machine
 use Rattle.ob0_language_types.specs.Expressions.{a_constant}
-use Rattle.ob0_types_table.specs.KnownTables.{Tables, declared_in, shapes_of}
-use Rattle.ob0_types_table.specs.FieldPlaces.{field_selected, place_of_field}
-use Rattle.ob0_types_table.specs.Tables.{fields_shape, made_shape, no_shape, object_in, only_array, only_record, shapes_from, type_shape}
-use Rattle.ob0_types_table.proofs.Tables.{shapes_from-push}
-use Rattle.ob0_types_table.specs.declared.known.FieldOf.{FieldOf}
+use Rattle.ob0_types_table.specs.KnownTables.{Tables, declared_object_in, shapes_of}
+use Rattle.ob0_types_table.specs.FieldPlaces.{field_selected, position_of_field}
+use Rattle.ob0_types_table.specs.Tables.{field_shapes, entry_shape, faulty_shape, object_view, array_or_faulty, record_or_faulty, extended_shapes, type_shape}
+use Rattle.ob0_types_table.proofs.Tables.{extended_shapes-push}
+use Rattle.ob0_types_table.specs.declared.known.FieldId.{FieldId}
 use Rattle.ob0_types_table.specs.declared.known.TypeEntry as code
 use Rattle.ob0_types_table.specs.declared.known.Field.{Field}
 use Rattle.ob0_language_values.specs.Values.{FieldShapes, Shape, array_shape, next_field_shape, no_field_shape, number, record_shape}
 use Rattle.ob0_run_cells.specs.Cells.{field_offset, field_sizes, size}
-use Rattle.ob0_run_lowering.specs.Layouts.{AreLaidOut, HasLayout, LayOut, offsets_from}
+use Rattle.ob0_run_lowering.specs.Layouts.{AreLaidOut, HasLayout, HaveLayouts, offsets_from}
 use Rattle.ob0_run_lowering.specs.declared.types.Layout.{Layout}
 use Rattle.ob0_run_lowering.specs.declared.types.Layout.TheVariants as layout
 use Rattle.ob0_run_lowering.specs.declared.types.RecordLayout.{RecordLayout}
@@ -27,12 +27,12 @@ abbrev pub array_size : Option Layout → ℕ
 array_size (Some (layout.Array cells)) = cells
 array_size _ = 0
 
-array-entry : (s : Shape) (l : Layout) → HasLayout s l → array_size (Some l) ≡ size (only_array s)
+array-entry : (s : Shape) (l : Layout) → HasLayout s l → array_size (Some l) ≡ size (array_or_faulty s)
 array-entry (array_shape k n s) (layout.Array cells) h = h
 array-entry (record_shape k fs) (layout.Record r) h = refl
 array-entry _ _ h = absurd h
 
-pub array_size-at : (shapes : List Shape) (layouts : List Layout) (i : ℕ) → LayOut shapes layouts → array_size (slice_get layouts i) ≡ size (only_array (slice_index_or shapes i no_shape))
+pub array_size-at : (shapes : List Shape) (layouts : List Layout) (i : ℕ) → HaveLayouts shapes layouts → array_size (slice_get layouts i) ≡ size (array_or_faulty (slice_index_or shapes i faulty_shape))
 array_size-at [] [] i h = refl
 array_size-at (s ∷ shapes) (l ∷ layouts) zero h = array-entry s l h.0
 array_size-at (s ∷ shapes) (l ∷ layouts) (suc i) h = array_size-at shapes layouts i h.1
@@ -41,21 +41,21 @@ array_size-at _ _ i h = absurd h
 -- the record of an entry
 abbrev pub HasRecord : Option Layout → Shape → Type 0
 HasRecord (Some (layout.Record r)) s = (k : ℕ) × (fs : FieldShapes) × (s ≡ record_shape k fs) × AreLaidOut fs r
-HasRecord _ s = s ≡ no_shape
+HasRecord _ s = s ≡ faulty_shape
 
-record-entry : (s : Shape) (l : Layout) → HasLayout s l → HasRecord (Some l) (only_record s)
+record-entry : (s : Shape) (l : Layout) → HasLayout s l → HasRecord (Some l) (record_or_faulty s)
 record-entry (array_shape k n s) (layout.Array cells) h = refl
 record-entry (record_shape k fs) (layout.Record r) h = (k, fs, refl, h)
 record-entry _ _ h = absurd h
 
-pub record-there : (shapes : List Shape) (layouts : List Layout) (i : ℕ) → LayOut shapes layouts → HasRecord (slice_get layouts i) (only_record (slice_index_or shapes i no_shape))
+pub record-there : (shapes : List Shape) (layouts : List Layout) (i : ℕ) → HaveLayouts shapes layouts → HasRecord (slice_get layouts i) (record_or_faulty (slice_index_or shapes i faulty_shape))
 record-there [] [] i h = refl
 record-there (s ∷ shapes) (l ∷ layouts) zero h = record-entry s l h.0
 record-there (s ∷ shapes) (l ∷ layouts) (suc i) h = record-there shapes layouts i h.1
 record-there _ _ i h = absurd h
 
 -- one more entry
-pub one_more : (shapes : List Shape) (layouts : List Layout) (s : Shape) (l : Layout) → LayOut shapes layouts → HasLayout s l → LayOut (shapes ++ s ∷ []) (layouts ++ l ∷ [])
+pub one_more : (shapes : List Shape) (layouts : List Layout) (s : Shape) (l : Layout) → HaveLayouts shapes layouts → HasLayout s l → HaveLayouts (shapes ++ s ∷ []) (layouts ++ l ∷ [])
 one_more [] [] s l h more = (more, tt)
 one_more (t ∷ shapes) (m ∷ layouts) s l h more = (h.0, one_more shapes layouts s l h.1 more)
 one_more _ _ s l h more = absurd h
@@ -67,81 +67,81 @@ further-listed true n k o f xs later zero h = omega arith
 further-listed false n k (Some j) f xs later (suc i) h = let e : Some j ≡ Some i = cc in omega (arith, later i e)
 further-listed _ n k _ f xs later _ h = absurd (cc)
 
-pub offset-listed : (fs : FieldShapes) (n : ℕ) (x : Name) (i : ℕ) → place_of_field fs x ≡ Some i → slice_index_or (offsets_from n fs) i 0 ≡ n + field_offset fs x
+pub offset-listed : (fs : FieldShapes) (n : ℕ) (x : Name) (i : ℕ) → position_of_field fs x ≡ Some i → slice_index_or (offsets_from n fs) i 0 ≡ n + field_offset fs x
 offset-listed no_field_shape n x i h = absurd (cc)
-offset-listed (next_field_shape y s rest) n x i h = further-listed (same_name x y) n (size s) (place_of_field rest x) (field_offset rest x) (offsets_from (n + size s) rest) (λ i h. offset-listed rest (n + size s) x i h) i h
+offset-listed (next_field_shape y s rest) n x i h = further-listed (same_name x y) n (size s) (position_of_field rest x) (field_offset rest x) (offsets_from (n + size s) rest) (λ i h. offset-listed rest (n + size s) x i h) i h
 
 further-past : (b : Bool) (k : ℕ) (o : Option ℕ) (f g : ℕ) → (o ≡ None → f ≡ g) → (if b then Some 0 else option_map suc o) ≡ None → (if b then 0 else k + f) ≡ k + g
 further-past false k None f g later h = ap (λ n. k + n) (later refl)
 further-past _ k _ f g later h = absurd (cc)
 
-pub offset-past : (fs : FieldShapes) (x : Name) → place_of_field fs x ≡ None → field_offset fs x ≡ field_sizes fs
+pub offset-past : (fs : FieldShapes) (x : Name) → position_of_field fs x ≡ None → field_offset fs x ≡ field_sizes fs
 offset-past no_field_shape x h = refl
-offset-past (next_field_shape y s rest) x h = further-past (same_name x y) (size s) (place_of_field rest x) (field_offset rest x) (field_sizes rest) (λ h. offset-past rest x h) h
+offset-past (next_field_shape y s rest) x h = further-past (same_name x y) (size s) (position_of_field rest x) (field_offset rest x) (field_sizes rest) (λ h. offset-past rest x h) h
 
 -- the fields so far, and those that are left
 pub record LaidSoFar (shapes : List Shape) (fields : List Field) (done cells : ℕ) (offsets : List ℕ) : Type 0 where
-  pub cells_left : cells + field_sizes (fields_shape shapes (drop done fields)) ≡ field_sizes (fields_shape shapes fields)
-  pub offsets_left : offsets ++ offsets_from cells (fields_shape shapes (drop done fields)) ≡ offsets_from 0 (fields_shape shapes fields)
+  pub cells_left : cells + field_sizes (field_shapes shapes (drop done fields)) ≡ field_sizes (field_shapes shapes fields)
+  pub offsets_left : offsets ++ offsets_from cells (field_shapes shapes (drop done fields)) ≡ offsets_from 0 (field_shapes shapes fields)
 
 pub laid_begins : (shapes : List Shape) (fields : List Field) (offsets : List ℕ) → offsets ≡ [] → LaidSoFar shapes fields 0 0 offsets
 laid_begins shapes fields offsets none = record {
-  cells_left = zero-add (field_sizes (fields_shape shapes fields));
-  offsets_left = ap (λ os. os ++ offsets_from 0 (fields_shape shapes fields)) none;
+  cells_left = zero-add (field_sizes (field_shapes shapes fields));
+  offsets_left = ap (λ os. os ++ offsets_from 0 (field_shapes shapes fields)) none;
 }
 
 pub laid_goes_on : {shapes : List Shape} {fields : List Field} {done cells : ℕ} {offsets : List ℕ} (d : Field) (more cells' : ℕ) (offsets' : List ℕ) → LaidSoFar shapes fields done cells offsets → done < length fields
     → more ≡ size (type_shape shapes (get_or fields done d).of) → cells' ≡ cells + more → offsets' ≡ offsets ++ cells ∷ [] → LaidSoFar shapes fields (done + 1) cells' offsets'
 laid_goes_on {shapes} {fields} {done} {cells} {offsets} d more cells' offsets' h less sized sum pushed =
-    let rest = fields_shape shapes (drop (done + 1) fields) in
+    let rest = field_shapes shapes (drop (done + 1) fields) in
     let split : drop done fields ≡ get_or fields done d ∷ drop (done + 1) fields = drop_more fields done d less in
-    let sizes : field_sizes (fields_shape shapes (drop done fields)) ≡ size (type_shape shapes (get_or fields done d).of) + field_sizes rest = ap (λ xs. field_sizes (fields_shape shapes xs)) split in
+    let sizes : field_sizes (field_shapes shapes (drop done fields)) ≡ size (type_shape shapes (get_or fields done d).of) + field_sizes rest = ap (λ xs. field_sizes (field_shapes shapes xs)) split in
     let left = h.cells_left in
     record {
       cells_left = omega (arith, sizes, left, sized, sum);
       offsets_left = ap (λ os. os ++ offsets_from cells' rest) pushed
           ∙ ap (λ n. (offsets ++ cells ∷ []) ++ offsets_from n rest) (sum ∙ ap (λ m. cells + m) sized)
           ∙ append_assoc offsets (cells ∷ []) (offsets_from (cells + size (type_shape shapes (get_or fields done d).of)) rest)
-          ∙ sym (ap (λ xs. offsets ++ offsets_from cells (fields_shape shapes xs)) split)
+          ∙ sym (ap (λ xs. offsets ++ offsets_from cells (field_shapes shapes xs)) split)
           ∙ h.offsets_left;
     }
 
-pub laid_ends : {shapes : List Shape} {fields : List Field} {done cells : ℕ} {offsets : List ℕ} → LaidSoFar shapes fields done cells offsets → length fields ≤ done → (cells ≡ field_sizes (fields_shape shapes fields)) × (offsets ≡ offsets_from 0 (fields_shape shapes fields))
+pub laid_ends : {shapes : List Shape} {fields : List Field} {done cells : ℕ} {offsets : List ℕ} → LaidSoFar shapes fields done cells offsets → length fields ≤ done → (cells ≡ field_sizes (field_shapes shapes fields)) × (offsets ≡ offsets_from 0 (field_shapes shapes fields))
 laid_ends {shapes} {fields} {done} {cells} {offsets} h all =
     let none : drop done fields ≡ [] = drop_all done fields all in (
-      sym (add-zero cells) ∙ sym (ap (λ xs. cells + field_sizes (fields_shape shapes xs)) none) ∙ h.cells_left,
-      sym (append-nil offsets) ∙ sym (ap (λ xs. offsets ++ offsets_from cells (fields_shape shapes xs)) none) ∙ h.offsets_left,
+      sym (add-zero cells) ∙ sym (ap (λ xs. cells + field_sizes (field_shapes shapes xs)) none) ∙ h.cells_left,
+      sym (append-nil offsets) ∙ sym (ap (λ xs. offsets ++ offsets_from cells (field_shapes shapes xs)) none) ∙ h.offsets_left,
     )
 
 -- the types so far
-pub table_goes_on : (entries : List code.TypeEntry) (done : ℕ) (layouts : List Layout) (x : code.TypeEntry) (next : Layout) (read layouts' : List Layout) → LayOut (shapes_from [] (take done entries)) layouts → done < length entries → x ≡ get_or entries done x
-    → read ≡ layouts → ((shapes : List Shape) → LayOut shapes read → HasLayout (made_shape shapes x) next) → layouts' ≡ layouts ++ next ∷ [] → LayOut (shapes_from [] (take (done + 1) entries)) layouts'
+pub table_goes_on : (entries : List code.TypeEntry) (done : ℕ) (layouts : List Layout) (x : code.TypeEntry) (next : Layout) (read layouts' : List Layout) → HaveLayouts (extended_shapes [] (take done entries)) layouts → done < length entries → x ≡ get_or entries done x
+    → read ≡ layouts → ((shapes : List Shape) → HaveLayouts shapes read → HasLayout (entry_shape shapes x) next) → layouts' ≡ layouts ++ next ∷ [] → HaveLayouts (extended_shapes [] (take (done + 1) entries)) layouts'
 table_goes_on entries done layouts x next read layouts' h less here same made pushed =
-    let so_far = shapes_from [] (take done entries) in
+    let so_far = extended_shapes [] (take done entries) in
     let split : take (done + 1) entries ≡ take done entries ++ x ∷ [] = ap (λ n. take n entries) (add-one done) ∙ take-suc entries done x less ∙ ap (λ y. take done entries ++ y ∷ []) (sym here) in
-    let shapes : shapes_from [] (take (done + 1) entries) ≡ so_far ++ made_shape so_far x ∷ [] = ap (shapes_from []) split ∙ shapes_from-push [] (take done entries) x in
-    subst (λ ss. LayOut ss layouts') (sym shapes) (subst (λ ls. LayOut (so_far ++ made_shape so_far x ∷ []) ls) (sym pushed) (one_more so_far layouts (made_shape so_far x) next h (made so_far (subst (λ ls. LayOut so_far ls) (sym same) h))))
+    let shapes : extended_shapes [] (take (done + 1) entries) ≡ so_far ++ entry_shape so_far x ∷ [] = ap (extended_shapes []) split ∙ extended_shapes-push [] (take done entries) x in
+    subst (λ ss. HaveLayouts ss layouts') (sym shapes) (subst (λ ls. HaveLayouts (so_far ++ entry_shape so_far x ∷ []) ls) (sym pushed) (one_more so_far layouts (entry_shape so_far x) next h (made so_far (subst (λ ls. HaveLayouts so_far ls) (sym same) h))))
 
-pub table_ends : (entries : List code.TypeEntry) (done : ℕ) (layouts : List Layout) (all : List code.TypeEntry) → LayOut (shapes_from [] (take done entries)) layouts → length entries ≤ done → entries ≡ all → LayOut (shapes_from [] all) layouts
-table_ends entries done layouts all h past same = subst (λ es. LayOut (shapes_from [] es) layouts) (take_all done entries past ∙ same) h
+pub table_ends : (entries : List code.TypeEntry) (done : ℕ) (layouts : List Layout) (all : List code.TypeEntry) → HaveLayouts (extended_shapes [] (take done entries)) layouts → length entries ≤ done → entries ≡ all → HaveLayouts (extended_shapes [] all) layouts
+table_ends entries done layouts all h past same = subst (λ es. HaveLayouts (extended_shapes [] es) layouts) (take_all done entries past ∙ same) h
 
 -- where a field of a record begins
-abbrev field_in : ℕ → ℕ → FieldOf
+abbrev field_in : ℕ → ℕ → FieldId
 field_in k i = record { ordinal = k; index = i }
 
-placed : (k : ℕ) (f : FieldOf) (o : Option ℕ) → Some f ≡ option_map (field_in k) o → o ≡ Some f.index
+placed : (k : ℕ) (f : FieldId) (o : Option ℕ) → Some f ≡ option_map (field_in k) o → o ≡ Some f.index
 placed k f None h = absurd (cc)
-placed k f (Some i) h = ap (option_map (λ (g : FieldOf). g.index)) (sym h)
+placed k f (Some i) h = ap (option_map (λ (g : FieldId). g.index)) (sym h)
 
-missing : (k : ℕ) (o : Option ℕ) → ◌≡◌ {A = Option FieldOf} None (option_map (field_in k) o) → o ≡ None
+missing : (k : ℕ) (o : Option ℕ) → ◌≡◌ {A = Option FieldId} None (option_map (field_in k) o) → o ≡ None
 missing k None h = refl
 missing k (Some i) h = absurd (cc)
 
-pub offset-found : (k : ℕ) (fs : FieldShapes) (x : Name) (r : RecordLayout) (f : FieldOf) → AreLaidOut fs r → Some f ≡ field_selected (record_shape k fs) x → slice_index_or r.offsets.items f.index 0 ≡ field_offset fs x
-offset-found k fs x r f laid h = ap (λ os. slice_index_or os f.index 0) laid.offsets ∙ offset-listed fs 0 x f.index (placed k f (place_of_field fs x) h) ∙ zero-add (field_offset fs x)
+pub offset-found : (k : ℕ) (fs : FieldShapes) (x : Name) (r : RecordLayout) (f : FieldId) → AreLaidOut fs r → Some f ≡ field_selected (record_shape k fs) x → slice_index_or r.offsets.items f.index 0 ≡ field_offset fs x
+offset-found k fs x r f laid h = ap (λ os. slice_index_or os f.index 0) laid.offsets ∙ offset-listed fs 0 x f.index (placed k f (position_of_field fs x) h) ∙ zero-add (field_offset fs x)
 
-pub offset-missing : (k : ℕ) (fs : FieldShapes) (x : Name) (r : RecordLayout) → AreLaidOut fs r → ◌≡◌ {A = Option FieldOf} None (field_selected (record_shape k fs) x) → r.cells ≡ field_offset fs x
-offset-missing k fs x r laid h = laid.cells ∙ sym (offset-past fs x (missing k (place_of_field fs x) h))
+pub offset-missing : (k : ℕ) (fs : FieldShapes) (x : Name) (r : RecordLayout) → AreLaidOut fs r → ◌≡◌ {A = Option FieldId} None (field_selected (record_shape k fs) x) → r.cells ≡ field_offset fs x
+offset-missing k fs x r laid h = laid.cells ∙ sym (offset-past fs x (missing k (position_of_field fs x) h))
 
 -- what a look-up reads
 

@@ -7,7 +7,7 @@ pub mod CodeChains
 pub mod Lowerings
 pub mod Longer
 pub mod Rows
-pub mod InScene
+pub mod HoldsInScene
 pub mod Made
 pub mod Assigned
 pub mod Called

@@ -10,34 +10,34 @@ use Rattle.ob0_tree.specs.View.{procedure_of as tree_procedure_of}
 use Rattle.ob0_tree.specs.declared.tree.Block as tree_block
 use Rattle.ob0_tree.specs.declared.tree.Procedure as tree
 use Rattle.ob0_tree.proofs.Viewed.{block_parts, procedure_parts}
-use Rattle.ob0_scope_table.specs.InLabels.{in_labels, label_in}
+use Rattle.ob0_scope_table.specs.LabelledTrees.{tree_with_labels, label_at_token}
 use Rattle.ob0_types_table.proofs.LabelledParts.{split}
 use Rattle.ob0_scope_table.specs.Resolution.{Resolution, ordinal_in}
-use Rattle.ob0_language_names.specs.Names.{Label, Name, as_labels, as_names}
-use Rattle.ob0_language_names.specs.Parts.{constant_names, formal_sections, module_block, named_types, section_constants, section_types, section_variables}
-use Rattle.ob0_language_names.specs.Scopes.{as_label, numbered}
-use Rattle.ob0_types_table.specs.KnownTables.{Tables, declared_in}
+use Rattle.ob0_language_names.specs.Names.{Label, Name, naming_by_label, naming_by_spelling}
+use Rattle.ob0_language_names.specs.Parts.{constant_names, formal_sections, module_block, declared_type_names, section_constants, section_types, section_variables}
+use Rattle.ob0_language_names.specs.Scopes.{label_from_ordinal, numbered}
+use Rattle.ob0_types_table.specs.KnownTables.{Tables, declared_object_in}
 use Rattle.ob0_language_types.specs.Bindings.{declared_object}
 use Rattle.ob0_language_types.proofs.ConstantsDeclared.{FitParts, block-parts, procedure-parts}
-use Rattle.ob0_language_types.specs.Declarations.{after_types, after_variables, declare_first, formals_constructors, procedure_constructors}
+use Rattle.ob0_language_types.specs.Declarations.{constructor_after_types, constructor_after_variables, declare_first, formals_constructor_count, procedure_constructor_count}
 use Rattle.ob0_language_types.specs.Environments.{outermost}
-use Rattle.ob0_language_types.specs.WellTyped.{TypeEnvironment, TypedParameter, WellTyped, bind_typed, block_fits, body_fits, declare_typed, fits_over, heading, procedures_fit}
-use Rattle.ob0_language_types.proofs.Proved.{fits_by_ordinal-holds}
+use Rattle.ob0_language_types.specs.WellTyped.{TypeEnvironment, TypedParameter, WellTyped, bind_typed_parameters, block_fits, body_fits, declare_typed, fits_over, bind_procedure, procedures_fit}
+use Rattle.ob0_language_types.proofs.Proved.{numbering_keeps_type_check-holds}
 use Rattle.ob0_language_types.proofs.Literals.{some_inverse}
 use Rattle.ob0_language_types.proofs.TypedElsewhere.{then_some}
 use Rattle.ob0_run_machine.specs.Lowered as lowered
 use Rattle.ob0_run_machine.specs.View.{procedure_of, program_of, sequence_of}
 use Rattle.ob0_run_machine.specs.declared.code.Routine.{Routine}
 use Rattle.ob0_run_machine.specs.declared.code.LoweredCode.{LoweredCode}
-use Rattle.ob0_run_cells.specs.Activations.{BlockMeans, Placed, Placing, ProceduresMean, ProgramMeans, at_target, entered_placing, hide_names, inward, label_table, outermost_placing, own_target, place_parameters, place_variables}
+use Rattle.ob0_run_cells.specs.Activations.{BlockMeans, Placed, Placement, ProceduresMean, ProgramMeans, at_target, parameter_placement, bind_to_nowhere, inward_placement, label_table, outermost_placement, local_target, place_parameters, place_variables}
 use Rattle.ob0_run_cells.specs.Lowering.{held, of_module}
 use Rattle.ob0_run_lowering.specs.LoweredBodies.{BodyLowers}
-use Rattle.ob0_run_lowering.specs.Scenes.{seen_from, site_at}
+use Rattle.ob0_run_lowering.specs.Scenes.{place_seen_from, site_at}
 use Rattle.ob0_run_lowering.specs.declared.scene.Scene.{Scene}
 use Rattle.ob0_run_lowering.specs.declared.scene.Site.TheVariants as site
-use Rattle.ob0_run_lowering.specs.KnownBlocks.{AreDeclared, BlockDeclared, Objects}
-use Rattle.ob0_run_lowering.specs.Blocks.{Goes, Grown, Later, LowersBlock, MeansBlock, Ready, BlockState}
-use Rattle.ob0_run_lowering.specs.Placed.{Follows, IsRestored, LocatesAll, IsFrame, Matches, Places, declared_size, place_groups, place_sections, put_at, slots_at}
+use Rattle.ob0_run_lowering.specs.KnownBlocks.{AreDeclared, BlockIsDeclared, Objects}
+use Rattle.ob0_run_lowering.specs.Blocks.{LowersProcedures, KeepsRoutines, HasRoutinesFrom, LowersBlock, MeansBlock, Ready, BlockState}
+use Rattle.ob0_run_lowering.specs.Placed.{Follows, IsRestored, LocatesAll, IsFrame, PlacementMatches, Places, declared_size, place_groups, place_sections, sites_with_binding, variable_slot}
 use Rattle.ob0_run_lowering.specs.declared.programs.Lowering.{Lowering}
 use Rattle.ob0_run_lowering.specs.declared.visible_sites.Frame.{Frame}
 use Rattle.ob0_run_lowering.specs.declared.visible_sites.VisibleSites.{VisibleSites}
@@ -47,10 +47,10 @@ use Rattle.ob0_run_lowering.proofs.FollowingSites.{follows_back, follows_itself,
 
 -- one after the other
 
-pub goes_itself : (t : Tables) (w : Lowering) (d : ℕ) (ps : Tree Label (items procedure)) → Goes t w w d ps ps
+pub goes_itself : (t : Tables) (w : Lowering) (d : ℕ) (ps : Tree Label (items procedure)) → LowersProcedures t w w d ps ps
 goes_itself t w d ps = record { on = λ s statements ready. record { now = s; ready = ready; mean = λ table code later means. means }; follows = follows_itself w.visible; longer = le_refl (length w.procedures.items); grown = λ i e get. get }
 
-pub goes_then : (t : Tables) (w v u : Lowering) (d : ℕ) (ps qs rest : Tree Label (items procedure)) → Goes t w v d ps qs → Goes t v u d qs rest → Goes t w u d ps rest
+pub goes_then : (t : Tables) (w v u : Lowering) (d : ℕ) (ps qs rest : Tree Label (items procedure)) → LowersProcedures t w v d ps qs → LowersProcedures t v u d qs rest → LowersProcedures t w u d ps rest
 goes_then t w v u d ps qs rest a b = record {
   on = λ s statements ready.
       let first = a.on s statements ready in
@@ -85,7 +85,7 @@ get_push (y ∷ xs) x (suc i) e h = get_push xs x i e h
 record Kept (before announced lowered kept : List Routine) (index : ℕ) (entry : Routine) : Type 0 where
   pub at : index ≡ length before
   pub pushed : (e : Routine) × (announced ≡ before ++ e ∷ [])
-  pub grown : Grown announced lowered
+  pub grown : KeepsRoutines announced lowered
   pub longer : length announced ≤ length lowered
   pub kept_is : kept ≡ set lowered index entry
 
@@ -95,7 +95,7 @@ kept-room a b c d i e k = omega (arith, k.at, k.longer, ap length k.pushed.1, le
 kept-entry : (a b c d : List Routine) (i : ℕ) (e : Routine) → Kept a b c d i e → slice_get d i ≡ Some e
 kept-entry a b c d i e k = ap (λ xs. slice_get xs i) k.kept_is ∙ get_set_same c i e (omega (arith, kept-room a b c d i e k))
 
-kept-grown : (a b c d : List Routine) (i : ℕ) (e : Routine) → Kept a b c d i e → Grown a d
+kept-grown : (a b c d : List Routine) (i : ℕ) (e : Routine) → Kept a b c d i e → KeepsRoutines a d
 kept-grown a b c d i e k = λ j x get.
     let less : j < length a = slice_get_within a j x get in
     ap (λ xs. slice_get xs j) k.kept_is ∙ get_set_other c i j e (λ same. omega (arith, same, less, k.at)) ∙ k.grown j x (ap (λ xs. slice_get xs j) k.pushed.1 ∙ get_push a k.pushed.0 j x get)
@@ -103,7 +103,7 @@ kept-grown a b c d i e k = λ j x get.
 kept-longer : (a b c d : List Routine) (i : ℕ) (e : Routine) → Kept a b c d i e → length a ≤ length d
 kept-longer a b c d i e k = omega (arith, ap length k.kept_is, length-set c i e, kept-room a b c d i e k, k.at)
 
-kept-later : (table : List lowered.Routine) (a b c d : List Routine) (i : ℕ) (e : Routine) → Kept a b c d i e → Later table (length a) d → Later table (length b) c
+kept-later : (table : List lowered.Routine) (a b c d : List Routine) (i : ℕ) (e : Routine) → Kept a b c d i e → HasRoutinesFrom table (length a) d → HasRoutinesFrom table (length b) c
 kept-later table a b c d i e k later = λ j x le get.
     let following : suc i ≤ j = omega (arith, le, k.at, ap length k.pushed.1, length-append a (k.pushed.0 ∷ [])) in
     later j x (omega (arith, following, k.at)) (ap (λ xs. slice_get xs j) k.kept_is ∙ get_set_other c i j e (λ same. omega (arith, same, following)) ∙ get)
@@ -113,11 +113,11 @@ kept-later table a b c d i e k later = λ j x le get.
 -- a procedure announced, its parameters placed, its block lowered, and its code kept
 pub record IsProcedure (t : Tables) (w v u after : Lowering) (depth index : ℕ) (o : Option ℕ) (name : Name) (fs : Tree Label (maybe formals)) (b : Tree Label block) (first f : Frame) (entry : Routine) : Type 0 where
   pub index_is : index ≡ length w.procedures.items
-  pub sites : (k : ℕ) → site_at v.visible.sites.items k ≡ put_at o (site.Procedure depth index) (site_at w.visible.sites.items) k
+  pub sites : (k : ℕ) → site_at v.visible.sites.items k ≡ sites_with_binding o (site.Procedure depth index) (site_at w.visible.sites.items) k
   pub announced : Follows w.visible v.visible
   pub pushed : (e : Routine) × (v.procedures.items ≡ w.procedures.items ++ e ∷ [])
   pub first_is : first ≡ record { depth = suc depth; cells = 0; references = 0 }
-  pub placed : (inside : VisibleSites) × Places v.visible inside first (place_sections (slots_at first.depth) (declared_size t) (formal_sections fs)) f × LowersBlock t (record { visible = inside; procedures = v.procedures }) u f b entry
+  pub placed : (inside : VisibleSites) × Places v.visible inside first (place_sections (variable_slot first.depth) (declared_size t) (formal_sections fs)) f × LowersBlock t (record { visible = inside; procedures = v.procedures }) u f b entry
   pub back : IsRestored v.visible u.visible after.visible
   pub kept : after.procedures.items ≡ set u.procedures.items index entry
 
@@ -126,10 +126,10 @@ procedure-kept : (t : Tables) (w v u after : Lowering) (depth index : ℕ) (o : 
 procedure-kept t w v u after depth index o name fs b first f entry is = record { at = is.index_is; pushed = is.pushed; grown = is.placed.2.grown; longer = is.placed.2.longer; kept_is = is.kept }
 
 pub procedure_goes : (t : Tables) (w v u after : Lowering) (depth index : ℕ) (o : Option ℕ) (name : Name) (fs : Tree Label (maybe formals)) (b : Tree Label block) (closing : Label) (rest : Tree Label (items procedure)) (first f : Frame) (entry : Routine)
-    → IsProcedure t w v u after depth index o name fs b first f entry → Goes t w after depth (more (declares_procedure (as_label as_names o name) fs b closing) rest) rest
+    → IsProcedure t w v u after depth index o name fs b first f entry → LowersProcedures t w after depth (more (declares_procedure (label_from_ordinal naming_by_spelling o name) fs b closing) rest) rest
 procedure_goes t w v u after depth index o name fs b closing rest first f entry is =
     let kept = procedure-kept t w v u after depth index o name fs b first f entry is in
-    let x : Label = as_label as_names o name in
+    let x : Label = label_from_ordinal naming_by_spelling o name in
     let deep : first.depth ≡ suc depth = ap (λ (z : Frame). z.depth) is.first_is in
     let inside : Lowering = record { visible = is.placed.0; procedures = v.procedures } in
     let places = is.placed.1 in
@@ -138,30 +138,30 @@ procedure_goes t w v u after depth index o name fs b closing rest first f entry 
       on = λ s statements ready.
           let parts : FitParts s.env s.next statements x fs b closing rest = procedure-parts s.env s.next statements x fs b closing rest ready.fits in
           let ps : List (TypedParameter Label) = parts.listed in
-          let headed : TypeEnvironment Label = heading x ps s.env in
+          let headed : TypeEnvironment Label = bind_procedure x ps s.env in
           let known = ready.declared_following ps parts.typed in
-          let outer : Placing Label = (x, own_target index) ∷ s.placing in
+          let outer : Placement Label = (x, local_target index) ∷ s.placement in
           let none : depth - depth ≡ 0 = omega arith in
-          let seen : seen_from depth (site.Procedure depth index) ≡ own_target index = ap (λ n. at_target (record { procedure = index; up = n })) none in
-          let held_there : LocatesAll v.visible.sites.items depth outer = holds_bound w.visible.sites.items v.visible.sites.items depth s.placing o name (site.Procedure depth index) (own_target index) (le_refl depth, seen) is.sites ready.holds in
-          let matched : Matches headed outer = (refl, (record { procedure = index; up = 0 }, refl), ready.matches) in
-          let now : BlockState = record { env = headed; placing = outer; next = s.next + procedure_constructors (declares_procedure x fs b closing) } in
-          let empty : Placed Label = record { placing = inward outer; cells = 0; reference_places = 0 } in
+          let seen : place_seen_from depth (site.Procedure depth index) ≡ local_target index = ap (λ n. at_target (record { procedure = index; up = n })) none in
+          let held_there : LocatesAll v.visible.sites.items depth outer = holds_bound w.visible.sites.items v.visible.sites.items depth s.placement o name (site.Procedure depth index) (local_target index) (le_refl depth, seen) is.sites ready.holds in
+          let matched : PlacementMatches headed outer = (refl, (record { procedure = index; up = 0 }, refl), ready.matches) in
+          let now : BlockState = record { env = headed; placement = outer; next = s.next + procedure_constructor_count (declares_procedure x fs b closing) } in
+          let empty : Placed Label = record { placement = inward_placement outer; cells = 0; reference_places = 0 } in
           let begun : IsFrame v.visible.sites.items first empty = record {
-            holds = subst (λ d. LocatesAll v.visible.sites.items d (inward outer)) (sym deep) (holds_inward v.visible.sites.items depth outer held_there);
+            holds = subst (λ d. LocatesAll v.visible.sites.items d (inward_placement outer)) (sym deep) (holds_inward v.visible.sites.items depth outer held_there);
             cells = ap (λ (z : Frame). z.cells) is.first_is;
             reference_places = ap (λ (z : Frame). z.references) is.first_is;
           } in
-          let all_placed : place_parameters ps empty ≡ place_sections (slots_at first.depth) (declared_size t) (formal_sections fs) empty =
-          sections_placed t (formal_sections fs) s.next s.env headed ps empty parts.typed known.0 ∙ ap (λ d. place_sections (slots_at d) (declared_size t) (formal_sections fs) empty) (sym deep) in
-          let entered : IsFrame is.placed.0.sites.items f (entered_placing ps outer) = subst (IsFrame is.placed.0.sites.items f) (sym all_placed) (places.placed empty begun) in
-          let inner_matches : Matches (bind_typed ps headed) (entered_placing ps outer).placing = parameters_match ps headed empty (matches_inward headed outer matched) in
-          let slots : slots_at f.depth ≡ held 0 = ap slots_at (places.depth ∙ deep) in
-          let at : ℕ = s.next + formals_constructors (formal_sections fs) in
-          let lowers : MeansBlock inside u f b entry (bind_typed ps headed) (entered_placing ps outer) at = block_is.on (bind_typed ps headed) (entered_placing ps outer) at inner_matches entered parts.block_right known.1 in record {
+          let all_placed : place_parameters ps empty ≡ place_sections (variable_slot first.depth) (declared_size t) (formal_sections fs) empty =
+          sections_placed t (formal_sections fs) s.next s.env headed ps empty parts.typed known.0 ∙ ap (λ d. place_sections (variable_slot d) (declared_size t) (formal_sections fs) empty) (sym deep) in
+          let entered : IsFrame is.placed.0.sites.items f (parameter_placement ps outer) = subst (IsFrame is.placed.0.sites.items f) (sym all_placed) (places.placed empty begun) in
+          let inner_matches : PlacementMatches (bind_typed_parameters ps headed) (parameter_placement ps outer).placement = parameters_match ps headed empty (matches_inward headed outer matched) in
+          let slots : variable_slot f.depth ≡ held 0 = ap variable_slot (places.depth ∙ deep) in
+          let at : ℕ = s.next + formals_constructor_count (formal_sections fs) in
+          let lowers : MeansBlock inside u f b entry (bind_typed_parameters ps headed) (parameter_placement ps outer) at = block_is.on (bind_typed_parameters ps headed) (parameter_placement ps outer) at inner_matches entered parts.block_right known.1 in record {
             now = now;
             ready = record {
-              declared_there = typed_before (declared_in t) ps headed known.0;
+              declared_there = typed_before (declared_object_in t) ps headed known.0;
               matches = matched;
               holds = holds_same v.visible.sites.items after.visible.sites.items depth outer is.back.1 held_there;
               fits = parts.rest_right;
@@ -174,7 +174,7 @@ procedure_goes t w v u after depth index o name fs b closing rest first f entry 
                 routine = procedure_of entry;
                 are_typed = parts.typed;
                 in_table = later index entry (omega (arith, is.index_is)) (kept-entry w.procedures.items v.procedures.items u.procedures.items after.procedures.items index entry kept);
-                means = subst (λ at. BlockMeans (label_table table) at (bind_typed ps headed) (entered_placing ps outer) (s.next + formals_constructors (formal_sections fs)) entry.cells (sequence_of entry.body.items) b) slots
+                means = subst (λ at. BlockMeans (label_table table) at (bind_typed_parameters ps headed) (parameter_placement ps outer) (s.next + formals_constructor_count (formal_sections fs)) entry.cells (sequence_of entry.body.items) b) slots
                     (lowers.means table (kept-later table w.procedures.items v.procedures.items u.procedures.items after.procedures.items index entry kept later));
               },
               means,
@@ -187,12 +187,12 @@ procedure_goes t w v u after depth index o name fs b closing rest first f entry 
 
 -- blocks
 
-body-fits : (env : TypeEnvironment Label) (k : ℕ) (statements : Tree Label (maybe body)) → procedures_fit as_labels env k statements end ≡ true → IsTrue (body_fits as_labels env statements)
+body-fits : (env : TypeEnvironment Label) (k : ℕ) (statements : Tree Label (maybe body)) → procedures_fit naming_by_label env k statements end ≡ true → IsTrue (body_fits naming_by_label env statements)
 unfolding block_fits
 body-fits env k statements h = h
 
 pub block_lowers : (t : Tables) (w v : Lowering) (inside : VisibleSites) (cs : Tree Label (maybe constants)) (ts : Tree Label (maybe type_names)) (vs : Tree Label (maybe variables)) (ps : Tree Label (items procedure)) (statements : Tree Label (maybe body)) (f own : Frame) (scene : Scene) (entry : Routine)
-    → Places w.visible inside f (place_groups (slots_at f.depth) (declared_size t) (section_variables vs)) own → Goes t (record { visible = inside; procedures = w.procedures }) v own.depth ps end
+    → Places w.visible inside f (place_groups (variable_slot f.depth) (declared_size t) (section_variables vs)) own → LowersProcedures t (record { visible = inside; procedures = w.procedures }) v own.depth ps end
     → scene.types.now ≡ t → scene.sites.now ≡ v.visible.sites.items → scene.depth ≡ own.depth → BodyLowers scene (sequence_of entry.body.items) statements → entry.cells ≡ own.cells - f.cells
     → LowersBlock t w v f (has_body (declares cs ts vs ps) statements) entry
 block_lowers t w v inside cs ts vs ps statements f own scene entry places goes types sites deep lowers cells = record {
@@ -200,36 +200,36 @@ block_lowers t w v inside cs ts vs ps statements f own scene entry places goes t
       let b : Tree Label block = has_body (declares cs ts vs ps) statements in
       let parts = block-parts env k b fits in
       let inner : TypeEnvironment Label = parts.0 in
-      let declared_parts = then_some (declare_first as_labels env k b) (declare_typed as_labels (after_types k b) (section_variables vs)) inner parts.1 in
+      let declared_parts = then_some (declare_first naming_by_label env k b) (declare_typed naming_by_label (constructor_after_types k b) (section_variables vs)) inner parts.1 in
       let first : TypeEnvironment Label = declared_parts.0 in
       let known_parts = known inner parts.1 in
-      let at = slots_at f.depth in
-      let hidden : Placing Label = hide_names (named_types (section_types ts)) (hide_names (constant_names (section_constants cs)) p.placing) in
-      let start : Placed Label = record p { placing = hidden } in
+      let at = variable_slot f.depth in
+      let hidden : Placement Label = bind_to_nowhere (declared_type_names (section_types ts)) (bind_to_nowhere (constant_names (section_constants cs)) p.placement) in
+      let start : Placed Label = record p { placement = hidden } in
       let q : Placed Label = place_groups at (declared_size t) (section_variables vs) start in
-      let begun : IsFrame w.visible.sites.items f start = record { holds = holds_hidden w.visible.sites.items f.depth (named_types (section_types ts)) (hide_names (constant_names (section_constants cs)) p.placing) (holds_hidden w.visible.sites.items f.depth (constant_names (section_constants cs)) p.placing frame.holds); cells = frame.cells; reference_places = frame.reference_places } in
+      let begun : IsFrame w.visible.sites.items f start = record { holds = holds_hidden w.visible.sites.items f.depth (declared_type_names (section_types ts)) (bind_to_nowhere (constant_names (section_constants cs)) p.placement) (holds_hidden w.visible.sites.items f.depth (constant_names (section_constants cs)) p.placement frame.holds); cells = frame.cells; reference_places = frame.reference_places } in
       let laid : IsFrame inside.sites.items own q = places.placed start begun in
-      let ready : Ready t inside.sites.items own.depth (record { env = inner; placing = q.placing; next = after_variables k b }) statements ps = record {
+      let ready : Ready t inside.sites.items own.depth (record { env = inner; placement = q.placement; next = constructor_after_variables k b }) statements ps = record {
         declared_there = known_parts.0;
-        matches = groups_match at (declared_size t) (section_variables vs) (after_types k b) first inner start declared_parts.2 (first_match b k env first p.placing declared_parts.1 matches);
+        matches = groups_match at (declared_size t) (section_variables vs) (constructor_after_types k b) first inner start declared_parts.2 (first_match b k env first p.placement declared_parts.1 matches);
         holds = laid.holds;
         fits = parts.2;
         declared_following = known_parts.1;
       } in
-      let gone = goes.on (record { env = inner; placing = q.placing; next = after_variables k b }) statements ready in
+      let gone = goes.on (record { env = inner; placement = q.placement; next = constructor_after_variables k b }) statements ready in
       let now : BlockState = gone.now in
       let last = gone.ready in
-      let seen = sees scene now.env now.placing (subst (λ z. AreDeclared (declared_in z) now.env) (sym types) last.declared_there) last.matches
-      (subst (λ d. LocatesAll scene.sites.now d now.placing) (sym deep) (subst (λ xs. LocatesAll xs own.depth now.placing) (sym sites) last.holds)) in record {
+      let seen = sees scene now.env now.placement (subst (λ z. AreDeclared (declared_object_in z) now.env) (sym types) last.declared_there) last.matches
+      (subst (λ d. LocatesAll scene.sites.now d now.placement) (sym deep) (subst (λ xs. LocatesAll xs own.depth now.placement) (sym sites) last.holds)) in record {
         means = λ table later. record {
           first = first;
           inner = inner;
           placed = q;
           first_declared = declared_parts.1;
           variables_declared = declared_parts.2;
-          variables_placed = groups_placed t at (section_variables vs) (after_types k b) first inner start declared_parts.2 known_parts.0;
+          variables_placed = groups_placed t at (section_variables vs) (constructor_after_types k b) first inner start declared_parts.2 known_parts.0;
           cells_counted = omega (arith, cells, laid.cells, frame.cells, places.more_cells);
-          inside = gone.mean table (sequence_of entry.body.items) later (lowers now.env now.placing seen (body-fits now.env now.next statements last.fits));
+          inside = gone.mean table (sequence_of entry.body.items) later (lowers now.env now.placement seen (body-fits now.env now.next statements last.fits));
         };
       };
   follows = follows_then w.visible inside v.visible places.follows goes.follows;
@@ -239,65 +239,65 @@ block_lowers t w v inside cs ts vs ps statements f own scene entry places goes t
 
 -- the procedures of a block, by the code's list
 
-pub goes_on : (t : Tables) (w v u : Lowering) (d : ℕ) (r : Resolution) (xs : List tree.Procedure) (done : ℕ) (x : tree.Procedure) (all : Tree Label (items procedure)) → Goes t w v d all (in_labels r (items_of tree_procedure_of (drop done xs))) → done < length xs → x ≡ get_or xs done x
-    → ((rest : Tree Label (items procedure)) → Goes t v u d (more (in_labels r (tree_procedure_of x)) rest) rest) → Goes t w u d all (in_labels r (items_of tree_procedure_of (drop (done + 1) xs)))
+pub goes_on : (t : Tables) (w v u : Lowering) (d : ℕ) (r : Resolution) (xs : List tree.Procedure) (done : ℕ) (x : tree.Procedure) (all : Tree Label (items procedure)) → LowersProcedures t w v d all (tree_with_labels r (items_of tree_procedure_of (drop done xs))) → done < length xs → x ≡ get_or xs done x
+    → ((rest : Tree Label (items procedure)) → LowersProcedures t v u d (more (tree_with_labels r (tree_procedure_of x)) rest) rest) → LowersProcedures t w u d all (tree_with_labels r (items_of tree_procedure_of (drop (done + 1) xs)))
 goes_on t w v u d r xs done x all a less here b =
-    let rest : Tree Label (items procedure) = in_labels r (items_of tree_procedure_of (drop (done + 1) xs)) in
-    goes_then t w v u d all (in_labels r (items_of tree_procedure_of (drop done xs))) rest a
-    (subst (λ ys. Goes t v u d (in_labels r (items_of tree_procedure_of ys)) rest) (sym (split done xs x less here)) (b rest))
+    let rest : Tree Label (items procedure) = tree_with_labels r (items_of tree_procedure_of (drop (done + 1) xs)) in
+    goes_then t w v u d all (tree_with_labels r (items_of tree_procedure_of (drop done xs))) rest a
+    (subst (λ ys. LowersProcedures t v u d (tree_with_labels r (items_of tree_procedure_of ys)) rest) (sym (split done xs x less here)) (b rest))
 
 pub block_means : (t : Tables) (w v : Lowering) (inside : VisibleSites) (b : tree_block.Block) (xs : List tree.Procedure) (done : ℕ) (f own : Frame) (scene : Scene) (entry : Routine) (r : Resolution)
-    → Places w.visible inside f (place_groups (slots_at f.depth) (declared_size t) (section_variables (in_labels r (variables_of (tree_block.out-Block b).variables)))) own
-    → Goes t (record { visible = inside; procedures = w.procedures }) v own.depth (in_labels r (items_of tree_procedure_of xs)) (in_labels r (items_of tree_procedure_of (drop done xs))) → length xs ≤ done → xs ≡ (tree_block.out-Block b).procedures.items
-    → scene.types.now ≡ t → scene.sites.now ≡ v.visible.sites.items → scene.depth ≡ own.depth → BodyLowers scene (sequence_of entry.body.items) (in_labels r (body_of (tree_block.out-Block b).body)) → entry.cells ≡ own.cells - f.cells
-    → LowersBlock t w v f (in_labels r (block_of b)) entry
+    → Places w.visible inside f (place_groups (variable_slot f.depth) (declared_size t) (section_variables (tree_with_labels r (variables_of (tree_block.out-Block b).variables)))) own
+    → LowersProcedures t (record { visible = inside; procedures = w.procedures }) v own.depth (tree_with_labels r (items_of tree_procedure_of xs)) (tree_with_labels r (items_of tree_procedure_of (drop done xs))) → length xs ≤ done → xs ≡ (tree_block.out-Block b).procedures.items
+    → scene.types.now ≡ t → scene.sites.now ≡ v.visible.sites.items → scene.depth ≡ own.depth → BodyLowers scene (sequence_of entry.body.items) (tree_with_labels r (body_of (tree_block.out-Block b).body)) → entry.cells ≡ own.cells - f.cells
+    → LowersBlock t w v f (tree_with_labels r (block_of b)) entry
 block_means t w v inside b xs done f own scene entry r places goes all same types sites deep lowers cells =
     let o = tree_block.out-Block b in
-    subst (λ z. LowersBlock t w v f (in_labels r z) entry) (sym (block_parts b))
-    (block_lowers t w v inside (in_labels r (constants_of o.constants)) (in_labels r (types_of o.types)) (in_labels r (variables_of o.variables)) (in_labels r (items_of tree_procedure_of o.procedures.items)) (in_labels r (body_of o.body)) f own scene entry places
-    (subst (λ ys. Goes t (record { visible = inside; procedures = w.procedures }) v own.depth (in_labels r (items_of tree_procedure_of ys)) end) same
-    (subst (λ ys. Goes t (record { visible = inside; procedures = w.procedures }) v own.depth (in_labels r (items_of tree_procedure_of xs)) (in_labels r (items_of tree_procedure_of ys))) (drop_all done xs all) goes))
+    subst (λ z. LowersBlock t w v f (tree_with_labels r z) entry) (sym (block_parts b))
+    (block_lowers t w v inside (tree_with_labels r (constants_of o.constants)) (tree_with_labels r (types_of o.types)) (tree_with_labels r (variables_of o.variables)) (tree_with_labels r (items_of tree_procedure_of o.procedures.items)) (tree_with_labels r (body_of o.body)) f own scene entry places
+    (subst (λ ys. LowersProcedures t (record { visible = inside; procedures = w.procedures }) v own.depth (tree_with_labels r (items_of tree_procedure_of ys)) end) same
+    (subst (λ ys. LowersProcedures t (record { visible = inside; procedures = w.procedures }) v own.depth (tree_with_labels r (items_of tree_procedure_of xs)) (tree_with_labels r (items_of tree_procedure_of ys))) (drop_all done xs all) goes))
     types sites deep lowers cells)
 
 pub procedure_means : (t : Tables) (w v u after : Lowering) (depth index : ℕ) (p : tree.Procedure) (r : Resolution) (first f : Frame) (entry : Routine) (rest : Tree Label (items procedure))
-    → IsProcedure t w v u after depth index (ordinal_in r.ordinals (tree.out-Procedure p).name) (text_at r.module_read.source (tree.out-Procedure p).name) (in_labels r (formals_of (tree.out-Procedure p).formals)) (in_labels r (block_of (tree.out-Procedure p).block)) first f entry
-    → Goes t w after depth (more (in_labels r (tree_procedure_of p)) rest) rest
+    → IsProcedure t w v u after depth index (ordinal_in r.ordinals (tree.out-Procedure p).name) (text_at r.module_read.source (tree.out-Procedure p).name) (tree_with_labels r (formals_of (tree.out-Procedure p).formals)) (tree_with_labels r (block_of (tree.out-Procedure p).block)) first f entry
+    → LowersProcedures t w after depth (more (tree_with_labels r (tree_procedure_of p)) rest) rest
 procedure_means t w v u after depth index p r first f entry rest is =
     let o = tree.out-Procedure p in
-    subst (λ z. Goes t w after depth (more (in_labels r z) rest) rest) (sym (procedure_parts p))
-    (procedure_goes t w v u after depth index (ordinal_in r.ordinals o.name) (text_at r.module_read.source o.name) (in_labels r (formals_of o.formals)) (in_labels r (block_of o.block)) (label_in r o.closing) rest first f entry is)
+    subst (λ z. LowersProcedures t w after depth (more (tree_with_labels r z) rest) rest) (sym (procedure_parts p))
+    (procedure_goes t w v u after depth index (ordinal_in r.ordinals o.name) (text_at r.module_read.source o.name) (tree_with_labels r (formals_of o.formals)) (tree_with_labels r (block_of o.block)) (label_at_token r o.closing) rest first f entry is)
 
 -- the program of a module
 
-outermost-matches : Matches (outermost as_labels) (outermost_placing as_labels)
+outermost-matches : PlacementMatches (outermost naming_by_label) (outermost_placement naming_by_label)
 outermost-matches = (refl, tt, (refl, tt, (refl, tt, (refl, tt, (refl, tt, (refl, tt, (refl, tt, tt)))))))
 
-outermost-holds : LocatesAll [] 0 (outermost_placing as_labels)
-outermost-holds = holds_hidden [] 0 (as_labels.predeclared 0 ∷ as_labels.predeclared 1 ∷ as_labels.predeclared 2 ∷ as_labels.predeclared 3 ∷ as_labels.predeclared 4 ∷ as_labels.predeclared 5 ∷ as_labels.predeclared 6 ∷ []) [] (λ k. tt)
+outermost-holds : LocatesAll [] 0 (outermost_placement naming_by_label)
+outermost-holds = holds_hidden [] 0 (naming_by_label.predeclared 0 ∷ naming_by_label.predeclared 1 ∷ naming_by_label.predeclared 2 ∷ naming_by_label.predeclared 3 ∷ naming_by_label.predeclared 4 ∷ naming_by_label.predeclared 5 ∷ naming_by_label.predeclared 6 ∷ []) [] (λ k. tt)
 
-all-later : (ps : List Routine) → Later (map procedure_of ps) 0 ps
+all-later : (ps : List Routine) → HasRoutinesFrom (map procedure_of ps) 0 ps
 all-later ps = λ i e le get. slice_get-map procedure_of ps i ∙ ap (option_map procedure_of) get
 
-module-fits : (m : Tree Name module_text) → WellTyped m → block_fits as_labels (outermost as_labels) 0 (module_block (numbered m)) ≡ true
+module-fits : (m : Tree Name module_text) → WellTyped m → block_fits naming_by_label (outermost naming_by_label) 0 (module_block (numbered m)) ≡ true
 unfolding WellTyped fits_over
-module-fits m well = sym (fits_by_ordinal-holds m) ∙ well.1
+module-fits m well = sym (numbering_keeps_type_check-holds m) ∙ well.1
 
 abbrev outermost_placed : Placed Label
-outermost_placed = record { placing = outermost_placing as_labels; cells = 0; reference_places = 0 }
+outermost_placed = record { placement = outermost_placement naming_by_label; cells = 0; reference_places = 0 }
 
-module_means : (t : Tables) (m : Tree Name module_text) (w v : Lowering) (b : Tree Label block) (entry : Routine) → WellTyped m → ((k : ℕ) → declared_in t k ≡ declared_object m k) → module_block (numbered m) ≡ b
-    → w.visible.sites.items ≡ [] → LowersBlock t w v (record { depth = 0; cells = 0; references = 0 }) b entry → MeansBlock w v (record { depth = 0; cells = 0; references = 0 }) b entry (outermost as_labels) outermost_placed 0
+module_means : (t : Tables) (m : Tree Name module_text) (w v : Lowering) (b : Tree Label block) (entry : Routine) → WellTyped m → ((k : ℕ) → declared_object_in t k ≡ declared_object m k) → module_block (numbered m) ≡ b
+    → w.visible.sites.items ≡ [] → LowersBlock t w v (record { depth = 0; cells = 0; references = 0 }) b entry → MeansBlock w v (record { depth = 0; cells = 0; references = 0 }) b entry (outermost naming_by_label) outermost_placed 0
 module_means t m w v b entry well known is sites lowers =
-    let known_blocks : BlockDeclared (declared_in t) (outermost as_labels) 0 (module_block (numbered m)) = subst (λ (objects : Objects). BlockDeclared objects (outermost as_labels) 0 (module_block (numbered m))) (λ i k. sym (known k) i) (module-declared m well) in
-    lowers.on (outermost as_labels) outermost_placed 0 outermost-matches
-    (record { holds = subst (λ xs. LocatesAll xs 0 (outermost_placing as_labels)) (sym sites) outermost-holds; cells = refl; reference_places = refl })
-    (subst (λ z. block_fits as_labels (outermost as_labels) 0 z ≡ true) is (module-fits m well)) (subst (λ z. BlockDeclared (declared_in t) (outermost as_labels) 0 z) is known_blocks)
+    let known_blocks : BlockIsDeclared (declared_object_in t) (outermost naming_by_label) 0 (module_block (numbered m)) = subst (λ (objects : Objects). BlockIsDeclared objects (outermost naming_by_label) 0 (module_block (numbered m))) (λ i k. sym (known k) i) (module-declared m well) in
+    lowers.on (outermost naming_by_label) outermost_placed 0 outermost-matches
+    (record { holds = subst (λ xs. LocatesAll xs 0 (outermost_placement naming_by_label)) (sym sites) outermost-holds; cells = refl; reference_places = refl })
+    (subst (λ z. block_fits naming_by_label (outermost naming_by_label) 0 z ≡ true) is (module-fits m well)) (subst (λ z. BlockIsDeclared (declared_object_in t) (outermost naming_by_label) 0 z) is known_blocks)
 
-pub program_means : (t : Tables) (m : Tree Name module_text) (w v : Lowering) (b : Tree Label block) (entry : Routine) (program : LoweredCode) → WellTyped m → ((k : ℕ) → declared_in t k ≡ declared_object m k) → module_block (numbered m) ≡ b
+pub program_means : (t : Tables) (m : Tree Name module_text) (w v : Lowering) (b : Tree Label block) (entry : Routine) (program : LoweredCode) → WellTyped m → ((k : ℕ) → declared_object_in t k ≡ declared_object m k) → module_block (numbered m) ≡ b
     → w.visible.sites.items ≡ [] → LowersBlock t w v (record { depth = 0; cells = 0; references = 0 }) b entry
-    → program_of program ≡ record { cells = entry.cells; body = sequence_of entry.body.items; procedures = map procedure_of v.procedures.items } → ProgramMeans as_labels (numbered m) (program_of program)
+    → program_of program ≡ record { cells = entry.cells; body = sequence_of entry.body.items; procedures = map procedure_of v.procedures.items } → ProgramMeans naming_by_label (numbered m) (program_of program)
 program_means t m w v b entry program well known is sites lowers made =
-    let means : MeansBlock w v (record { depth = 0; cells = 0; references = 0 }) b entry (outermost as_labels) outermost_placed 0 = module_means t m w v b entry well known is sites lowers in
+    let means : MeansBlock w v (record { depth = 0; cells = 0; references = 0 }) b entry (outermost naming_by_label) outermost_placed 0 = module_means t m w v b entry well known is sites lowers in
     let table : List lowered.Routine = map procedure_of v.procedures.items in
-    subst (ProgramMeans as_labels (numbered m)) (sym made)
-    (subst (λ z. BlockMeans (label_table table) of_module (outermost as_labels) outermost_placed 0 entry.cells (sequence_of entry.body.items) z) (sym is) (means.means table (λ i e le get. all-later v.procedures.items i e (omega arith) get)))
+    subst (ProgramMeans naming_by_label (numbered m)) (sym made)
+    (subst (λ z. BlockMeans (label_table table) of_module (outermost naming_by_label) outermost_placed 0 entry.cells (sequence_of entry.body.items) z) (sym is) (means.means table (λ i e le get. all-later v.procedures.items i e (omega arith) get)))

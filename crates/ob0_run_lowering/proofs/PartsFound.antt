@@ -3,15 +3,15 @@ use Rattle.std.proofs.Common.{◌≡◌, ℕ, ◌*◌, ◌%◌, ◌^◌, Bool, t
 use Rattle.std.proofs.Math.Nat.{add-mod-mod}
 use Rattle.ob0_tree.specs.Tree.{Tree, items, selector}
 use Rattle.ob0_language_names.specs.Names.{Label}
-use Rattle.ob0_language_types.specs.WellTyped.{Typed}
+use Rattle.ob0_language_types.specs.WellTyped.{TypeMeanings}
 use Rattle.ob0_language_values.specs.Values.{Place, Shape}
 use Rattle.ob0_run_machine.specs.Evaluation as machine
 use Rattle.ob0_run_machine.specs.Evaluation.{Levels}
 use Rattle.ob0_run_machine.specs.Lowered as lowered
-use Rattle.ob0_run_cells.specs.Lowering.{Evaluated, PlaceLeads, Slot, cells_in, outcome_of}
+use Rattle.ob0_run_cells.specs.Lowering.{OutcomeByMoment, PlaceStartsChain, Slot, cells_in, outcome_of}
 use Rattle.ob0_run_cells.proofs.LoweredOutcomes.{followed_by, same}
 use Rattle.ob0_run_cells.proofs.LoweredPlaces.{element-address, part-address}
-use Rattle.ob0_run_lowering.specs.Codes.{element_at_place, element_from}
+use Rattle.ob0_run_lowering.specs.Codes.{element_at_place, element_or_part}
 
 -- two places that have the same address, in all activations and over all cells
 pub record SamePlace (p q : lowered.Place) : Type 0 where
@@ -20,11 +20,11 @@ pub record SamePlace (p q : lowered.Place) : Type 0 where
 at-index : (ls : Levels) (cells : List ℤ) (q : lowered.Place) (i : lowered.Number) (n s : ℕ) → machine.address ls cells (element_at_place q i n s) ≡ machine.address ls cells (lowered.element q i n s 0)
 at-index ls cells q (lowered.literal (pos j)) n s = known (nat_lt j n) refl
   where
-    known : (b : Bool) → nat_lt j n ≡ b → machine.address ls cells (element_from (if b then Some ((j * s) % 2 ^ 64) else None) q (lowered.literal (pos j)) n s) ≡ machine.address ls cells (lowered.element q (lowered.literal (pos j)) n s 0)
+    known : (b : Bool) → nat_lt j n ≡ b → machine.address ls cells (element_or_part (if b then Some ((j * s) % 2 ^ 64) else None) q (lowered.literal (pos j)) n s) ≡ machine.address ls cells (lowered.element q (lowered.literal (pos j)) n s 0)
     known true h =
         part-address ls cells q ((j * s) % 2 ^ 64)
         ∙ ((λ z. followed_by (machine.address ls cells q) (λ a. machine.gives (add-mod-mod a (j * s) (2 ^ 64) z)))
-        ∙ (ap (λ b. followed_by (machine.address ls cells q) (λ a. if b then machine.gives (machine.forward a (j * s)) else machine.ends machine.Index)) (sym h)
+        ∙ (ap (λ b. followed_by (machine.address ls cells q) (λ a. if b then machine.gives (machine.add_offset a (j * s)) else machine.ends machine.Index)) (sym h)
         ∙ sym (element-address ls cells q (lowered.literal (pos j)) n s)))
     known false h = refl
 at-index ls cells q _ n s = refl
@@ -33,8 +33,8 @@ pub element-same : (q : lowered.Place) (i : lowered.Number) (n s : ℕ) → Same
 element-same q i n s = record { same_address = λ ls cells. at-index ls cells q i n s }
 
 -- what leads from a place leads from one with the same address
-pub leads-from : (checked : Typed Label) (slots : Label → Slot) (p q : lowered.Place) (s : Shape) (rest : Tree Label (items selector)) (whole : Evaluated Label Place)
-    → SamePlace p q → PlaceLeads checked slots q s rest whole → PlaceLeads checked slots p s rest whole
+pub leads-from : (checked : TypeMeanings Label) (slots : Label → Slot) (p q : lowered.Place) (s : Shape) (rest : Tree Label (items selector)) (whole : OutcomeByMoment Label Place)
+    → SamePlace p q → PlaceStartsChain checked slots q s rest whole → PlaceStartsChain checked slots p s rest whole
 leads-from checked slots p q s rest whole e h =
     let (v, hv, ev) = h in
     (v, λ z shown. (ap (outcome_of same) (e.same_address z.levels (cells_in z)) ∙ (hv z shown).0, (hv z shown).1), ev)

@@ -1,19 +1,19 @@
 -- How deeply rows of `&` and OR are nested.
 use Rattle.std.proofs.Common.{◌≡◌, ℕ, ◌≤◌, suc, refl, max, subst, sym, arith}
 use Rattle.std.proofs.Math.Nat.{le-max_right}
-use Rattle.ob0_run_machine.specs.declared.code.Several.{out-Several}
+use Rattle.ob0_run_machine.specs.declared.code.TruthList.{out-TruthList}
 use Rattle.ob0_run_machine.specs.declared.code.Truth.{All, Any}
-use Rattle.ob0_run_lowering.specs.Rows.{GoesOnFlat, IsFlat, and_depth, or_depth}
+use Rattle.ob0_run_lowering.specs.Rows.{IsNoDeeper, IsFlat, and_depth, or_depth}
 use Rattle.ob0_run_lowering.specs.declared.lowered.Lowered.{Lowered}
 
-pub all_deep : (c : _) → and_depth (All c) ≡ suc (and_depth (out-Several c.value).first)
+pub all_deep : (c : _) → and_depth (All c) ≡ suc (and_depth (out-TruthList c.value).first)
 all_deep c = refl
 
-pub any_deep : (c : _) → or_depth (Any c) ≡ suc (or_depth (out-Several c.value).first)
+pub any_deep : (c : _) → or_depth (Any c) ≡ suc (or_depth (out-TruthList c.value).first)
 any_deep c = refl
 
 pub as_deep : (n m : ℕ) → n ≡ m → n ≤ max 1 m
 as_deep n m h = subst (λ k. k ≤ max 1 m) (sym h) (le-max_right 1 m)
 
-pub still_flat : {left whole : Lowered} → GoesOnFlat left whole → IsFlat left → IsFlat whole
+pub still_flat : {left whole : Lowered} → IsNoDeeper left whole → IsFlat left → IsFlat whole
 still_flat h f = record { ands = omega (arith, h.ands, f.ands); ors = omega (arith, h.ors, f.ors) }

@@ -3,10 +3,10 @@ use Rattle.std.proofs.Common.{◌≡◌, ℕ, Bool, true, ℤ, pos, Some, None, 
 use Rattle.ob0_tree.specs.Tree.{Tree, addend, adds, compares, designator, end, expression, factor, field, index, integer, item, items, more, multiplier, multiplies, negation, none, one, parenthesised, product, relates, selector, simple, sum, term}
 use Rattle.ob0_tree.specs.Places.{value_at}
 use Rattle.ob0_language_names.specs.Names.{Label, label_text}
-use Rattle.ob0_scope_table.specs.InLabels.{in_labels, label_in}
+use Rattle.ob0_scope_table.specs.LabelledTrees.{tree_with_labels, label_at_token}
 use Rattle.ob0_language_types.specs.Expressions.{Meanings, Object, a_constant, a_variable}
-use Rattle.ob0_language_types.specs.Typing.{add_type, complement_type, constant_of, element_type, field_type, multiply_type, object_type, relation_type, sign_type, type_at, type_of, type_of_addends, type_of_factor, type_of_multipliers, type_of_simple, type_of_term, value_type}
-use Rattle.ob0_language_types.specs.WellTyped.{Signature, Typed}
+use Rattle.ob0_language_types.specs.Typing.{addition_type, negation_type, constant_of, element_type, field_type, multiplication_type, object_type, relation_type, sign_type, type_at, type_of, type_of_addends, type_of_factor, type_of_multipliers, type_of_simple, type_of_term, value_type}
+use Rattle.ob0_language_types.specs.WellTyped.{Signature, TypeMeanings}
 use Rattle.ob0_language_types.proofs.TypedElsewhere.{then_some}
 use Rattle.ob0_language_types.proofs.Literals.{some_inverse}
 use Rattle.ob0_language_values.specs.Values.{Place, Shape, Value, array_shape, boolean_shape, integer_shape, number, record_shape, truth}
@@ -14,16 +14,16 @@ use Rattle.ob0_run_machine.specs.Evaluation as machine
 use Rattle.ob0_run_machine.specs.Lowered as lowered
 use Rattle.ob0_run_cells.specs.Cells.{field_offset, size}
 use Rattle.ob0_run_cells.specs.LoweredStatements.{Target}
-use Rattle.ob0_run_cells.specs.Lowering.{Evaluated, PlaceLeads, PlaceMeans, Slot, part_at, place_of_designator, slot_place, value_of_expression, value_of_factor, value_of_simple, value_of_term}
+use Rattle.ob0_run_cells.specs.Lowering.{OutcomeByMoment, PlaceStartsChain, PlaceMeans, Slot, part_at, place_of_designator, slot_place, value_of_expression, value_of_factor, value_of_simple, value_of_term}
 use Rattle.ob0_run_cells.specs.Lowering as lowering
 use Rattle.ob0_run_cells.proofs.LoweredNumbers.{integer-means}
 use Rattle.ob0_run_cells.proofs.LoweredPlaces as places
-use Rattle.ob0_run_lowering.specs.Codes.{ExpressionCode, CodeMeans, FoundPlace, a_number, a_truth, added, constant_code, element_at_place, element_found, element_of, field_found, multiplied, named_code, signed, code_at_place}
+use Rattle.ob0_run_lowering.specs.Codes.{ExpressionCode, CodeMeans, FoundPlace, a_number, a_truth, addition_code, constant_code, element_at_place, element_place, indexed_place, record_field_place, multiplication_code, named_code, signed_code, code_at_place}
 use Rattle.ob0_run_lowering.specs.Scenes.{Sees, object_at, slot_at}
-use Rattle.ob0_run_lowering.specs.Trees.{addends_code, base_found, expression_code, factor_code, multipliers_code, selected_place, simple_code, term_code, variable_found}
+use Rattle.ob0_run_lowering.specs.Trees.{addends_code, base_place, expression_code, factor_code, multipliers_code, selected_place, simple_code, term_code, variable_place}
 use Rattle.ob0_run_lowering.specs.declared.scene.Scene.{Scene}
 use Rattle.ob0_run_lowering.proofs.PartsFound.{element-same, leads-from}
-use Rattle.ob0_run_lowering.proofs.CodesMean.{CodeLeads, added-leads, addends-end, alone-means, multiplied-leads, multipliers-end, negated-means, number-code, parenthesised-means, related-means, sum-begins, term-begins}
+use Rattle.ob0_run_lowering.proofs.CodesMean.{CodeLeads, addition_code-leads, addends-end, alone-means, multiplication_code-leads, multipliers-end, negation_code-means, number-code, parenthesised-means, related-means, sum-begins, term-begins}
 
 abbrev found_at : lowered.Place → Shape → FoundPlace
 found_at q s = record { place = q; shape = s }
@@ -44,7 +44,7 @@ type-end : {N P : Type 0} (meaning : Meanings N Shape P) (x s : Shape) → type_
 unfolding type_of
 type-end meaning x s h = some_inverse h
 
-module _ (checked : Typed Label) (slots : Label → Slot) where
+module _ (checked : TypeMeanings Label) (slots : Label → Slot) where
   -- the code of a constant
 
   number-constant : (x : Label) (n : ℤ) (path : Tree Label (items selector)) (s : Shape) → checked.object_for x ≡ Some (a_constant (number n)) → type_at checked integer_shape path ≡ Some s
@@ -74,124 +74,124 @@ module _ (checked : Typed Label) (slots : Label → Slot) where
 
   -- one selector
 
-  field-step : checked.written ≡ label_text → (q : lowered.Place) (z : Shape) (x : Label) (t : Shape) (rest : Tree Label (items selector)) (whole : Evaluated Label Place)
-      → PlaceLeads checked slots q z (more (field x) rest) whole → field_type z (checked.written x) ≡ Some t
-      → (p : lowered.Place) × (field_found (label_text x) (found_at q z) ≡ Some (found_at p t)) × PlaceLeads checked slots p t rest whole
+  field-step : checked.written ≡ label_text → (q : lowered.Place) (z : Shape) (x : Label) (t : Shape) (rest : Tree Label (items selector)) (whole : OutcomeByMoment Label Place)
+      → PlaceStartsChain checked slots q z (more (field x) rest) whole → field_type z (checked.written x) ≡ Some t
+      → (p : lowered.Place) × (record_field_place (label_text x) (found_at q z) ≡ Some (found_at p t)) × PlaceStartsChain checked slots p t rest whole
   field-step written q (record_shape k fs) x t rest whole leads h =
       let same : checked.written x ≡ label_text x = ap (λ w. w x) written in (
         part_at q (field_offset fs (label_text x)),
         ap (option_map (λ t. found_at (part_at q (field_offset fs (label_text x))) t)) (ap (field_type (record_shape k fs)) (sym same) ∙ h),
-        subst (λ y. PlaceLeads checked slots (part_at q (field_offset fs y)) t rest whole) same (places.field-leads checked slots q k fs x t rest whole leads h),
+        subst (λ y. PlaceStartsChain checked slots (part_at q (field_offset fs y)) t rest whole) same (places.field-leads checked slots q k fs x t rest whole leads h),
       )
   field-step written q _ x t rest whole leads h = absurd (cc)
 
-  element-step : (c : ExpressionCode) (q : lowered.Place) (z i t : Shape) (e : Tree Label expression) (rest : Tree Label (items selector)) (whole : Evaluated Label Place)
-      → PlaceLeads checked slots q z (more (index e) rest) whole → element_type z i ≡ Some t → CodeMeans checked slots c i (value_of_expression e)
-      → (p : lowered.Place) × (element_of c (Some (found_at q z)) ≡ Some (found_at p t)) × PlaceLeads checked slots p t rest whole
+  element-step : (c : ExpressionCode) (q : lowered.Place) (z i t : Shape) (e : Tree Label expression) (rest : Tree Label (items selector)) (whole : OutcomeByMoment Label Place)
+      → PlaceStartsChain checked slots q z (more (index e) rest) whole → element_type z i ≡ Some t → CodeMeans checked slots c i (value_of_expression e)
+      → (p : lowered.Place) × (indexed_place c (Some (found_at q z)) ≡ Some (found_at p t)) × PlaceStartsChain checked slots p t rest whole
   element-step c q (array_shape k n u) integer_shape t e rest whole leads h hc =
       let (m, em, hm) = number-code checked slots c (value_of_expression e) hc in (
         element_at_place q m n (size u),
-        ap (λ c. element_found c q (array_shape k n u)) em ∙ ap (λ t. Some (found_at (element_at_place q m n (size u)) t)) (some_inverse h),
+        ap (λ c. element_place c q (array_shape k n u)) em ∙ ap (λ t. Some (found_at (element_at_place q m n (size u)) t)) (some_inverse h),
         leads-from checked slots (element_at_place q m n (size u)) (lowered.element q m n (size u) 0) t rest whole (element-same q m n (size u))
-            (subst (λ t. PlaceLeads checked slots (lowered.element q m n (size u) 0) t rest whole) (some_inverse h) (places.index-leads checked slots q k n u e m rest whole leads hm)),
+            (subst (λ t. PlaceStartsChain checked slots (lowered.element q m n (size u) 0) t rest whole) (some_inverse h) (places.index-leads checked slots q k n u e m rest whole leads hm)),
       )
   element-step c q _ _ t e rest whole leads h hc = absurd (cc)
 
-module _ (scene : Scene) (checked : Typed Label) (slots : Label → Slot) (targets : Label → Target) (sees : Sees scene checked slots targets) where
+module _ (scene : Scene) (checked : TypeMeanings Label) (slots : Label → Slot) (targets : Label → Target) (sees : Sees scene checked slots targets) where
   -- the place at the end of a path
   abbrev Selected : Tree ℕ (items selector) → Type 0
   Selected path =
-      (q : lowered.Place) (z s : Shape) (whole : Evaluated Label Place) → PlaceLeads checked slots q z (in_labels scene.resolved.now path) whole → type_at checked z (in_labels scene.resolved.now path) ≡ Some s
-      → (p : lowered.Place) × (selected_place scene (Some (found_at q z)) (in_labels scene.resolved.now path) ≡ Some (found_at p s)) × PlaceMeans checked slots p s whole
+      (q : lowered.Place) (z s : Shape) (whole : OutcomeByMoment Label Place) → PlaceStartsChain checked slots q z (tree_with_labels scene.resolved.now path) whole → type_at checked z (tree_with_labels scene.resolved.now path) ≡ Some s
+      → (p : lowered.Place) × (selected_place scene (Some (found_at q z)) (tree_with_labels scene.resolved.now path) ≡ Some (found_at p s)) × PlaceMeans checked slots p s whole
 
   -- the place of a variable with its selectors
-  variable-means : (x : Label) (path : Tree ℕ (items selector)) (s v : Shape) → Selected path → checked.object_for x ≡ Some (a_variable v) → type_at checked v (in_labels scene.resolved.now path) ≡ Some s
-      → (q : lowered.Place) × (selected_place scene (base_found scene x) (in_labels scene.resolved.now path) ≡ Some (found_at q s)) × PlaceMeans checked slots q s (place_of_designator x (in_labels scene.resolved.now path))
+  variable-means : (x : Label) (path : Tree ℕ (items selector)) (s v : Shape) → Selected path → checked.object_for x ≡ Some (a_variable v) → type_at checked v (tree_with_labels scene.resolved.now path) ≡ Some s
+      → (q : lowered.Place) × (selected_place scene (base_place scene x) (tree_with_labels scene.resolved.now path) ≡ Some (found_at q s)) × PlaceMeans checked slots q s (place_of_designator x (tree_with_labels scene.resolved.now path))
   variable-means x path s v selected e h =
       let here = sees.variables x v e in
-      let leads = subst (λ z. PlaceLeads checked slots (slot_place z) v (in_labels scene.resolved.now path) (place_of_designator x (in_labels scene.resolved.now path))) here (places.variable-leads checked slots x v (in_labels scene.resolved.now path) e) in
-      let (q, eq, hq) = selected (slot_place (slot_at scene x)) v s (place_of_designator x (in_labels scene.resolved.now path)) leads h in
-      (q, ap (λ o. selected_place scene (variable_found (slot_place (slot_at scene x)) o) (in_labels scene.resolved.now path)) (sees.bound x (a_variable v) e) ∙ eq, hq)
+      let leads = subst (λ z. PlaceStartsChain checked slots (slot_place z) v (tree_with_labels scene.resolved.now path) (place_of_designator x (tree_with_labels scene.resolved.now path))) here (places.variable-leads checked slots x v (tree_with_labels scene.resolved.now path) e) in
+      let (q, eq, hq) = selected (slot_place (slot_at scene x)) v s (place_of_designator x (tree_with_labels scene.resolved.now path)) leads h in
+      (q, ap (λ o. selected_place scene (variable_place (slot_place (slot_at scene x)) o) (tree_with_labels scene.resolved.now path)) (sees.bound x (a_variable v) e) ∙ eq, hq)
 
-  named-means : (x : Label) (path : Tree ℕ (items selector)) (s : Shape) (o : Option (Object Shape Signature)) → Selected path → checked.object_for x ≡ o → option_and_then (λ t. type_at checked t (in_labels scene.resolved.now path)) (object_type o) ≡ Some s
-      → CodeMeans checked slots (named_code (constant_of (object_at scene.types.now x)) (selected_place scene (base_found scene x) (in_labels scene.resolved.now path))) s (value_of_factor (designator x (in_labels scene.resolved.now path)))
+  named-means : (x : Label) (path : Tree ℕ (items selector)) (s : Shape) (o : Option (Object Shape Signature)) → Selected path → checked.object_for x ≡ o → option_and_then (λ t. type_at checked t (tree_with_labels scene.resolved.now path)) (object_type o) ≡ Some s
+      → CodeMeans checked slots (named_code (constant_of (object_at scene.types.now x)) (selected_place scene (base_place scene x) (tree_with_labels scene.resolved.now path))) s (value_of_factor (designator x (tree_with_labels scene.resolved.now path)))
   named-means x path s (Some (a_variable v)) selected e h =
       let (q, eq, hq) = variable-means x path s v selected e h in
       let there = sees.bound x (a_variable v) e in
-      subst (λ c. CodeMeans checked slots c s (value_of_factor (designator x (in_labels scene.resolved.now path))))
-      (sym (ap (λ o. named_code (constant_of o) (selected_place scene (base_found scene x) (in_labels scene.resolved.now path))) there ∙ ap (named_code None) eq))
-      (place-means checked slots x v (in_labels scene.resolved.now path) q s e hq)
+      subst (λ c. CodeMeans checked slots c s (value_of_factor (designator x (tree_with_labels scene.resolved.now path))))
+      (sym (ap (λ o. named_code (constant_of o) (selected_place scene (base_place scene x) (tree_with_labels scene.resolved.now path))) there ∙ ap (named_code None) eq))
+      (place-means checked slots x v (tree_with_labels scene.resolved.now path) q s e hq)
   named-means x path s (Some (a_constant v)) selected e h =
       let there = sees.bound x (a_constant v) e in
-      subst (λ c. CodeMeans checked slots c s (value_of_factor (designator x (in_labels scene.resolved.now path))))
-      (sym (ap (λ o. named_code (constant_of o) (selected_place scene (base_found scene x) (in_labels scene.resolved.now path))) there))
-      (constant-means checked slots x v (in_labels scene.resolved.now path) s e h)
+      subst (λ c. CodeMeans checked slots c s (value_of_factor (designator x (tree_with_labels scene.resolved.now path))))
+      (sym (ap (λ o. named_code (constant_of o) (selected_place scene (base_place scene x) (tree_with_labels scene.resolved.now path))) there))
+      (constant-means checked slots x v (tree_with_labels scene.resolved.now path) s e h)
   named-means x path s _ selected e h = absurd (cc)
 
   mutual
     unfolding type_of
 
-    pub expression-means : (e : Tree ℕ expression) (s : Shape) → type_of checked (in_labels scene.resolved.now e) ≡ Some s → CodeMeans checked slots (expression_code scene (in_labels scene.resolved.now e)) s (value_of_expression (in_labels scene.resolved.now e))
-    expression-means (compares a none) s h = alone-means checked slots (simple_code scene (in_labels scene.resolved.now a)) s (in_labels scene.resolved.now a) (simple-means a s h)
+    pub expression-means : (e : Tree ℕ expression) (s : Shape) → type_of checked (tree_with_labels scene.resolved.now e) ≡ Some s → CodeMeans checked slots (expression_code scene (tree_with_labels scene.resolved.now e)) s (value_of_expression (tree_with_labels scene.resolved.now e))
+    expression-means (compares a none) s h = alone-means checked slots (simple_code scene (tree_with_labels scene.resolved.now a)) s (tree_with_labels scene.resolved.now a) (simple-means a s h)
     expression-means (compares a (one (relates r b))) s h =
-        let (x, ex, h₁) = then_some (type_of_simple checked (in_labels scene.resolved.now a)) (λ x. option_and_then (λ y. relation_type r x y) (type_of_simple checked (in_labels scene.resolved.now b))) s h in
-        let (y, ey, h₂) = then_some (type_of_simple checked (in_labels scene.resolved.now b)) (λ y. relation_type r x y) s h₁ in
-        related-means checked slots (in_labels scene.resolved.now a) (in_labels scene.resolved.now b) r (simple_code scene (in_labels scene.resolved.now a)) (simple_code scene (in_labels scene.resolved.now b)) x y s h₂ (simple-means a x ex) (simple-means b y ey)
+        let (x, ex, h₁) = then_some (type_of_simple checked (tree_with_labels scene.resolved.now a)) (λ x. option_and_then (λ y. relation_type r x y) (type_of_simple checked (tree_with_labels scene.resolved.now b))) s h in
+        let (y, ey, h₂) = then_some (type_of_simple checked (tree_with_labels scene.resolved.now b)) (λ y. relation_type r x y) s h₁ in
+        related-means checked slots (tree_with_labels scene.resolved.now a) (tree_with_labels scene.resolved.now b) r (simple_code scene (tree_with_labels scene.resolved.now a)) (simple_code scene (tree_with_labels scene.resolved.now b)) x y s h₂ (simple-means a x ex) (simple-means b y ey)
 
-    pub simple-means : (a : Tree ℕ simple) (s : Shape) → type_of_simple checked (in_labels scene.resolved.now a) ≡ Some s → CodeMeans checked slots (simple_code scene (in_labels scene.resolved.now a)) s (value_of_simple (in_labels scene.resolved.now a))
+    pub simple-means : (a : Tree ℕ simple) (s : Shape) → type_of_simple checked (tree_with_labels scene.resolved.now a) ≡ Some s → CodeMeans checked slots (simple_code scene (tree_with_labels scene.resolved.now a)) s (value_of_simple (tree_with_labels scene.resolved.now a))
     simple-means (sum g t rest) s h =
-        let (x, ex, h₁) = then_some (type_of_term checked (in_labels scene.resolved.now t)) (λ x. option_and_then (λ y. type_of_addends checked y (in_labels scene.resolved.now rest)) (sign_type g x)) s h in
-        let (y, ey, h₂) = then_some (sign_type g x) (λ y. type_of_addends checked y (in_labels scene.resolved.now rest)) s h₁ in
-        addends-mean (signed g (term_code scene (in_labels scene.resolved.now t))) y rest (value_of_simple (sum g (in_labels scene.resolved.now t) (in_labels scene.resolved.now rest))) s
-        (sum-begins checked slots (in_labels scene.resolved.now t) (in_labels scene.resolved.now rest) g (term_code scene (in_labels scene.resolved.now t)) x y ey (term-means t x ex)) h₂
+        let (x, ex, h₁) = then_some (type_of_term checked (tree_with_labels scene.resolved.now t)) (λ x. option_and_then (λ y. type_of_addends checked y (tree_with_labels scene.resolved.now rest)) (sign_type g x)) s h in
+        let (y, ey, h₂) = then_some (sign_type g x) (λ y. type_of_addends checked y (tree_with_labels scene.resolved.now rest)) s h₁ in
+        addends-mean (signed_code g (term_code scene (tree_with_labels scene.resolved.now t))) y rest (value_of_simple (sum g (tree_with_labels scene.resolved.now t) (tree_with_labels scene.resolved.now rest))) s
+        (sum-begins checked slots (tree_with_labels scene.resolved.now t) (tree_with_labels scene.resolved.now rest) g (term_code scene (tree_with_labels scene.resolved.now t)) x y ey (term-means t x ex)) h₂
 
-    addends-mean : (c : ExpressionCode) (x : Shape) (rest : Tree ℕ (items addend)) (whole : Evaluated Label Value) (s : Shape) → CodeLeads checked slots c x (lowering.addends_left (in_labels scene.resolved.now rest)) whole → type_of_addends checked x (in_labels scene.resolved.now rest) ≡ Some s
-        → CodeMeans checked slots (addends_code scene c (in_labels scene.resolved.now rest)) s whole
+    addends-mean : (c : ExpressionCode) (x : Shape) (rest : Tree ℕ (items addend)) (whole : OutcomeByMoment Label Value) (s : Shape) → CodeLeads checked slots c x (lowering.remaining_addends (tree_with_labels scene.resolved.now rest)) whole → type_of_addends checked x (tree_with_labels scene.resolved.now rest) ≡ Some s
+        → CodeMeans checked slots (addends_code scene c (tree_with_labels scene.resolved.now rest)) s whole
     addends-mean c x end whole s hc h = subst (λ s. CodeMeans checked slots c s whole) (some_inverse h) (addends-end checked slots c x whole hc)
     addends-mean c x (more (adds o t) rest) whole s hc h =
-        let (y, ey, h₁) = then_some (type_of_term checked (in_labels scene.resolved.now t)) (λ y. option_and_then (λ z. type_of_addends checked z (in_labels scene.resolved.now rest)) (add_type o x y)) s h in
-        let (z, ez, h₂) = then_some (add_type o x y) (λ z. type_of_addends checked z (in_labels scene.resolved.now rest)) s h₁ in
-        addends-mean (added o c (term_code scene (in_labels scene.resolved.now t))) z rest whole s
-        (added-leads checked slots (in_labels scene.resolved.now t) (in_labels scene.resolved.now rest) whole o c (term_code scene (in_labels scene.resolved.now t)) x y z ez hc (term-means t y ey)) h₂
+        let (y, ey, h₁) = then_some (type_of_term checked (tree_with_labels scene.resolved.now t)) (λ y. option_and_then (λ z. type_of_addends checked z (tree_with_labels scene.resolved.now rest)) (addition_type o x y)) s h in
+        let (z, ez, h₂) = then_some (addition_type o x y) (λ z. type_of_addends checked z (tree_with_labels scene.resolved.now rest)) s h₁ in
+        addends-mean (addition_code o c (term_code scene (tree_with_labels scene.resolved.now t))) z rest whole s
+        (addition_code-leads checked slots (tree_with_labels scene.resolved.now t) (tree_with_labels scene.resolved.now rest) whole o c (term_code scene (tree_with_labels scene.resolved.now t)) x y z ez hc (term-means t y ey)) h₂
 
-    pub term-means : (t : Tree ℕ term) (s : Shape) → type_of_term checked (in_labels scene.resolved.now t) ≡ Some s → CodeMeans checked slots (term_code scene (in_labels scene.resolved.now t)) s (value_of_term (in_labels scene.resolved.now t))
+    pub term-means : (t : Tree ℕ term) (s : Shape) → type_of_term checked (tree_with_labels scene.resolved.now t) ≡ Some s → CodeMeans checked slots (term_code scene (tree_with_labels scene.resolved.now t)) s (value_of_term (tree_with_labels scene.resolved.now t))
     term-means (product f rest) s h =
-        let (x, ex, h₁) = then_some (type_of_factor checked (in_labels scene.resolved.now f)) (λ x. type_of_multipliers checked x (in_labels scene.resolved.now rest)) s h in
-        multipliers-mean (factor_code scene (in_labels scene.resolved.now f)) x rest (value_of_term (product (in_labels scene.resolved.now f) (in_labels scene.resolved.now rest))) s
-        (term-begins checked slots (factor_code scene (in_labels scene.resolved.now f)) x (in_labels scene.resolved.now f) (in_labels scene.resolved.now rest) (factor-means f x ex)) h₁
+        let (x, ex, h₁) = then_some (type_of_factor checked (tree_with_labels scene.resolved.now f)) (λ x. type_of_multipliers checked x (tree_with_labels scene.resolved.now rest)) s h in
+        multipliers-mean (factor_code scene (tree_with_labels scene.resolved.now f)) x rest (value_of_term (product (tree_with_labels scene.resolved.now f) (tree_with_labels scene.resolved.now rest))) s
+        (term-begins checked slots (factor_code scene (tree_with_labels scene.resolved.now f)) x (tree_with_labels scene.resolved.now f) (tree_with_labels scene.resolved.now rest) (factor-means f x ex)) h₁
 
-    multipliers-mean : (c : ExpressionCode) (x : Shape) (rest : Tree ℕ (items multiplier)) (whole : Evaluated Label Value) (s : Shape) → CodeLeads checked slots c x (lowering.multipliers_left (in_labels scene.resolved.now rest)) whole → type_of_multipliers checked x (in_labels scene.resolved.now rest) ≡ Some s
-        → CodeMeans checked slots (multipliers_code scene c (in_labels scene.resolved.now rest)) s whole
+    multipliers-mean : (c : ExpressionCode) (x : Shape) (rest : Tree ℕ (items multiplier)) (whole : OutcomeByMoment Label Value) (s : Shape) → CodeLeads checked slots c x (lowering.remaining_multipliers (tree_with_labels scene.resolved.now rest)) whole → type_of_multipliers checked x (tree_with_labels scene.resolved.now rest) ≡ Some s
+        → CodeMeans checked slots (multipliers_code scene c (tree_with_labels scene.resolved.now rest)) s whole
     multipliers-mean c x end whole s hc h = subst (λ s. CodeMeans checked slots c s whole) (some_inverse h) (multipliers-end checked slots c x whole hc)
     multipliers-mean c x (more (multiplies o f) rest) whole s hc h =
-        let (y, ey, h₁) = then_some (type_of_factor checked (in_labels scene.resolved.now f)) (λ y. option_and_then (λ z. type_of_multipliers checked z (in_labels scene.resolved.now rest)) (multiply_type o x y)) s h in
-        let (z, ez, h₂) = then_some (multiply_type o x y) (λ z. type_of_multipliers checked z (in_labels scene.resolved.now rest)) s h₁ in
-        multipliers-mean (multiplied o c (factor_code scene (in_labels scene.resolved.now f))) z rest whole s
-        (multiplied-leads checked slots (in_labels scene.resolved.now f) (in_labels scene.resolved.now rest) whole o c (factor_code scene (in_labels scene.resolved.now f)) x y z ez hc (factor-means f y ey)) h₂
+        let (y, ey, h₁) = then_some (type_of_factor checked (tree_with_labels scene.resolved.now f)) (λ y. option_and_then (λ z. type_of_multipliers checked z (tree_with_labels scene.resolved.now rest)) (multiplication_type o x y)) s h in
+        let (z, ez, h₂) = then_some (multiplication_type o x y) (λ z. type_of_multipliers checked z (tree_with_labels scene.resolved.now rest)) s h₁ in
+        multipliers-mean (multiplication_code o c (factor_code scene (tree_with_labels scene.resolved.now f))) z rest whole s
+        (multiplication_code-leads checked slots (tree_with_labels scene.resolved.now f) (tree_with_labels scene.resolved.now rest) whole o c (factor_code scene (tree_with_labels scene.resolved.now f)) x y z ez hc (factor-means f y ey)) h₂
 
-    pub factor-means : (f : Tree ℕ factor) (s : Shape) → type_of_factor checked (in_labels scene.resolved.now f) ≡ Some s → CodeMeans checked slots (factor_code scene (in_labels scene.resolved.now f)) s (value_of_factor (in_labels scene.resolved.now f))
-    factor-means (designator x path) s h = named-means (label_in scene.resolved.now x) path s (checked.object_for (label_in scene.resolved.now x)) (λ q z s whole. selected-means q z path s whole) refl h
+    pub factor-means : (f : Tree ℕ factor) (s : Shape) → type_of_factor checked (tree_with_labels scene.resolved.now f) ≡ Some s → CodeMeans checked slots (factor_code scene (tree_with_labels scene.resolved.now f)) s (value_of_factor (tree_with_labels scene.resolved.now f))
+    factor-means (designator x path) s h = named-means (label_at_token scene.resolved.now x) path s (checked.object_for (label_at_token scene.resolved.now x)) (λ q z s whole. selected-means q z path s whole) refl h
     factor-means (integer n) s h = subst (λ s. CodeMeans checked slots (a_number (lowered.literal (pos (value_at scene.resolved.now.module_read.source n)))) s (value_of_factor (integer (value_at scene.resolved.now.module_read.source n)))) (some_inverse h) (integer-means checked slots (value_at scene.resolved.now.module_read.source n))
-    factor-means (parenthesised e) s h = parenthesised-means checked slots (expression_code scene (in_labels scene.resolved.now e)) s (in_labels scene.resolved.now e) (expression-means e s h)
+    factor-means (parenthesised e) s h = parenthesised-means checked slots (expression_code scene (tree_with_labels scene.resolved.now e)) s (tree_with_labels scene.resolved.now e) (expression-means e s h)
     factor-means (negation f) s h =
-        let (x, ex, h₁) = then_some (type_of_factor checked (in_labels scene.resolved.now f)) complement_type s h in
-        negated-means checked slots (in_labels scene.resolved.now f) (factor_code scene (in_labels scene.resolved.now f)) x s h₁ (factor-means f x ex)
+        let (x, ex, h₁) = then_some (type_of_factor checked (tree_with_labels scene.resolved.now f)) negation_type s h in
+        negation_code-means checked slots (tree_with_labels scene.resolved.now f) (factor_code scene (tree_with_labels scene.resolved.now f)) x s h₁ (factor-means f x ex)
 
-    selected-means : (q : lowered.Place) (z : Shape) (path : Tree ℕ (items selector)) (s : Shape) (whole : Evaluated Label Place) → PlaceLeads checked slots q z (in_labels scene.resolved.now path) whole → type_at checked z (in_labels scene.resolved.now path) ≡ Some s
-        → (p : lowered.Place) × (selected_place scene (Some (found_at q z)) (in_labels scene.resolved.now path) ≡ Some (found_at p s)) × PlaceMeans checked slots p s whole
+    selected-means : (q : lowered.Place) (z : Shape) (path : Tree ℕ (items selector)) (s : Shape) (whole : OutcomeByMoment Label Place) → PlaceStartsChain checked slots q z (tree_with_labels scene.resolved.now path) whole → type_at checked z (tree_with_labels scene.resolved.now path) ≡ Some s
+        → (p : lowered.Place) × (selected_place scene (Some (found_at q z)) (tree_with_labels scene.resolved.now path) ≡ Some (found_at p s)) × PlaceMeans checked slots p s whole
     selected-means q z end s whole leads h = (q, ap (λ s. Some (found_at q s)) (some_inverse h), subst (λ s. PlaceMeans checked slots q s whole) (some_inverse h) (places.selectors-end checked slots q z whole leads))
     selected-means q z (more (field x) rest) s whole leads h =
-        let (t, et, h₁) = then_some (field_type z (checked.written (label_in scene.resolved.now x))) (λ t. type_at checked t (in_labels scene.resolved.now rest)) s h in
-        let (p, ep, leads₁) = field-step checked slots sees.written q z (label_in scene.resolved.now x) t (in_labels scene.resolved.now rest) whole leads et in
+        let (t, et, h₁) = then_some (field_type z (checked.written (label_at_token scene.resolved.now x))) (λ t. type_at checked t (tree_with_labels scene.resolved.now rest)) s h in
+        let (p, ep, leads₁) = field-step checked slots sees.written q z (label_at_token scene.resolved.now x) t (tree_with_labels scene.resolved.now rest) whole leads et in
         let (p', ep', hp') = selected-means p t rest s whole leads₁ h₁ in
-        (p', ap (λ o. selected_place scene o (in_labels scene.resolved.now rest)) ep ∙ ep', hp')
+        (p', ap (λ o. selected_place scene o (tree_with_labels scene.resolved.now rest)) ep ∙ ep', hp')
     selected-means q z (more (index e) rest) s whole leads h =
-        let (i, ei, h₁) = then_some (type_of checked (in_labels scene.resolved.now e)) (λ i. option_and_then (λ t. type_at checked t (in_labels scene.resolved.now rest)) (element_type z i)) s h in
-        let (t, et, h₂) = then_some (element_type z i) (λ t. type_at checked t (in_labels scene.resolved.now rest)) s h₁ in
-        let (p, ep, leads₁) = element-step checked slots (expression_code scene (in_labels scene.resolved.now e)) q z i t (in_labels scene.resolved.now e) (in_labels scene.resolved.now rest) whole leads et (expression-means e i ei) in
+        let (i, ei, h₁) = then_some (type_of checked (tree_with_labels scene.resolved.now e)) (λ i. option_and_then (λ t. type_at checked t (tree_with_labels scene.resolved.now rest)) (element_type z i)) s h in
+        let (t, et, h₂) = then_some (element_type z i) (λ t. type_at checked t (tree_with_labels scene.resolved.now rest)) s h₁ in
+        let (p, ep, leads₁) = element-step checked slots (expression_code scene (tree_with_labels scene.resolved.now e)) q z i t (tree_with_labels scene.resolved.now e) (tree_with_labels scene.resolved.now rest) whole leads et (expression-means e i ei) in
         let (p', ep', hp') = selected-means p t rest s whole leads₁ h₂ in
-        (p', ap (λ o. selected_place scene o (in_labels scene.resolved.now rest)) ep ∙ ep', hp')
+        (p', ap (λ o. selected_place scene o (tree_with_labels scene.resolved.now rest)) ep ∙ ep', hp')
 
-  pub located-means : (x : Label) (path : Tree ℕ (items selector)) (s v : Shape) → checked.object_for x ≡ Some (a_variable v) → type_at checked v (in_labels scene.resolved.now path) ≡ Some s
-      → (q : lowered.Place) × (selected_place scene (base_found scene x) (in_labels scene.resolved.now path) ≡ Some (found_at q s)) × PlaceMeans checked slots q s (place_of_designator x (in_labels scene.resolved.now path))
+  pub located-means : (x : Label) (path : Tree ℕ (items selector)) (s v : Shape) → checked.object_for x ≡ Some (a_variable v) → type_at checked v (tree_with_labels scene.resolved.now path) ≡ Some s
+      → (q : lowered.Place) × (selected_place scene (base_place scene x) (tree_with_labels scene.resolved.now path) ≡ Some (found_at q s)) × PlaceMeans checked slots q s (place_of_designator x (tree_with_labels scene.resolved.now path))
   located-means x path s v e h = variable-means x path s v (λ q z s whole. selected-means q z path s whole) e h

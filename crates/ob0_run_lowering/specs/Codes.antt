@@ -12,11 +12,11 @@ use Rattle.ob0_tree.specs.declared.tree.MultiplyOperator.{MultiplyOperator}
 use Rattle.ob0_tree.specs.declared.tree.MultiplyOperator.TheVariants as multiply_operator
 use Rattle.ob0_language_names.specs.Names.{Label, Name}
 use Rattle.ob0_language_types.specs.Typing.{field_type}
-use Rattle.ob0_language_types.specs.WellTyped.{Typed}
+use Rattle.ob0_language_types.specs.WellTyped.{TypeMeanings}
 use Rattle.ob0_language_values.specs.Values.{Shape, Value, array_shape, at_field, boolean_shape, elements, integer_shape, members, number, record_shape, truth}
 use Rattle.ob0_run_machine.specs.Lowered as lowered
 use Rattle.ob0_run_cells.specs.Cells.{size, step_offset}
-use Rattle.ob0_run_cells.specs.Lowering.{Evaluated, NumberMeans, Slot, TruthMeans, ValueAt, part_at, relation_of}
+use Rattle.ob0_run_cells.specs.Lowering.{OutcomeByMoment, NumberMeans, Slot, TruthMeans, HoldsValue, part_at, relation_of}
 
 -- the code of an expression: a number, a truth, or the cells of an array or a record; or no code,
 -- which no expression of a well-typed module has
@@ -28,15 +28,15 @@ pub data ExpressionCode : Type 0 where
 
 -- states that code means an evaluated value of a type; never true for code of another type, or for
 -- no code
-abbrev pub CodeMeans : Typed Label → (Label → Slot) → ExpressionCode → Shape
-    → Evaluated Label Value
+abbrev pub CodeMeans : TypeMeanings Label → (Label → Slot) → ExpressionCode → Shape
+    → OutcomeByMoment Label Value
     → Type 0
 CodeMeans checked slots (a_number n) integer_shape value = NumberMeans checked slots n value
 CodeMeans checked slots (a_truth t) boolean_shape value = TruthMeans checked slots t value
 CodeMeans checked slots (a_block q n) (array_shape k m s) value =
-    (n ≡ size (array_shape k m s)) × ValueAt checked slots q (array_shape k m s) value
+    (n ≡ size (array_shape k m s)) × HoldsValue checked slots q (array_shape k m s) value
 CodeMeans checked slots (a_block q n) (record_shape k fs) value =
-    (n ≡ size (record_shape k fs)) × ValueAt checked slots q (record_shape k fs) value
+    (n ≡ size (record_shape k fs)) × HoldsValue checked slots q (record_shape k fs) value
 CodeMeans checked slots _ _ value = ⊥
 
 -- a place of lowered code, and the type of the value there
@@ -70,43 +70,43 @@ named_code (Some v) found = constant_code v
 named_code None found = code_at found
 
 -- the code of an operation on two numbers; no code if an operand isn't a number
-abbrev pub operated : lowered.Operator → ExpressionCode → ExpressionCode → ExpressionCode
-operated o (a_number m) (a_number n) = a_number (lowered.operation o m n)
-operated _ _ _ = no_code
+abbrev pub number_operation : lowered.Operator → ExpressionCode → ExpressionCode → ExpressionCode
+number_operation o (a_number m) (a_number n) = a_number (lowered.operation o m n)
+number_operation _ _ _ = no_code
 
 -- the code of an operation on two truth values; no code if an operand isn't a truth
-abbrev pub combined : (lowered.Truth → lowered.Truth → lowered.Truth)
+abbrev pub truth_operation : (lowered.Truth → lowered.Truth → lowered.Truth)
     → ExpressionCode
     → ExpressionCode
     → ExpressionCode
-combined operation (a_truth t) (a_truth u) = a_truth (operation t u)
-combined _ _ _ = no_code
+truth_operation operation (a_truth t) (a_truth u) = a_truth (operation t u)
+truth_operation _ _ _ = no_code
 
 -- the code of a sum, a difference or an OR
-abbrev pub added : AddOperator → ExpressionCode → ExpressionCode → ExpressionCode
-added add_operator.Add = operated lowered.sum
-added add_operator.Subtract = operated lowered.difference
-added add_operator.Or = combined lowered.either
+abbrev pub addition_code : AddOperator → ExpressionCode → ExpressionCode → ExpressionCode
+addition_code add_operator.Add = number_operation lowered.sum
+addition_code add_operator.Subtract = number_operation lowered.difference
+addition_code add_operator.Or = truth_operation lowered.either
 
 -- the code of a product, a quotient, a remainder or an `&`
-abbrev pub multiplied : MultiplyOperator → ExpressionCode → ExpressionCode → ExpressionCode
-multiplied multiply_operator.Multiply = operated lowered.product
-multiplied multiply_operator.Divide = operated lowered.quotient
-multiplied multiply_operator.Modulo = operated lowered.remainder
-multiplied multiply_operator.And = combined lowered.both
+abbrev pub multiplication_code : MultiplyOperator → ExpressionCode → ExpressionCode → ExpressionCode
+multiplication_code multiply_operator.Multiply = number_operation lowered.product
+multiplication_code multiply_operator.Divide = number_operation lowered.quotient
+multiplication_code multiply_operator.Modulo = number_operation lowered.remainder
+multiplication_code multiply_operator.And = truth_operation lowered.both
 
 -- the code of a term with its sign: `+x` is `x + 0`, so it has the value of `x` if that is in range
-abbrev pub signed : Option Sign → ExpressionCode → ExpressionCode
-signed None c = c
-signed (Some sign.Plus) (a_number n) =
+abbrev pub signed_code : Option Sign → ExpressionCode → ExpressionCode
+signed_code None c = c
+signed_code (Some sign.Plus) (a_number n) =
     a_number (lowered.operation lowered.sum n (lowered.literal (pos 0)))
-signed (Some sign.Minus) (a_number n) = a_number (lowered.negative n)
-signed _ _ = no_code
+signed_code (Some sign.Minus) (a_number n) = a_number (lowered.negative n)
+signed_code _ _ = no_code
 
 -- the code of `~`
-abbrev pub negated : ExpressionCode → ExpressionCode
-negated (a_truth t) = a_truth (lowered.negation t)
-negated _ = no_code
+abbrev pub negation_code : ExpressionCode → ExpressionCode
+negation_code (a_truth t) = a_truth (lowered.negation t)
+negation_code _ = no_code
 
 -- the code of a relation between two numbers, or of `=` or `#` between two truth values
 abbrev pub related : Relation → ExpressionCode → ExpressionCode → ExpressionCode
@@ -123,30 +123,30 @@ known_offset _ n s = None
 
 -- an element of an array: a part of the array if its offset is known, otherwise the element at an
 -- index
-abbrev pub element_from : Option ℕ → lowered.Place → lowered.Number → (length stride : ℕ)
+abbrev pub element_or_part : Option ℕ → lowered.Place → lowered.Number → (length stride : ℕ)
     → lowered.Place
-element_from None q i n s = lowered.element q i n s 0
-element_from (Some k) q i n s = part_at q k
+element_or_part None q i n s = lowered.element q i n s 0
+element_or_part (Some k) q i n s = part_at q k
 
 -- the place of an element of the array at a place, with an index, a length and a stride
 abbrev pub element_at_place : lowered.Place → lowered.Number → (length stride : ℕ) → lowered.Place
-element_at_place q i n s = element_from (known_offset i n s) q i n s
+element_at_place q i n s = element_or_part (known_offset i n s) q i n s
 
 -- the place and type of a field: the part at the field's offset; None if there is no such field
-abbrev pub field_found : Name → FoundPlace → Option FoundPlace
-field_found x f =
+abbrev pub record_field_place : Name → FoundPlace → Option FoundPlace
+record_field_place x f =
     option_map
     (λ t. record { place = part_at f.place (step_offset f.shape (at_field x)); shape = t })
     (field_type f.shape x)
 
 -- the place and type of an element of the array at a place; None if the index isn't a number, or
 -- the type isn't an array type
-abbrev pub element_found : ExpressionCode → lowered.Place → Shape → Option FoundPlace
-element_found (a_number i) q (array_shape k n s) =
+abbrev pub element_place : ExpressionCode → lowered.Place → Shape → Option FoundPlace
+element_place (a_number i) q (array_shape k n s) =
     Some (record { place = element_at_place q i n (size s); shape = s })
-element_found _ _ _ = None
+element_place _ _ _ = None
 
 -- the place and type of an element of the array that was found; None if none was found
-abbrev pub element_of : ExpressionCode → Option FoundPlace → Option FoundPlace
-element_of c None = None
-element_of c (Some f) = element_found c f.place f.shape
+abbrev pub indexed_place : ExpressionCode → Option FoundPlace → Option FoundPlace
+indexed_place c None = None
+indexed_place c (Some f) = element_place c f.place f.shape

@@ -1,5 +1,5 @@
 -- The bindings of a module's declarations, and the table of its declarations by ordinal.
--- `BlockDeclared` recurses over the tree. It says about each environment in which procedures or
+-- `BlockIsDeclared` recurses over the tree. It says about each environment in which procedures or
 -- statements of a block are checked: each binding is of an ordinal, and binds it to the object of
 -- its declaration. A well-typed module has this property (`module-declared`). In its numbered tree
 -- ordinals descend in each environment, so each binding is the one that a look-up finds. No other
@@ -26,13 +26,13 @@ AreDeclared objects (b ∷ env) =
 
 -- States `AreDeclared` for each environment in which the procedures and statements of a block, or
 -- of a block in it, are checked.
-abbrev pub BlockDeclared : Objects → TypeEnvironment Label → ℕ → Tree Label block → Type 0
-BlockDeclared objects = BlockHas (AreDeclared objects)
+abbrev pub BlockIsDeclared : Objects → TypeEnvironment Label → ℕ → Tree Label block → Type 0
+BlockIsDeclared objects = BlockHas (AreDeclared objects)
 
 -- States `AreDeclared` for each environment in which procedures and their blocks are checked.
-abbrev pub ProceduresDeclared : Objects
+abbrev pub ProceduresAreDeclared : Objects
     → TypeEnvironment Label
     → ℕ
     → Tree Label (items procedure)
     → Type 0
-ProceduresDeclared objects = ProceduresHave (AreDeclared objects)
+ProceduresAreDeclared objects = ProceduresHave (AreDeclared objects)

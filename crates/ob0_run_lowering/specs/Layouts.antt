@@ -2,7 +2,7 @@
 -- Rule: none; for contracts of lowering.
 use Rattle.std.specs.Prelude.{◌≡◌, ℕ, ◌+◌, List, [], ◌∷◌, Some, None, Option}
 use Rattle.std.specs.Borrow.{Bor}
-use Rattle.ob0_types_table.specs.Tables.{no_shape}
+use Rattle.ob0_types_table.specs.Tables.{faulty_shape}
 use Rattle.ob0_language_values.specs.Values.{FieldShapes, Shape, array_shape, next_field_shape, no_field_shape, record_shape}
 use Rattle.ob0_run_cells.specs.Cells.{field_sizes, size}
 use Rattle.ob0_run_lowering.specs.declared.types.Layout.{Layout}
@@ -26,13 +26,13 @@ HasLayout (record_shape k fs) (layout.Record r) = AreLaidOut fs r
 HasLayout _ _ = ⊥
 
 -- states that layouts are the layouts of a table of types, one by one
-abbrev pub LayOut : List Shape → List Layout → Type 0
-LayOut [] [] = Unit {0}
-LayOut (s ∷ shapes) (l ∷ layouts) = HasLayout s l × LayOut shapes layouts
-LayOut _ _ = ⊥
+abbrev pub HaveLayouts : List Shape → List Layout → Type 0
+HaveLayouts [] [] = Unit {0}
+HaveLayouts (s ∷ shapes) (l ∷ layouts) = HasLayout s l × HaveLayouts shapes layouts
+HaveLayouts _ _ = ⊥
 
 -- states that a layout is the layout of a record type; without a layout, that the type is
--- `no_shape`
-abbrev pub RecordAt : Option (Bor RecordLayout) → Shape → Type 0
-RecordAt None s = s ≡ no_shape
-RecordAt (Some r) s = (k : ℕ) × (fs : FieldShapes) × (s ≡ record_shape k fs) × AreLaidOut fs r.now
+-- `faulty_shape`
+abbrev pub IsLayoutOfRecord : Option (Bor RecordLayout) → Shape → Type 0
+IsLayoutOfRecord None s = s ≡ faulty_shape
+IsLayoutOfRecord (Some r) s = (k : ℕ) × (fs : FieldShapes) × (s ≡ record_shape k fs) × AreLaidOut fs r.now

@@ -3,7 +3,7 @@ pub mod Scenes
 pub mod Codes
 pub mod Rows
 pub mod Trees
-pub mod Means
+pub mod LoweredMeans
 pub mod Parts
 pub mod LoweredBodies
 pub mod KnownBlocks

@@ -8,32 +8,32 @@
 -- Rule: none; for contracts of lowering.
 use Rattle.std.specs.Prelude.{◌≡◌, ℕ, zero, suc, ◌≤◌, List, [], ◌∷◌, ◌++◌, length, if◌then◌else◌, ◌==◌, Some, None, Option}
 use Rattle.ob0_tree.specs.Tree.{Tree, declares_variable, end, further_section, items, more, then_section, variable}
-use Rattle.ob0_language_names.specs.Names.{Label, as_labels, declared}
-use Rattle.ob0_language_names.specs.Parts.{names_listed, section_names}
+use Rattle.ob0_language_names.specs.Names.{Label, naming_by_label, declared}
+use Rattle.ob0_language_names.specs.Parts.{names_in_list, section_names}
 use Rattle.ob0_types_table.specs.KnownTables.{Tables}
 use Rattle.ob0_language_types.specs.Expressions.{Object, a_procedure, a_variable}
-use Rattle.ob0_language_types.specs.Typing.{type_declared}
+use Rattle.ob0_language_types.specs.Typing.{type_of_declaration}
 use Rattle.ob0_language_types.specs.WellTyped.{Mode, Signature, TypeEnvironment, by_value, section_mode}
 use Rattle.ob0_language_values.specs.Values.{Shape}
-use Rattle.ob0_run_cells.specs.Activations.{Placed, Placing, Whereabouts, at_target, from_name, in_slot, nowhere, place_one}
+use Rattle.ob0_run_cells.specs.Activations.{Placed, Placement, BindingPlace, at_target, suffix_from_name, in_slot, nowhere, place_name}
 use Rattle.ob0_run_cells.specs.Cells.{size}
 use Rattle.ob0_run_cells.specs.LoweredStatements.{Target}
 use Rattle.ob0_run_cells.specs.Lowering.{Slot, held, of_module}
-use Rattle.ob0_run_lowering.specs.Scenes.{object_at, seen_from, site_at}
+use Rattle.ob0_run_lowering.specs.Scenes.{object_at, place_seen_from, site_at}
 use Rattle.ob0_run_lowering.specs.declared.scene.Site.{Site}
 use Rattle.ob0_run_lowering.specs.declared.scene.Site.TheVariants as site
 use Rattle.ob0_run_lowering.specs.declared.visible_sites.Frame.{Frame}
-use Rattle.ob0_run_lowering.specs.declared.visible_sites.Hidden.{Hidden}
+use Rattle.ob0_run_lowering.specs.declared.visible_sites.HiddenSite.{HiddenSite}
 use Rattle.ob0_run_lowering.specs.declared.visible_sites.VisibleSites.{VisibleSites}
 
 -- the place of the first name of a placement; `nowhere` if it is empty
-abbrev pub first_placed : Placing Label → Whereabouts
-first_placed [] = nowhere
-first_placed (b ∷ placing) = b.1
+abbrev pub first_binding_place : Placement Label → BindingPlace
+first_binding_place [] = nowhere
+first_binding_place (b ∷ placement) = b.1
 
 -- the place that a placement has for a name; `nowhere` if the name isn't placed
-abbrev pub found : Placing Label → Label → Whereabouts
-found placing x = first_placed (from_name as_labels placing x)
+abbrev pub binding_place_in : Placement Label → Label → BindingPlace
+binding_place_in placement x = first_binding_place (suffix_from_name naming_by_label placement x)
 
 -- the depth of the activation to which a site belongs
 abbrev pub site_depth : Site → ℕ
@@ -44,54 +44,54 @@ site_depth (site.ByReference at index) = at
 site_depth (site.Procedure at index) = at
 
 -- states that a site, seen from a depth, is the place of a name; claims nothing for `nowhere`
-abbrev pub LocatesAs : ℕ → Site → Whereabouts → Type 0
+abbrev pub LocatesAs : ℕ → Site → BindingPlace → Type 0
 LocatesAs depth s nowhere = Unit {0}
-LocatesAs depth s (in_slot slot) = (site_depth s ≤ depth) × (seen_from depth s ≡ in_slot slot)
-LocatesAs depth s (at_target t) = (site_depth s ≤ depth) × (seen_from depth s ≡ at_target t)
+LocatesAs depth s (in_slot slot) = (site_depth s ≤ depth) × (place_seen_from depth s ≡ in_slot slot)
+LocatesAs depth s (at_target t) = (site_depth s ≤ depth) × (place_seen_from depth s ≡ at_target t)
 
 -- states that a table has the site of each placed name, as seen from a depth
-abbrev pub LocatesAll : List Site → ℕ → Placing Label → Type 0
-LocatesAll sites depth placing =
-    (k : ℕ) → LocatesAs depth (site_at sites k) (found placing (declared k))
+abbrev pub LocatesAll : List Site → ℕ → Placement Label → Type 0
+LocatesAll sites depth placement =
+    (k : ℕ) → LocatesAs depth (site_at sites k) (binding_place_in placement (declared k))
 
 -- states that the place of an object suits it: a variable is in a slot, a procedure at a target
-abbrev pub Suits : Object Shape Signature → Whereabouts → Type 0
-Suits (a_variable s) w = (slot : Slot) × (w ≡ in_slot slot)
-Suits (a_procedure p) w = (t : Target) × (w ≡ at_target t)
-Suits _ w = Unit {0}
+abbrev pub PlaceSuits : Object Shape Signature → BindingPlace → Type 0
+PlaceSuits (a_variable s) w = (slot : Slot) × (w ≡ in_slot slot)
+PlaceSuits (a_procedure p) w = (t : Target) × (w ≡ at_target t)
+PlaceSuits _ w = Unit {0}
 
 -- states that an environment and a placement bind the same names in the same order, each to an
 -- object and a place that suits it
-abbrev pub Matches : TypeEnvironment Label → Placing Label → Type 0
-Matches [] [] = Unit {0}
-Matches (b ∷ env) (w ∷ placing) = (b.0 ≡ w.0) × Suits b.1 w.1 × Matches env placing
-Matches _ _ = ⊥
+abbrev pub PlacementMatches : TypeEnvironment Label → Placement Label → Type 0
+PlacementMatches [] [] = Unit {0}
+PlacementMatches (b ∷ env) (w ∷ placement) = (b.0 ≡ w.0) × PlaceSuits b.1 w.1 × PlacementMatches env placement
+PlacementMatches _ _ = ⊥
 
 -- the number of cells of a variable with this type; 0 without a type
-abbrev pub shape_size : Option Shape → ℕ
-shape_size None = 0
-shape_size (Some s) = size s
+abbrev pub optional_shape_size : Option Shape → ℕ
+optional_shape_size None = 0
+optional_shape_size (Some s) = size s
 
 -- the number of cells of the variable that a name declares
 abbrev pub declared_size : Tables → Label → ℕ
-declared_size t x = shape_size (type_declared (object_at t x))
+declared_size t x = optional_shape_size (type_of_declaration (object_at t x))
 
 -- the slot of a variable at an offset: in the cells of the module at depth 0, otherwise in the
 -- cells of the running activation
-abbrev pub slots_at : ℕ → ℕ → Slot
-slots_at zero = of_module
-slots_at (suc depth) = held 0
+abbrev pub variable_slot : ℕ → ℕ → Slot
+variable_slot zero = of_module
+variable_slot (suc depth) = held 0
 
 -- states that a site is the slot of the next variable of an activation
 abbrev pub IsNextSite : Frame → Site → Type 0
 IsNextSite f s =
-    (site_depth s ≤ f.depth) × (seen_from f.depth s ≡ in_slot (slots_at f.depth f.cells))
+    (site_depth s ≤ f.depth) × (place_seen_from f.depth s ≡ in_slot (variable_slot f.depth f.cells))
 
 -- a placement with the names of one declaration added one by one, by their sizes
 abbrev pub place_each : (ℕ → Slot) → (Label → ℕ) → Mode → List Label → Placed Label → Placed Label
 place_each at size_of mode [] p = p
 place_each at size_of mode (x ∷ xs) p =
-    place_each at size_of mode xs (place_one at mode x (size_of x) p)
+    place_each at size_of mode xs (place_name at mode x (size_of x) p)
 
 -- a placement with the variables of a block added one by one
 abbrev pub place_groups : (ℕ → Slot)
@@ -101,7 +101,7 @@ abbrev pub place_groups : (ℕ → Slot)
     → Placed Label
 place_groups at size_of end p = p
 place_groups at size_of (more (declares_variable ns u) gs) p =
-    place_groups at size_of gs (place_each at size_of by_value (names_listed ns) p)
+    place_groups at size_of gs (place_each at size_of by_value (names_in_list ns) p)
 
 -- a placement with the parameters of a heading added one by one
 abbrev pub place_sections : (ℕ → Slot)
@@ -114,33 +114,33 @@ place_sections at size_of (more (then_section f) fs) p =
     place_sections at size_of fs (place_each at size_of (section_mode f) (section_names f) p)
 
 -- the sites of ordinals, with another site for one ordinal
-abbrev pub put_site : ℕ → Site → (ℕ → Site) → ℕ → Site
-put_site ordinal s sites k = if k == ordinal then s else sites k
+abbrev pub sites_with : ℕ → Site → (ℕ → Site) → ℕ → Site
+sites_with ordinal s sites k = if k == ordinal then s else sites k
 
 -- the sites of ordinals, with another site for the ordinal of a name; unchanged if the name has no
 -- ordinal
-abbrev pub put_at : Option ℕ → Site → (ℕ → Site) → ℕ → Site
-put_at None s sites = sites
-put_at (Some ordinal) s sites = put_site ordinal s sites
+abbrev pub sites_with_binding : Option ℕ → Site → (ℕ → Site) → ℕ → Site
+sites_with_binding None s sites = sites
+sites_with_binding (Some ordinal) s sites = sites_with ordinal s sites
 
 -- the sites of ordinals before these sites were hidden, which are listed in the order of hiding
-abbrev pub before_all : List Hidden → (ℕ → Site) → ℕ → Site
-before_all [] sites = sites
-before_all (h ∷ later) sites = put_site h.ordinal h.before (before_all later sites)
+abbrev pub sites_before_hiding : List HiddenSite → (ℕ → Site) → ℕ → Site
+sites_before_hiding [] sites = sites
+sites_before_hiding (h ∷ later) sites = sites_with h.ordinal h.before (sites_before_hiding later sites)
 
 -- states that the ordinals of all hidden sites are below a number
-abbrev pub AllWithin : ℕ → List Hidden → Type 0
-AllWithin n [] = Unit {0}
-AllWithin n (h ∷ hs) = (suc h.ordinal ≤ n) × AllWithin n hs
+abbrev pub OrdinalsAreBelow : ℕ → List HiddenSite → Type 0
+OrdinalsAreBelow n [] = Unit {0}
+OrdinalsAreBelow n (h ∷ hs) = (suc h.ordinal ≤ n) × OrdinalsAreBelow n hs
 
 -- states that a table `v` results from `w` by hiding more sites, and that `w` can be restored from
 -- `v`
 pub record Follows (w v : VisibleSites) : Type 0 where
-  pub more : List Hidden
+  pub more : List HiddenSite
   pub added : v.hidden.items ≡ w.hidden.items ++ more
-  pub within : AllWithin (length v.sites.items) more
+  pub within : OrdinalsAreBelow (length v.sites.items) more
   pub longer : length w.sites.items ≤ length v.sites.items
-  pub goes_back : (k : ℕ) → before_all more (site_at v.sites.items) k ≡ site_at w.sites.items k
+  pub goes_back : (k : ℕ) → sites_before_hiding more (site_at v.sites.items) k ≡ site_at w.sites.items k
 
 -- states that `v` has the sites and the hidden sites of `w`, and is as long as `u`
 abbrev pub IsRestored : VisibleSites → VisibleSites → VisibleSites → Type 0
@@ -151,7 +151,7 @@ IsRestored w u v =
 
 -- states that a frame has the numbers of a placement so far, and the table of sites all its names
 pub record IsFrame (sites : List Site) (f : Frame) (p : Placed Label) : Type 0 where
-  pub holds : LocatesAll sites f.depth p.placing
+  pub holds : LocatesAll sites f.depth p.placement
   pub cells : f.cells ≡ p.cells
   pub reference_places : f.references ≡ p.reference_places
 

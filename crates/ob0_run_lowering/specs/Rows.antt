@@ -38,6 +38,6 @@ pub record IsFlat (l : Lowered) : Type 0 where
   pub ors : or_depth_of l ≤ 1
 
 -- states that code with one more operand is nested at most as deep as before, or as a pair
-pub record GoesOnFlat (left whole : Lowered) : Type 0 where
+pub record IsNoDeeper (left whole : Lowered) : Type 0 where
   pub ands : and_depth_of whole ≤ max 1 (and_depth_of left)
   pub ors : or_depth_of whole ≤ max 1 (or_depth_of left)

@@ -11,7 +11,7 @@ use Rattle.ob0_language_values.specs.Values.{Shape}
 use Rattle.ob0_run_machine.specs.Lowered as lowered
 use Rattle.ob0_run_machine.specs.View.{number_of, place_of, truth_of}
 use Rattle.ob0_run_cells.specs.Lowering.{slot_place}
-use Rattle.ob0_run_lowering.specs.Codes.{ExpressionCode, FoundPlace, a_block, a_number, a_truth, added, element_of, field_found, multiplied, named_code, negated, no_code, related, signed}
+use Rattle.ob0_run_lowering.specs.Codes.{ExpressionCode, FoundPlace, a_block, a_number, a_truth, addition_code, indexed_place, record_field_place, multiplication_code, named_code, negation_code, no_code, related, signed_code}
 use Rattle.ob0_run_lowering.specs.Scenes.{object_at, slot_at}
 use Rattle.ob0_run_lowering.specs.declared.lowered.TypedPlace.{TypedPlace}
 use Rattle.ob0_run_lowering.specs.declared.lowered.Lowered.{Lowered}
@@ -26,17 +26,17 @@ code_of (code.Block q n) = a_block (place_of q) n
 code_of code.Nothing = no_code
 
 -- the place and type that a `TypedPlace` stands for
-abbrev pub found_of : List Shape → TypedPlace → FoundPlace
-found_of shapes l = record { place = place_of l.place; shape = type_shape shapes l.of }
+abbrev pub found_place_of : List Shape → TypedPlace → FoundPlace
+found_place_of shapes l = record { place = place_of l.place; shape = type_shape shapes l.of }
 
 -- the place and type of a variable; None if the object isn't a variable
-abbrev pub variable_found : lowered.Place → Option (Object Shape Signature) → Option FoundPlace
-variable_found q (Some (a_variable s)) = Some (record { place = q; shape = s })
-variable_found q _ = None
+abbrev pub variable_place : lowered.Place → Option (Object Shape Signature) → Option FoundPlace
+variable_place q (Some (a_variable s)) = Some (record { place = q; shape = s })
+variable_place q _ = None
 
 -- the place and type of a variable or parameter, before its selectors
-abbrev pub base_found : Scene → Label → Option FoundPlace
-base_found scene x = variable_found (slot_place (slot_at scene x)) (object_at scene.types.now x)
+abbrev pub base_place : Scene → Label → Option FoundPlace
+base_place scene x = variable_place (slot_place (slot_at scene x)) (object_at scene.types.now x)
 
 abbrev mutual
   -- the code of an expression: of its only part, or of a relation between two
@@ -47,13 +47,13 @@ abbrev mutual
 
   -- the code of a simple expression: of its first term with its sign, and the terms after it
   pub simple_code : Scene → Tree Label simple → ExpressionCode
-  simple_code scene (sum s t rest) = addends_code scene (signed s (term_code scene t)) rest
+  simple_code scene (sum s t rest) = addends_code scene (signed_code s (term_code scene t)) rest
 
   -- the code of an operand with the code c and the terms after it
   pub addends_code : Scene → ExpressionCode → Tree Label (items addend) → ExpressionCode
   addends_code scene c end = c
   addends_code scene c (more (adds o t) rest) =
-      addends_code scene (added o c (term_code scene t)) rest
+      addends_code scene (addition_code o c (term_code scene t)) rest
 
   -- the code of a term: of its first factor and the factors after it
   pub term_code : Scene → Tree Label term → ExpressionCode
@@ -63,29 +63,29 @@ abbrev mutual
   pub multipliers_code : Scene → ExpressionCode → Tree Label (items multiplier) → ExpressionCode
   multipliers_code scene c end = c
   multipliers_code scene c (more (multiplies o f) rest) =
-      multipliers_code scene (multiplied o c (factor_code scene f)) rest
+      multipliers_code scene (multiplication_code o c (factor_code scene f)) rest
 
   -- the code of a factor; a designator is a constant, or the value at its place
   pub factor_code : Scene → Tree Label factor → ExpressionCode
   factor_code scene (designator x path) =
       named_code (constant_of (object_at scene.types.now x))
-      (selected_place scene (base_found scene x) path)
+      (selected_place scene (base_place scene x) path)
   factor_code scene (integer n) = a_number (lowered.literal (pos n))
   factor_code scene (parenthesised e) = expression_code scene e
-  factor_code scene (negation f) = negated (factor_code scene f)
+  factor_code scene (negation f) = negation_code (factor_code scene f)
 
   -- the place and type after selectors; None if one of them selects nothing
   pub selected_place : Scene → Option FoundPlace → Tree Label (items selector) → Option FoundPlace
   selected_place scene found end = found
   selected_place scene found (more (field x) rest) =
-      selected_place scene (option_and_then (field_found (label_text x)) found) rest
+      selected_place scene (option_and_then (record_field_place (label_text x)) found) rest
   selected_place scene found (more (index e) rest) =
-      selected_place scene (element_of (expression_code scene e) found) rest
+      selected_place scene (indexed_place (expression_code scene e) found) rest
 
 -- the place and type after one selector; None if it selects nothing
-abbrev pub selected_once : Scene
+abbrev pub place_after_selector : Scene
     → Option FoundPlace
     → Tree Label (item selector)
     → Option FoundPlace
-selected_once scene found (field x) = option_and_then (field_found (label_text x)) found
-selected_once scene found (index e) = element_of (expression_code scene e) found
+place_after_selector scene found (field x) = option_and_then (record_field_place (label_text x)) found
+place_after_selector scene found (index e) = indexed_place (expression_code scene e) found

@@ -6,18 +6,18 @@
 //! them. The same holds for the forms of places, negations and assignments that the machine
 //! evaluates in fewer steps. Since the meaning is the same, the nesting has separate clauses
 //! (`specs/Rows`). One more operand makes a conjunction at most as deep on the left as before,
-//! or as a pair (`GoesOnFlat`). So the first operand of a conjunction isn't a conjunction
+//! or as a pair (`IsNoDeeper`). So the first operand of a conjunction isn't a conjunction
 //! (`IsFlat`). `both` and `either` list each case of the left operand, since a proof knows nothing
 //! about an operand in a wildcard arm.
 
 ghost use Rattle.std.specs.Prelude.{◌≡◌, ◌≤◌, IfOk, IfSome, max, suc};
 ghost use Rattle.ob0_run_machine.specs.Lowered as machine;
-ghost use Rattle.ob0_run_machine.specs.View.{all_in, any_in, applied, chained_in, first_of, number_of, operation_of, operator_of, truth_of, variable_of};
+ghost use Rattle.ob0_run_machine.specs.View.{conjunction_of, disjunction_of, applied, chain_of, first_of, number_of, operation_of, operator_of, truth_of, variable_of};
 ghost use Rattle.ob0_run_lowering.specs.Rows.{and_depth, or_depth};
-ghost use Rattle.ob0_run_machine.specs.declared.code.Several.{out-Several};
+ghost use Rattle.ob0_run_machine.specs.declared.code.TruthList.{out-TruthList};
 
 use ob0_run_machine::code::{
-    Chain, FirstOperand, Link, Number, Operation, Operator, Several, Truth, Truths, Variable,
+    Chain, FirstOperand, Link, Number, Operation, Operator, Truth, TruthList, TruthPair, Variable,
 };
 use std::alloc::{AllocError, Global};
 
@@ -57,7 +57,7 @@ fn link(operator: Operator, right: Number) -> Link
 
 /// Returns the link of an operator with a variable as its left operand. Returns None for a quotient
 /// or a remainder, for which there is no such link.
-fn link_after(operator: Operator, variable: Variable) -> Option<Link>
+fn reversed_link(operator: Operator, variable: Variable) -> Option<Link>
     ensures { IfSome result (λ l. (right : machine.Number) → applied l right
         ≡ machine.operation (operator_of operator) (machine.cell (variable_of variable)) right) }
 {
@@ -71,14 +71,14 @@ fn link_after(operator: Operator, variable: Variable) -> Option<Link>
 }
 
 /// Returns one operation as a number.
-fn single(alloc: Global, first: FirstOperand, link: Link) -> Result<Number, AllocError>
+fn single_operation(alloc: Global, first: FirstOperand, link: Link) -> Result<Number, AllocError>
     ensures { IfOk result (λ n. number_of n ≡ applied link (first_of first)) }
 {
     Ok(Number::Operation(Box::new(alloc, Operation { first, link })?))
 }
 
 /// Returns the chain of an operation and a second link.
-fn two(alloc: Global, operation: Operation, next: Link) -> Result<Number, AllocError>
+fn two_operations(alloc: Global, operation: Operation, next: Link) -> Result<Number, AllocError>
     ensures { IfOk result (λ n. number_of n ≡ applied next (operation_of operation)) }
 {
     let Operation { first, link } = operation;
@@ -89,8 +89,8 @@ fn two(alloc: Global, operation: Operation, next: Link) -> Result<Number, AllocE
 }
 
 /// Returns a chain with one more link at its end.
-fn longer(alloc: Global, chain: Chain, link: Link) -> Result<Number, AllocError>
-    ensures { IfOk result (λ n. number_of n ≡ applied link (chained_in chain)) }
+fn extended_chain(alloc: Global, chain: Chain, link: Link) -> Result<Number, AllocError>
+    ensures { IfOk result (λ n. number_of n ≡ applied link (chain_of chain)) }
 {
     let Chain { first, mut rest } = chain;
     rest.push(link)?;
@@ -98,7 +98,7 @@ fn longer(alloc: Global, chain: Chain, link: Link) -> Result<Number, AllocError>
 }
 
 /// Returns an operation between a variable and a number, as a single operation.
-fn plain(
+fn plain_operation(
     alloc: Global,
     operator: Operator,
     variable: Variable,
@@ -107,7 +107,7 @@ fn plain(
     ensures { IfOk result (λ n. number_of n ≡ machine.operation (operator_of operator)
         (machine.cell (variable_of variable)) (number_of right)) }
 {
-    single(
+    single_operation(
         alloc,
         FirstOperand::Variable(variable),
         link(operator, right),
@@ -125,13 +125,13 @@ fn operation_on_variable(
     ensures { IfOk result (λ n. number_of n ≡ machine.operation (operator_of operator)
         (machine.cell (variable_of variable)) (number_of right)) }
 {
-    let Some(link) = link_after(operator, variable) else {
-        return plain(alloc, operator, variable, right);
+    let Some(link) = reversed_link(operator, variable) else {
+        return plain_operation(alloc, operator, variable, right);
     };
     match right {
-        Number::Chain(chain) => longer(alloc, Box::into_inner(chain), link),
-        Number::Operation(operation) => two(alloc, Box::into_inner(operation), link),
-        other => plain(alloc, operator, variable, other),
+        Number::Chain(chain) => extended_chain(alloc, Box::into_inner(chain), link),
+        Number::Operation(operation) => two_operations(alloc, Box::into_inner(operation), link),
+        other => plain_operation(alloc, operator, variable, other),
     }
 }
 
@@ -148,46 +148,66 @@ pub(crate) fn operation(
 {
     match left {
         Number::Variable(v) => operation_on_variable(alloc, operator, v, right),
-        Number::Chain(chain) => longer(alloc, Box::into_inner(chain), link(operator, right)),
+        Number::Chain(chain) => extended_chain(
+            alloc,
+            Box::into_inner(chain),
+            link(operator, right),
+        ),
         Number::Operation(operation) => {
-            two(alloc, Box::into_inner(operation), link(operator, right))
+            two_operations(alloc, Box::into_inner(operation), link(operator, right))
         }
-        Number::Literal(n) => single(alloc, FirstOperand::Literal(n), link(operator, right)),
-        Number::Cell(place) => single(alloc, FirstOperand::Cell(place), link(operator, right)),
+        Number::Literal(n) => single_operation(
+            alloc,
+            FirstOperand::Literal(n),
+            link(operator, right),
+        ),
+        Number::Cell(place) => single_operation(
+            alloc,
+            FirstOperand::Cell(place),
+            link(operator, right),
+        ),
         Number::Negative(number) => {
-            single(alloc, FirstOperand::Negative(number), link(operator, right))
+            single_operation(alloc, FirstOperand::Negative(number), link(operator, right))
         }
     }
 }
 
 /// Returns the conjunction of several truths and one more at the end.
-fn all_of(alloc: Global, several: Several, right: Truth) -> Result<Truth, AllocError>
+fn extended_conjunction(
+    alloc: Global,
+    several: TruthList,
+    right: Truth,
+) -> Result<Truth, AllocError>
     ensures meaning { IfOk result
-        (λ t. truth_of t ≡ machine.both (all_in several) (truth_of right)) }
-    ensures depth { IfOk result (λ t. and_depth t ≡ suc (and_depth (out-Several several).first)) }
+        (λ t. truth_of t ≡ machine.both (conjunction_of several) (truth_of right)) }
+    ensures depth { IfOk result (λ t. and_depth t ≡ suc (and_depth (out-TruthList several).first)) }
     ensures other { IfOk result (λ t. or_depth t ≡ 0) }
 {
-    let Several { first, mut rest } = several;
+    let TruthList { first, mut rest } = several;
     rest.push(right)?;
-    let several = Box::new(alloc, Several { first, rest })?;
+    let several = Box::new(alloc, TruthList { first, rest })?;
     Ok(Truth::All(several))
 }
 
 /// Returns the disjunction of several truths and one more at the end.
-fn any_of(alloc: Global, several: Several, right: Truth) -> Result<Truth, AllocError>
+fn extended_disjunction(
+    alloc: Global,
+    several: TruthList,
+    right: Truth,
+) -> Result<Truth, AllocError>
     ensures meaning { IfOk result
-        (λ t. truth_of t ≡ machine.either (any_in several) (truth_of right)) }
-    ensures depth { IfOk result (λ t. or_depth t ≡ suc (or_depth (out-Several several).first)) }
+        (λ t. truth_of t ≡ machine.either (disjunction_of several) (truth_of right)) }
+    ensures depth { IfOk result (λ t. or_depth t ≡ suc (or_depth (out-TruthList several).first)) }
     ensures other { IfOk result (λ t. and_depth t ≡ 0) }
 {
-    let Several { first, mut rest } = several;
+    let TruthList { first, mut rest } = several;
     rest.push(right)?;
-    let several = Box::new(alloc, Several { first, rest })?;
+    let several = Box::new(alloc, TruthList { first, rest })?;
     Ok(Truth::Any(several))
 }
 
 /// Returns a conjunction of three truths.
-fn three_in_all(
+fn conjunction_of_three(
     alloc: Global,
     first: Truth,
     second: Truth,
@@ -200,11 +220,11 @@ fn three_in_all(
 {
     let mut rest = Vec::new(alloc);
     rest.push(second)?;
-    all_of(alloc, Several { first, rest }, third)
+    extended_conjunction(alloc, TruthList { first, rest }, third)
 }
 
 /// Returns a disjunction of three truths.
-fn three_in_any(
+fn disjunction_of_three(
     alloc: Global,
     first: Truth,
     second: Truth,
@@ -217,7 +237,7 @@ fn three_in_any(
 {
     let mut rest = Vec::new(alloc);
     rest.push(second)?;
-    any_of(alloc, Several { first, rest }, third)
+    extended_disjunction(alloc, TruthList { first, rest }, third)
 }
 
 /// Returns the negation of a truth. It is one node if the truth is a flag.
@@ -231,22 +251,22 @@ pub(crate) fn negation(alloc: Global, truth: Truth) -> Result<Truth, AllocError>
     }
 }
 
-fn pair_of_both(alloc: Global, left: Truth, right: Truth) -> Result<Truth, AllocError>
+fn plain_conjunction(alloc: Global, left: Truth, right: Truth) -> Result<Truth, AllocError>
     ensures meaning { IfOk result
         (λ t. truth_of t ≡ machine.both (truth_of left) (truth_of right)) }
     ensures depth { IfOk result (λ t. and_depth t ≡ suc (and_depth left)) }
     ensures other { IfOk result (λ t. or_depth t ≡ 0) }
 {
-    Ok(Truth::Both(Box::new(alloc, Truths { left, right })?))
+    Ok(Truth::Both(Box::new(alloc, TruthPair { left, right })?))
 }
 
-fn pair_of_either(alloc: Global, left: Truth, right: Truth) -> Result<Truth, AllocError>
+fn plain_disjunction(alloc: Global, left: Truth, right: Truth) -> Result<Truth, AllocError>
     ensures meaning { IfOk result
         (λ t. truth_of t ≡ machine.either (truth_of left) (truth_of right)) }
     ensures depth { IfOk result (λ t. or_depth t ≡ suc (or_depth left)) }
     ensures other { IfOk result (λ t. and_depth t ≡ 0) }
 {
-    Ok(Truth::Either(Box::new(alloc, Truths { left, right })?))
+    Ok(Truth::Either(Box::new(alloc, TruthPair { left, right })?))
 }
 
 /// Returns the conjunction of two truths. If the left one is a conjunction, the right one is
@@ -258,47 +278,47 @@ pub(crate) fn both(alloc: Global, left: Truth, right: Truth) -> Result<Truth, Al
     ensures other { IfOk result (λ t. or_depth t ≡ 0) }
 {
     match left {
-        Truth::All(several) => all_of(alloc, Box::into_inner(several), right),
+        Truth::All(several) => extended_conjunction(alloc, Box::into_inner(several), right),
         Truth::Both(truths) => {
-            let Truths {
+            let TruthPair {
                 left,
                 right: second,
             } = Box::into_inner(truths);
-            three_in_all(alloc, left, second, right)
+            conjunction_of_three(alloc, left, second, right)
         }
-        Truth::Constant(b) => pair_of_both(alloc, Truth::Constant(b), right),
-        Truth::Flag(place) => pair_of_both(alloc, Truth::Flag(place), right),
-        Truth::Unset(place) => pair_of_both(alloc, Truth::Unset(place), right),
-        Truth::Negation(truth) => pair_of_both(alloc, Truth::Negation(truth), right),
-        Truth::Either(truths) => pair_of_both(alloc, Truth::Either(truths), right),
-        Truth::Any(several) => pair_of_both(alloc, Truth::Any(several), right),
-        Truth::Related(relation, operands) => pair_of_both(
+        Truth::Constant(b) => plain_conjunction(alloc, Truth::Constant(b), right),
+        Truth::Flag(place) => plain_conjunction(alloc, Truth::Flag(place), right),
+        Truth::Unset(place) => plain_conjunction(alloc, Truth::Unset(place), right),
+        Truth::Negation(truth) => plain_conjunction(alloc, Truth::Negation(truth), right),
+        Truth::Either(truths) => plain_conjunction(alloc, Truth::Either(truths), right),
+        Truth::Any(several) => plain_conjunction(alloc, Truth::Any(several), right),
+        Truth::Related(relation, operands) => plain_conjunction(
             alloc,
             Truth::Related(relation, operands),
             right,
         ),
-        Truth::LessThanLiteral(variable, n) => pair_of_both(
+        Truth::LessThanLiteral(variable, n) => plain_conjunction(
             alloc,
             Truth::LessThanLiteral(variable, n),
             right,
         ),
-        Truth::ComparedToLiteral(relation, variable, n) => pair_of_both(
+        Truth::ComparedToLiteral(relation, variable, n) => plain_conjunction(
             alloc,
             Truth::ComparedToLiteral(relation, variable, n),
             right,
         ),
-        Truth::ComparedToVariable(relation, variable, other) => pair_of_both(
+        Truth::ComparedToVariable(relation, variable, other) => plain_conjunction(
             alloc,
             Truth::ComparedToVariable(relation, variable, other),
             right,
         ),
-        Truth::RowToVariable(relation, row, variable) => pair_of_both(
+        Truth::ElementToVariable(relation, row, variable) => plain_conjunction(
             alloc,
-            Truth::RowToVariable(relation, row, variable),
+            Truth::ElementToVariable(relation, row, variable),
             right,
         ),
-        Truth::Same(truths) => pair_of_both(alloc, Truth::Same(truths), right),
-        Truth::Different(truths) => pair_of_both(alloc, Truth::Different(truths), right),
+        Truth::Same(truths) => plain_conjunction(alloc, Truth::Same(truths), right),
+        Truth::Different(truths) => plain_conjunction(alloc, Truth::Different(truths), right),
     }
 }
 
@@ -311,46 +331,46 @@ pub(crate) fn either(alloc: Global, left: Truth, right: Truth) -> Result<Truth, 
     ensures other { IfOk result (λ t. and_depth t ≡ 0) }
 {
     match left {
-        Truth::Any(several) => any_of(alloc, Box::into_inner(several), right),
+        Truth::Any(several) => extended_disjunction(alloc, Box::into_inner(several), right),
         Truth::Either(truths) => {
-            let Truths {
+            let TruthPair {
                 left,
                 right: second,
             } = Box::into_inner(truths);
-            three_in_any(alloc, left, second, right)
+            disjunction_of_three(alloc, left, second, right)
         }
-        Truth::Constant(b) => pair_of_either(alloc, Truth::Constant(b), right),
-        Truth::Flag(place) => pair_of_either(alloc, Truth::Flag(place), right),
-        Truth::Unset(place) => pair_of_either(alloc, Truth::Unset(place), right),
-        Truth::Negation(truth) => pair_of_either(alloc, Truth::Negation(truth), right),
-        Truth::Both(truths) => pair_of_either(alloc, Truth::Both(truths), right),
-        Truth::All(several) => pair_of_either(alloc, Truth::All(several), right),
-        Truth::Related(relation, operands) => pair_of_either(
+        Truth::Constant(b) => plain_disjunction(alloc, Truth::Constant(b), right),
+        Truth::Flag(place) => plain_disjunction(alloc, Truth::Flag(place), right),
+        Truth::Unset(place) => plain_disjunction(alloc, Truth::Unset(place), right),
+        Truth::Negation(truth) => plain_disjunction(alloc, Truth::Negation(truth), right),
+        Truth::Both(truths) => plain_disjunction(alloc, Truth::Both(truths), right),
+        Truth::All(several) => plain_disjunction(alloc, Truth::All(several), right),
+        Truth::Related(relation, operands) => plain_disjunction(
             alloc,
             Truth::Related(relation, operands),
             right,
         ),
-        Truth::LessThanLiteral(variable, n) => pair_of_either(
+        Truth::LessThanLiteral(variable, n) => plain_disjunction(
             alloc,
             Truth::LessThanLiteral(variable, n),
             right,
         ),
-        Truth::ComparedToLiteral(relation, variable, n) => pair_of_either(
+        Truth::ComparedToLiteral(relation, variable, n) => plain_disjunction(
             alloc,
             Truth::ComparedToLiteral(relation, variable, n),
             right,
         ),
-        Truth::ComparedToVariable(relation, variable, other) => pair_of_either(
+        Truth::ComparedToVariable(relation, variable, other) => plain_disjunction(
             alloc,
             Truth::ComparedToVariable(relation, variable, other),
             right,
         ),
-        Truth::RowToVariable(relation, row, variable) => pair_of_either(
+        Truth::ElementToVariable(relation, row, variable) => plain_disjunction(
             alloc,
-            Truth::RowToVariable(relation, row, variable),
+            Truth::ElementToVariable(relation, row, variable),
             right,
         ),
-        Truth::Same(truths) => pair_of_either(alloc, Truth::Same(truths), right),
-        Truth::Different(truths) => pair_of_either(alloc, Truth::Different(truths), right),
+        Truth::Same(truths) => plain_disjunction(alloc, Truth::Same(truths), right),
+        Truth::Different(truths) => plain_disjunction(alloc, Truth::Different(truths), right),
     }
 }

@@ -2,7 +2,7 @@
 
 ghost use Rattle.std.specs.Prelude.{◌≡◌};
 
-use crate::Types;
+use crate::TypeLayouts;
 use ob0_scope_table::Resolved;
 use ob0_types_table::TypeId;
 use std::alloc::Global;
@@ -13,22 +13,22 @@ use std::alloc::Global;
 pub(crate) struct LoweringContext<'g, 'k, 't> {
     pub(crate) alloc: Global,
     pub(crate) resolved: &'g Resolved<'t>,
-    pub(crate) types: &'g Types<'k>,
+    pub(crate) types: &'g TypeLayouts<'k>,
 }
 
 impl<'g, 'k, 't> LoweringContext<'g, 'k, 't> {
     ghost use Rattle.std.specs.Prelude.{option_map};
-    ghost use Rattle.ob0_scope_table.specs.InLabels.{label_in};
+    ghost use Rattle.ob0_scope_table.specs.LabelledTrees.{label_at_token};
     ghost use Rattle.ob0_types_table.specs.KnownTables.{shapes_of};
     ghost use Rattle.ob0_types_table.specs.Tables.{type_shape};
-    ghost use Rattle.ob0_language_types.specs.Typing.{type_declared};
+    ghost use Rattle.ob0_language_types.specs.Typing.{type_of_declaration};
     ghost use Rattle.ob0_run_lowering.specs.Scenes.{object_at};
     ghost use Rattle.ob0_run_lowering.specs.Placed.{declared_size};
 
     /// Returns the type of the variable that a name declares.
     fn type_of(&self, name: usize) -> Option<TypeId>
         ensures { option_map (type_shape (shapes_of self.now.types.now)) result
-            ≡ type_declared (object_at self.now.types.now (label_in self.now.resolved.now name)) }
+            ≡ type_of_declaration (object_at self.now.types.now (label_at_token self.now.resolved.now name)) }
     {
         let ordinal = self.resolved.ordinal_at(name)?;
         self.types.declarations().declared_type(ordinal)
@@ -36,7 +36,7 @@ impl<'g, 'k, 't> LoweringContext<'g, 'k, 't> {
 
     /// Returns the number of cells of the variable that a name declares.
     pub(crate) fn size(&self, name: usize) -> usize
-        ensures { result ≡ declared_size self.now.types.now (label_in self.now.resolved.now name) }
+        ensures { result ≡ declared_size self.now.types.now (label_at_token self.now.resolved.now name) }
     {
         match self.type_of(name) {
             None => 0,

@@ -4,7 +4,7 @@ ghost use Rattle.std.specs.Prelude.{IfOk};
 ghost use Rattle.ob0_tree.specs.View.{expression_of};
 ghost use Rattle.ob0_tree.specs.declared.tree.Designator.{out-Designator};
 ghost use Rattle.ob0_language_types.specs.Selected.{selectors_in};
-ghost use Rattle.ob0_run_lowering.specs.Means.{Locates, LocatesAlone, Lowers, LowersArgument, LowersNumber, LowersTruth};
+ghost use Rattle.ob0_run_lowering.specs.LoweredMeans.{Locates, LocatesLoneDesignator, Lowers, LowersArgument, LowersNumber, LowersTruth};
 ghost use Rattle.ob0_run_lowering.specs.Parts.{IsNumberOf, IsTypedPlaceOf, IsTruthOf, IsValueOf};
 ghost use Rattle.ob0_run_lowering.specs.Rows.{IsFlat};
 ghost use Rattle.ob0_run_lowering.specs.declared.lowered.Lowered.TheVariants as code;
@@ -14,11 +14,11 @@ use crate::scene::Scene;
 use ob0_run_machine::code::{Argument, Number, Place, Truth, Variable};
 use ob0_tree::{Designator, Expression};
 use ob0_types_table::designated::lone_designator;
-use ob0_types_table::{Formal, TypeId};
+use ob0_types_table::{FormalParameter, TypeId};
 use std::alloc::{AllocError, Global};
 
 /// Returns the number of an expression's code, or 0 if the code isn't a number.
-fn number_of(lowered: Lowered) -> Number
+fn number_or_zero(lowered: Lowered) -> Number
     ensures { IsNumberOf lowered result }
 {
     match lowered {
@@ -30,7 +30,7 @@ fn number_of(lowered: Lowered) -> Number
 }
 
 /// Returns the truth of an expression's code, or FALSE if the code isn't a truth.
-fn truth_of(lowered: Lowered) -> Truth
+fn truth_or_false(lowered: Lowered) -> Truth
     ensures taken { IsTruthOf lowered result }
     ensures flat { IsFlat lowered → IsFlat (code.Truth result) }
 {
@@ -43,7 +43,7 @@ fn truth_of(lowered: Lowered) -> Truth
 }
 
 /// Returns the argument that passes an expression by value. Without code it is FALSE.
-fn value_of(lowered: Lowered) -> Argument
+fn by_value_argument(lowered: Lowered) -> Argument
     ensures { IsValueOf lowered result }
 {
     match lowered {
@@ -54,7 +54,7 @@ fn value_of(lowered: Lowered) -> Argument
     }
 }
 
-fn nowhere() -> TypedPlace {
+fn unknown_place() -> TypedPlace {
     TypedPlace {
         place: Place::Variable(Variable::Module(0)),
         of: TypeId::Unknown,
@@ -62,12 +62,12 @@ fn nowhere() -> TypedPlace {
 }
 
 /// Returns the place that was found, or the module's first cell if none was.
-fn place_of(found: Option<TypedPlace>) -> TypedPlace
+fn found_or_unknown_place(found: Option<TypedPlace>) -> TypedPlace
     ensures { IsTypedPlaceOf found result }
 {
     match found {
         Some(located) => located,
-        None => nowhere(),
+        None => unknown_place(),
     }
 }
 
@@ -89,7 +89,7 @@ impl<'s, 'k, 't> Scene<'s, 'k, 't> {
         ensures { IfOk result (LowersNumber self.now (expression_of e.now)) }
     {
         let lowered = self.expression(alloc, e)?;
-        Ok(number_of(lowered))
+        Ok(number_or_zero(lowered))
     }
 
     /// Returns the truth that a condition means, or FALSE if the expression isn't a BOOLEAN.
@@ -98,7 +98,7 @@ impl<'s, 'k, 't> Scene<'s, 'k, 't> {
         ensures flat { IfOk result (λ t. IsFlat (code.Truth t)) }
     {
         let lowered = self.expression(alloc, e)?;
-        Ok(truth_of(lowered))
+        Ok(truth_or_false(lowered))
     }
 
     /// Returns the place of a designator and its type, or the module's first cell if there is no
@@ -107,17 +107,17 @@ impl<'s, 'k, 't> Scene<'s, 'k, 't> {
         ensures { IfOk result (Locates self.now (out-Designator d.now).name (selectors_in d.now)) }
     {
         let found = self.locate(alloc, d)?;
-        Ok(place_of(found))
+        Ok(found_or_unknown_place(found))
     }
 
     /// Returns the place of an argument for a VAR parameter. If the argument isn't only a
     /// designator, it is the module's first cell.
     pub fn locate_argument(&self, alloc: Global, e: &Expression) -> Result<TypedPlace, AllocError>
-        ensures { IfOk result (LocatesAlone self.now (expression_of e.now)) }
+        ensures { IfOk result (LocatesLoneDesignator self.now (expression_of e.now)) }
     {
         match lone_designator(e) {
             Some(d) => self.place(alloc, d),
-            None => Ok(nowhere()),
+            None => Ok(unknown_place()),
         }
     }
 
@@ -125,7 +125,7 @@ impl<'s, 'k, 't> Scene<'s, 'k, 't> {
     pub fn argument(
         &self,
         alloc: Global,
-        formal: &Formal,
+        formal: &FormalParameter,
         e: &Expression,
     ) -> Result<Argument, AllocError>
         ensures { IfOk result (LowersArgument self.now formal.now (expression_of e.now)) }
@@ -135,7 +135,7 @@ impl<'s, 'k, 't> Scene<'s, 'k, 't> {
             Ok(Argument::Place(located.place))
         } else {
             let lowered = self.expression(alloc, e)?;
-            Ok(value_of(lowered))
+            Ok(by_value_argument(lowered))
         }
     }
 }

@@ -9,12 +9,12 @@
 //! claimed. So every tree is accepted, and each has some code.
 #![tactic(auto)]
 
-mod assigning;
-mod calling;
 mod chains;
 mod contexts;
 mod expressions;
 mod lowered;
+mod lowered_assignments;
+mod lowered_calls;
 mod lowering;
 mod operators;
 mod places;
@@ -28,4 +28,4 @@ pub(crate) use lowered::{Lowered, TypedPlace};
 pub use programs::{Program, lower};
 pub(crate) use scene::{Scene, Site};
 pub(crate) use statements::body;
-pub(crate) use types::Types;
+pub(crate) use types::TypeLayouts;

@@ -15,27 +15,28 @@ ghost use Rattle.ob0_tree.specs.declared.tree.Designator.{out-Designator};
 ghost use Rattle.ob0_language_names.specs.Names.{label_text};
 ghost use Rattle.ob0_types_table.specs.KnownTables.{shapes_of};
 ghost use Rattle.ob0_types_table.specs.Tables.{type_shape};
-ghost use Rattle.ob0_language_types.specs.Bindings.{variable_of};
-ghost use Rattle.ob0_scope_table.specs.InLabels.{in_labels, label_in};
+ghost use Rattle.ob0_language_types.specs.Bindings.{variable_shape};
+ghost use Rattle.ob0_scope_table.specs.LabelledTrees.{tree_with_labels, label_at_token};
 ghost use Rattle.ob0_language_types.specs.Selected.{selectors_in};
 ghost use Rattle.ob0_language_types.specs.Typing.{constant_of};
 ghost use Rattle.ob0_language_values.specs.Scalars.{scalar_value};
 ghost use Rattle.ob0_run_machine.specs.View.{number_of};
 ghost use Rattle.ob0_run_lowering.specs.Rows.{IsFlat};
-ghost use Rattle.ob0_run_lowering.specs.Codes.{a_number, constant_code, element_found, element_of, field_found, code_at_place, code_at};
+ghost use Rattle.ob0_run_lowering.specs.Codes.{a_number, constant_code, element_place, indexed_place, record_field_place, code_at_place, code_at};
 ghost use Rattle.ob0_run_lowering.specs.Scenes.{object_at};
-ghost use Rattle.ob0_run_lowering.specs.Trees.{base_found, code_of, expression_code, factor_code, found_of, selected_once, selected_place, simple_code, term_code};
+ghost use Rattle.ob0_run_lowering.specs.Trees.{base_place, code_of, expression_code, factor_code, found_place_of, place_after_selector, selected_place, simple_code, term_code};
 
 use crate::lowered::{Lowered, TypedPlace};
 use crate::operators::{
     lower_addend, lower_multiplier, lower_negation, lower_relation, lower_sign,
 };
-use crate::places::{content, element, part};
+use crate::places::{element, number_at_place, part};
 use crate::scene::Scene;
 use ob0_language_values::Scalar;
 use ob0_run_machine::code::{Number, Truth};
 use ob0_tree::{
-    Comparison, Compound, Designator, Expression, Factor, Selector, Simple, Term, text_at,
+    Comparison, CompoundExpression, Designator, Expression, Factor, Selector, SimpleExpression,
+    Term, text_at,
 };
 use ob0_types_table::{Object, Parts, TypeId, number_at};
 use std::alloc::{AllocError, Global};
@@ -54,7 +55,7 @@ impl<'s, 'k, 't> Scene<'s, 'k, 't> {
     /// Returns the type of the variable that a name refers to, or None if it refers to no variable.
     fn variable_type(&self, name: usize) -> Option<TypeId>
         ensures { option_map (type_shape (shapes_of self.now.types.now)) result
-            ≡ variable_of (object_at self.now.types.now (label_in self.now.resolved.now name)) }
+            ≡ variable_shape (object_at self.now.types.now (label_at_token self.now.resolved.now name)) }
     {
         match self.object(name)? {
             Object::Variable(of) => Some(*of),
@@ -62,7 +63,7 @@ impl<'s, 'k, 't> Scene<'s, 'k, 't> {
             Object::Constant(_) => None,
             Object::FaultyConstant => None,
             Object::Procedure(_) => None,
-            Object::Standard(_) => None,
+            Object::StandardProcedure(_) => None,
         }
     }
 
@@ -70,7 +71,7 @@ impl<'s, 'k, 't> Scene<'s, 'k, 't> {
     /// constant.
     fn constant(&self, name: usize) -> Option<Scalar>
         ensures { option_map scalar_value result
-            ≡ constant_of (object_at self.now.types.now (label_in self.now.resolved.now name)) }
+            ≡ constant_of (object_at self.now.types.now (label_at_token self.now.resolved.now name)) }
     {
         match self.object(name)? {
             Object::Constant(value) => Some(*value),
@@ -78,13 +79,13 @@ impl<'s, 'k, 't> Scene<'s, 'k, 't> {
             Object::FaultyConstant => None,
             Object::Variable(_) => None,
             Object::Procedure(_) => None,
-            Object::Standard(_) => None,
+            Object::StandardProcedure(_) => None,
         }
     }
 
     /// Returns the text of a field's name, or the empty text if the name is bound to a declaration.
     fn field_name(&self, token: usize) -> &'t str
-        ensures { result.now ≡ label_text (label_in self.now.resolved.now token) }
+        ensures { result.now ≡ label_text (label_at_token self.now.resolved.now token) }
     {
         match self.resolved.ordinal_at(token) {
             None => text_at(self.resolved.tokens(), token),
@@ -101,9 +102,9 @@ impl<'s, 'k, 't> Scene<'s, 'k, 't> {
 
     /// Returns the place of a variable without selectors, or None if the name refers to no
     /// variable.
-    fn base(&self, alloc: Global, name: usize) -> Result<Option<TypedPlace>, AllocError>
-        ensures { IfOk result (λ o. option_map (found_of (shapes_of self.now.types.now)) o
-            ≡ base_found self.now (label_in self.now.resolved.now name)) }
+    fn locate_base(&self, alloc: Global, name: usize) -> Result<Option<TypedPlace>, AllocError>
+        ensures { IfOk result (λ o. option_map (found_place_of (shapes_of self.now.types.now)) o
+            ≡ base_place self.now (label_at_token self.now.resolved.now name)) }
     {
         match self.variable_type(name) {
             None => Ok(None),
@@ -117,13 +118,13 @@ impl<'s, 'k, 't> Scene<'s, 'k, 't> {
     /// Returns the code of the value at a place: a number, a truth or the cells of a larger value.
     fn code_at_place(&self, at: TypedPlace) -> Lowered
         ensures code { code_of result
-            ≡ code_at_place (found_of (shapes_of self.now.types.now) at).place
-            (found_of (shapes_of self.now.types.now) at).shape }
+            ≡ code_at_place (found_place_of (shapes_of self.now.types.now) at).place
+            (found_place_of (shapes_of self.now.types.now) at).shape }
         ensures flat { IsFlat result }
     {
         let TypedPlace { place, of } = at;
         match of {
-            TypeId::Integer => Lowered::Number(content(place)),
+            TypeId::Integer => Lowered::Number(number_at_place(place)),
             TypeId::Boolean => Lowered::Truth(Truth::Flag(place)),
             TypeId::Array(_) => Lowered::Block(place, self.types.size(of)),
             TypeId::Record(_) => Lowered::Block(place, self.types.size(of)),
@@ -133,7 +134,7 @@ impl<'s, 'k, 't> Scene<'s, 'k, 't> {
 
     fn code_at(&self, at: Option<TypedPlace>) -> Lowered
         ensures code { code_of result
-            ≡ code_at (option_map (found_of (shapes_of self.now.types.now)) at) }
+            ≡ code_at (option_map (found_place_of (shapes_of self.now.types.now)) at) }
         ensures flat { IsFlat result }
     {
         match at {
@@ -149,9 +150,9 @@ impl<'s, 'k, 't> Scene<'s, 'k, 't> {
         at: TypedPlace,
         name: usize,
     ) -> Result<Option<TypedPlace>, AllocError>
-        ensures { IfOk result (λ o. option_map (found_of (shapes_of self.now.types.now)) o
-            ≡ field_found (label_text (label_in self.now.resolved.now name))
-            (found_of (shapes_of self.now.types.now) at)) }
+        ensures { IfOk result (λ o. option_map (found_place_of (shapes_of self.now.types.now)) o
+            ≡ record_field_place (label_text (label_at_token self.now.resolved.now name))
+            (found_place_of (shapes_of self.now.types.now) at)) }
     {
         let TypedPlace { place, of } = at;
         let name = self.field_name(name);
@@ -172,10 +173,10 @@ impl<'s, 'k, 't> Scene<'s, 'k, 't> {
         at: TypedPlace,
         index: Number,
     ) -> Result<Option<TypedPlace>, AllocError>
-        ensures { IfOk result (λ o. option_map (found_of (shapes_of self.now.types.now)) o
-            ≡ element_found (a_number (number_of index))
-            (found_of (shapes_of self.now.types.now) at).place
-            (found_of (shapes_of self.now.types.now) at).shape) }
+        ensures { IfOk result (λ o. option_map (found_place_of (shapes_of self.now.types.now)) o
+            ≡ element_place (a_number (number_of index))
+            (found_place_of (shapes_of self.now.types.now) at).place
+            (found_place_of (shapes_of self.now.types.now) at).shape) }
     {
         let TypedPlace { place, of } = at;
         match self.types.declarations().parts(of) {
@@ -194,15 +195,15 @@ impl<'s, 'k, 't> Scene<'s, 'k, 't> {
         }
     }
 
-    fn element_there(
+    fn element_if_found(
         &self,
         alloc: Global,
         at: Option<TypedPlace>,
         index: Lowered,
     ) -> Result<Option<TypedPlace>, AllocError>
-        ensures { IfOk result (λ o. option_map (found_of (shapes_of self.now.types.now)) o
-            ≡ element_of (code_of index)
-            (option_map (found_of (shapes_of self.now.types.now)) at)) }
+        ensures { IfOk result (λ o. option_map (found_place_of (shapes_of self.now.types.now)) o
+            ≡ indexed_place (code_of index)
+            (option_map (found_place_of (shapes_of self.now.types.now)) at)) }
     {
         match at {
             None => Ok(None),
@@ -215,15 +216,15 @@ impl<'s, 'k, 't> Scene<'s, 'k, 't> {
         }
     }
 
-    fn field_there(
+    fn field_if_found(
         &self,
         alloc: Global,
         at: Option<TypedPlace>,
         name: usize,
     ) -> Result<Option<TypedPlace>, AllocError>
-        ensures { IfOk result (λ o. option_map (found_of (shapes_of self.now.types.now)) o
-            ≡ option_and_then (field_found (label_text (label_in self.now.resolved.now name)))
-            (option_map (found_of (shapes_of self.now.types.now)) at)) }
+        ensures { IfOk result (λ o. option_map (found_place_of (shapes_of self.now.types.now)) o
+            ≡ option_and_then (record_field_place (label_text (label_at_token self.now.resolved.now name)))
+            (option_map (found_place_of (shapes_of self.now.types.now)) at)) }
     {
         match at {
             None => Ok(None),
@@ -239,36 +240,36 @@ impl<'s, 'k, 't> Scene<'s, 'k, 't> {
         e: &Expression,
     ) -> Result<Lowered, AllocError>
         ensures code { IfOk result (λ l. code_of l
-            ≡ expression_code self.now (in_labels self.now.resolved.now (expression_of e.now))) }
+            ≡ expression_code self.now (tree_with_labels self.now.resolved.now (expression_of e.now))) }
         ensures flat { IfOk result IsFlat }
     {
         match e {
             Expression::Factor(f) => self.factor(alloc, f),
-            Expression::Compound(c) => self.compound(alloc, c),
+            Expression::CompoundExpression(c) => self.lower_compound(alloc, c),
         }
     }
 
     #[cycle(lowering)]
-    fn compound(&self, alloc: Global, c: &Compound) -> Result<Lowered, AllocError>
+    fn lower_compound(&self, alloc: Global, c: &CompoundExpression) -> Result<Lowered, AllocError>
         ensures code { IfOk result (λ l. code_of l
-            ≡ expression_code self.now (in_labels self.now.resolved.now (compound_of c.now))) }
+            ≡ expression_code self.now (tree_with_labels self.now.resolved.now (compound_of c.now))) }
         ensures flat { IfOk result IsFlat }
     {
-        let left = self.simple(alloc, &c.left)?;
+        let left = self.lower_simple(alloc, &c.left)?;
         match &c.compared {
             None => Ok(left),
             Some(compared) => {
                 let compared: &Comparison = compared;
-                let right = self.simple(alloc, &compared.right)?;
+                let right = self.lower_simple(alloc, &compared.right)?;
                 lower_relation(alloc, compared.relation, left, right)
             }
         }
     }
 
     #[cycle(lowering)]
-    fn simple(&self, alloc: Global, s: &Simple) -> Result<Lowered, AllocError>
+    fn lower_simple(&self, alloc: Global, s: &SimpleExpression) -> Result<Lowered, AllocError>
         ensures code { IfOk result (λ l. code_of l
-            ≡ simple_code self.now (in_labels self.now.resolved.now (simple_of s.now))) }
+            ≡ simple_code self.now (tree_with_labels self.now.resolved.now (simple_of s.now))) }
         ensures flat { IfOk result IsFlat }
     {
         let first = self.term(alloc, &s.first)?;
@@ -283,7 +284,7 @@ impl<'s, 'k, 't> Scene<'s, 'k, 't> {
     #[cycle(lowering)]
     fn term(&self, alloc: Global, t: &Term) -> Result<Lowered, AllocError>
         ensures code { IfOk result (λ l. code_of l
-            ≡ term_code self.now (in_labels self.now.resolved.now (term_of t.now))) }
+            ≡ term_code self.now (tree_with_labels self.now.resolved.now (term_of t.now))) }
         ensures flat { IfOk result IsFlat }
     {
         let mut so_far = self.factor(alloc, &t.first)?;
@@ -297,7 +298,7 @@ impl<'s, 'k, 't> Scene<'s, 'k, 't> {
     #[cycle(lowering)]
     fn factor(&self, alloc: Global, f: &Factor) -> Result<Lowered, AllocError>
         ensures code { IfOk result (λ l. code_of l
-            ≡ factor_code self.now (in_labels self.now.resolved.now (factor_of f.now))) }
+            ≡ factor_code self.now (tree_with_labels self.now.resolved.now (factor_of f.now))) }
         ensures flat { IfOk result IsFlat }
     {
         match f {
@@ -316,7 +317,7 @@ impl<'s, 'k, 't> Scene<'s, 'k, 't> {
     #[cycle(lowering)]
     fn lower_designator(&self, alloc: Global, d: &Designator) -> Result<Lowered, AllocError>
         ensures code { IfOk result (λ l. code_of l
-            ≡ factor_code self.now (in_labels self.now.resolved.now (designator_of d.now))) }
+            ≡ factor_code self.now (tree_with_labels self.now.resolved.now (designator_of d.now))) }
         ensures flat { IfOk result IsFlat }
     {
         match self.constant(d.name) {
@@ -336,34 +337,34 @@ impl<'s, 'k, 't> Scene<'s, 'k, 't> {
         alloc: Global,
         d: &Designator,
     ) -> Result<Option<TypedPlace>, AllocError>
-        ensures { IfOk result (λ o. option_map (found_of (shapes_of self.now.types.now)) o
+        ensures { IfOk result (λ o. option_map (found_place_of (shapes_of self.now.types.now)) o
             ≡ selected_place self.now
-            (base_found self.now (label_in self.now.resolved.now (out-Designator d.now).name))
-            (in_labels self.now.resolved.now (selectors_in d.now))) }
+            (base_place self.now (label_at_token self.now.resolved.now (out-Designator d.now).name))
+            (tree_with_labels self.now.resolved.now (selectors_in d.now))) }
     {
-        let mut at = self.base(alloc, d.name)?;
+        let mut at = self.locate_base(alloc, d.name)?;
         for selector in &d.selectors {
-            at = self.select(alloc, at, selector)?;
+            at = self.apply_selector(alloc, at, selector)?;
         }
         Ok(at)
     }
 
     #[cycle(lowering)]
-    fn select(
+    fn apply_selector(
         &self,
         alloc: Global,
         at: Option<TypedPlace>,
         s: &Selector,
     ) -> Result<Option<TypedPlace>, AllocError>
-        ensures { IfOk result (λ o. option_map (found_of (shapes_of self.now.types.now)) o
-            ≡ selected_once self.now (option_map (found_of (shapes_of self.now.types.now)) at)
-            (in_labels self.now.resolved.now (selector_of s.now))) }
+        ensures { IfOk result (λ o. option_map (found_place_of (shapes_of self.now.types.now)) o
+            ≡ place_after_selector self.now (option_map (found_place_of (shapes_of self.now.types.now)) at)
+            (tree_with_labels self.now.resolved.now (selector_of s.now))) }
     {
         match s {
-            Selector::Field(name) => self.field_there(alloc, at, *name),
+            Selector::Field(name) => self.field_if_found(alloc, at, *name),
             Selector::Index(e) => {
                 let index = self.lower_expression(alloc, e)?;
-                self.element_there(alloc, at, index)
+                self.element_if_found(alloc, at, index)
             }
         }
     }

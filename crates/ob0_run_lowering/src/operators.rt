@@ -8,13 +8,15 @@ ghost use Rattle.ob0_run_cells.specs.Lowering.{relation_of};
 ghost use Rattle.ob0_run_machine.specs.View as view;
 ghost use Rattle.ob0_run_lowering.specs.Codes as codes;
 ghost use Rattle.ob0_run_lowering.specs.Parts.{number_in, truth_in};
-ghost use Rattle.ob0_run_lowering.specs.Rows.{GoesOnFlat, IsFlat, and_depth, or_depth};
+ghost use Rattle.ob0_run_lowering.specs.Rows.{IsNoDeeper, IsFlat, and_depth, or_depth};
 ghost use Rattle.ob0_run_lowering.specs.Trees.{code_of};
 
 use crate::chains::{both, either, negation, operation};
 use crate::lowered::Lowered;
 use ob0_run_machine::code;
-use ob0_run_machine::code::{Number, Operands, Operator, Place, Row, Truth, Truths, Variable};
+use ob0_run_machine::code::{
+    Number, Operands, Operator, Place, Truth, TruthPair, Variable, VariableElement,
+};
 use ob0_tree::{AddOperator, MultiplyOperator, Relation, Sign};
 use std::alloc::{AllocError, Global};
 
@@ -49,8 +51,8 @@ fn lower_operation(
     right: Lowered,
 ) -> Result<Lowered, AllocError>
     ensures code { IfOk result
-        (λ l. code_of l ≡ codes.operated (operator_of operator) (code_of left) (code_of right)) }
-    ensures flat { IfOk result (GoesOnFlat left) }
+        (λ l. code_of l ≡ codes.number_operation (operator_of operator) (code_of left) (code_of right)) }
+    ensures flat { IfOk result (IsNoDeeper left) }
 {
     let Some(first) = number_in(left) else {
         return Ok(Lowered::Nothing);
@@ -64,8 +66,8 @@ fn lower_operation(
 
 fn lower_conjunction(alloc: Global, left: Lowered, right: Lowered) -> Result<Lowered, AllocError>
     ensures code { IfOk result
-        (λ l. code_of l ≡ codes.combined machine.both (code_of left) (code_of right)) }
-    ensures flat { IfOk result (GoesOnFlat left) }
+        (λ l. code_of l ≡ codes.truth_operation machine.both (code_of left) (code_of right)) }
+    ensures flat { IfOk result (IsNoDeeper left) }
 {
     let Some(first) = truth_in(left) else {
         return Ok(Lowered::Nothing);
@@ -79,8 +81,8 @@ fn lower_conjunction(alloc: Global, left: Lowered, right: Lowered) -> Result<Low
 
 fn lower_disjunction(alloc: Global, left: Lowered, right: Lowered) -> Result<Lowered, AllocError>
     ensures code { IfOk result
-        (λ l. code_of l ≡ codes.combined machine.either (code_of left) (code_of right)) }
-    ensures flat { IfOk result (GoesOnFlat left) }
+        (λ l. code_of l ≡ codes.truth_operation machine.either (code_of left) (code_of right)) }
+    ensures flat { IfOk result (IsNoDeeper left) }
 {
     let Some(first) = truth_in(left) else {
         return Ok(Lowered::Nothing);
@@ -99,8 +101,8 @@ pub(crate) fn lower_addend(
     right: Lowered,
 ) -> Result<Lowered, AllocError>
     ensures code { IfOk result
-        (λ l. code_of l ≡ codes.added operator (code_of left) (code_of right)) }
-    ensures flat { IfOk result (GoesOnFlat left) }
+        (λ l. code_of l ≡ codes.addition_code operator (code_of left) (code_of right)) }
+    ensures flat { IfOk result (IsNoDeeper left) }
 {
     match operator {
         AddOperator::Add => lower_operation(alloc, Operator::Sum, left, right),
@@ -116,8 +118,8 @@ pub(crate) fn lower_multiplier(
     right: Lowered,
 ) -> Result<Lowered, AllocError>
     ensures code { IfOk result
-        (λ l. code_of l ≡ codes.multiplied operator (code_of left) (code_of right)) }
-    ensures flat { IfOk result (GoesOnFlat left) }
+        (λ l. code_of l ≡ codes.multiplication_code operator (code_of left) (code_of right)) }
+    ensures flat { IfOk result (IsNoDeeper left) }
 {
     match operator {
         MultiplyOperator::Multiply => lower_operation(alloc, Operator::Product, left, right),
@@ -129,8 +131,8 @@ pub(crate) fn lower_multiplier(
 
 fn lower_minus(alloc: Global, operand: Lowered) -> Result<Lowered, AllocError>
     ensures code { IfOk result
-        (λ l. code_of l ≡ codes.signed (Some signs.Minus) (code_of operand)) }
-    ensures flat { IfOk result (GoesOnFlat operand) }
+        (λ l. code_of l ≡ codes.signed_code (Some signs.Minus) (code_of operand)) }
+    ensures flat { IfOk result (IsNoDeeper operand) }
 {
     match operand {
         Lowered::Number(number) => {
@@ -145,8 +147,8 @@ fn lower_minus(alloc: Global, operand: Lowered) -> Result<Lowered, AllocError>
 /// Returns the code of a term with the sign `+`: the sum of the term and 0.
 fn lower_plus(alloc: Global, operand: Lowered) -> Result<Lowered, AllocError>
     ensures code { IfOk result
-        (λ l. code_of l ≡ codes.signed (Some signs.Plus) (code_of operand)) }
-    ensures flat { IfOk result (GoesOnFlat operand) }
+        (λ l. code_of l ≡ codes.signed_code (Some signs.Plus) (code_of operand)) }
+    ensures flat { IfOk result (IsNoDeeper operand) }
 {
     lower_operation(
         alloc,
@@ -162,8 +164,8 @@ pub(crate) fn lower_sign(
     sign: Option<Sign>,
     operand: Lowered,
 ) -> Result<Lowered, AllocError>
-    ensures code { IfOk result (λ l. code_of l ≡ codes.signed sign (code_of operand)) }
-    ensures flat { IfOk result (GoesOnFlat operand) }
+    ensures code { IfOk result (λ l. code_of l ≡ codes.signed_code sign (code_of operand)) }
+    ensures flat { IfOk result (IsNoDeeper operand) }
 {
     match sign {
         None => Ok(operand),
@@ -175,7 +177,7 @@ pub(crate) fn lower_sign(
 }
 
 pub(crate) fn lower_negation(alloc: Global, operand: Lowered) -> Result<Lowered, AllocError>
-    ensures code { IfOk result (λ l. code_of l ≡ codes.negated (code_of operand)) }
+    ensures code { IfOk result (λ l. code_of l ≡ codes.negation_code (code_of operand)) }
     ensures flat { IfOk result IsFlat }
 {
     match operand {
@@ -186,7 +188,7 @@ pub(crate) fn lower_negation(alloc: Global, operand: Lowered) -> Result<Lowered,
     }
 }
 
-fn relation_in(relation: Relation) -> code::Comparator
+fn comparator_of(relation: Relation) -> code::Comparator
     ensures { view.relation_of result ≡ relation_of relation }
 {
     match relation {
@@ -201,7 +203,7 @@ fn relation_in(relation: Relation) -> code::Comparator
 
 /// Returns the truth that a relation holds between a variable and a literal.
 fn compare_to_literal(relation: code::Comparator, variable: Variable, n: i32) -> Truth
-    ensures code { truth_of result ≡ view.compared_by relation variable (machine.literal n) }
+    ensures code { truth_of result ≡ view.variable_relation relation variable (machine.literal n) }
     ensures flat { (and_depth result ≡ 0) × (or_depth result ≡ 0) }
 {
     match relation {
@@ -219,7 +221,7 @@ fn compare_variable(
     right: Number,
 ) -> Result<Truth, AllocError>
     ensures code { IfOk result
-        (λ t. truth_of t ≡ view.compared_by relation variable (number_of right)) }
+        (λ t. truth_of t ≡ view.variable_relation relation variable (number_of right)) }
     ensures flat { IfOk result (λ t. (and_depth t ≡ 0) × (or_depth t ≡ 0)) }
 {
     match right {
@@ -246,7 +248,7 @@ fn compare_cell(
     ensures flat { IfOk result (λ t. (and_depth t ≡ 0) × (or_depth t ≡ 0)) }
 {
     match place {
-        Place::Row(row) => compare_row(alloc, relation, *row, right),
+        Place::VariableElement(row) => compare_element(alloc, relation, *row, right),
         place => {
             let left = Number::Cell(place);
             let operands = Box::new(alloc, Operands { left, right })?;
@@ -255,23 +257,23 @@ fn compare_cell(
     }
 }
 
-fn compare_row(
+fn compare_element(
     alloc: Global,
     relation: code::Comparator,
-    row: Row,
+    row: VariableElement,
     right: Number,
 ) -> Result<Truth, AllocError>
     ensures code { IfOk result (λ t. truth_of t ≡ machine.related (view.relation_of relation)
-        (machine.cell (view.row_of row)) (number_of right)) }
+        (machine.cell (view.variable_element_of row)) (number_of right)) }
     ensures flat { IfOk result (λ t. (and_depth t ≡ 0) × (or_depth t ≡ 0)) }
 {
     match right {
         Number::Variable(variable) => {
             let row = Box::new(alloc, row)?;
-            Ok(Truth::RowToVariable(relation, row, variable))
+            Ok(Truth::ElementToVariable(relation, row, variable))
         }
         right => {
-            let left = Number::Cell(Place::Row(Box::new(alloc, row)?));
+            let left = Number::Cell(Place::VariableElement(Box::new(alloc, row)?));
             let operands = Box::new(alloc, Operands { left, right })?;
             Ok(Truth::Related(relation, operands))
         }
@@ -289,7 +291,7 @@ fn relate_numbers(
         ≡ machine.related (relation_of relation) (number_of left) (number_of right)) }
     ensures flat { IfOk result (λ t. (and_depth t ≡ 0) × (or_depth t ≡ 0)) }
 {
-    let relation = relation_in(relation);
+    let relation = comparator_of(relation);
     match left {
         Number::Variable(variable) => compare_variable(alloc, relation, variable, right),
         Number::Cell(place) => compare_cell(alloc, relation, place, right),
@@ -312,7 +314,7 @@ fn relate_truths(
         ≡ codes.related relation (codes.a_truth (truth_of left)) (codes.a_truth (truth_of right))) }
     ensures flat { IfOk result IsFlat }
 {
-    let truths = Truths { left, right };
+    let truths = TruthPair { left, right };
     match relation {
         Relation::Equal => {
             let sides = Box::new(alloc, truths)?;
@@ -331,7 +333,7 @@ fn relate_truths(
 
 /// Returns the code of a relation between a number and an operand. There is no code if the operand
 /// isn't a number.
-fn compare_numbers(
+fn lower_number_relation(
     alloc: Global,
     relation: Relation,
     left: Number,
@@ -350,7 +352,7 @@ fn compare_numbers(
 
 /// Returns the code of a relation between a truth and an operand. There is no code if the operand
 /// isn't a truth.
-fn compare_truths(
+fn lower_truth_relation(
     alloc: Global,
     relation: Relation,
     left: Truth,
@@ -377,8 +379,8 @@ pub(crate) fn lower_relation(
     ensures flat { IfOk result IsFlat }
 {
     match left {
-        Lowered::Number(number) => compare_numbers(alloc, relation, number, right),
-        Lowered::Truth(truth) => compare_truths(alloc, relation, truth, right),
+        Lowered::Number(number) => lower_number_relation(alloc, relation, number, right),
+        Lowered::Truth(truth) => lower_truth_relation(alloc, relation, truth, right),
         Lowered::Block(_, _) => Ok(Lowered::Nothing),
         Lowered::Nothing => Ok(Lowered::Nothing),
     }

@@ -8,18 +8,18 @@
 
 ghost use Rattle.std.specs.Prelude.{◌≡◌, IfOk, length};
 ghost use Rattle.ob0_run_machine.specs.Lowered as machine;
-ghost use Rattle.ob0_run_machine.specs.View.{chained_in, element_of, first_of, number_of, place_of, row_of, variable_of};
+ghost use Rattle.ob0_run_machine.specs.View.{chain_of, element_of, first_of, number_of, place_of, variable_element_of, variable_of};
 ghost use Rattle.ob0_run_machine.specs.declared.code.Chain.{out-Chain};
 ghost use Rattle.ob0_run_cells.specs.Lowering.{part_at};
 ghost use Rattle.ob0_run_lowering.specs.Codes.{element_at_place, known_offset};
 
 use ob0_run_machine::code::{
-    Chain, Element, FirstOperand, Number, Place, Reference, Row, Variable,
+    Chain, Element, FirstOperand, Number, Place, Reference, Variable, VariableElement,
 };
 use std::alloc::{AllocError, Global};
 
 /// Returns the number in the cell at a place.
-pub(crate) fn content(place: Place) -> Number
+pub(crate) fn number_at_place(place: Place) -> Number
     ensures { number_of result ≡ machine.cell (place_of place) }
 {
     match place {
@@ -46,7 +46,7 @@ pub(crate) fn part(alloc: Global, whole: Place, offset: usize) -> Result<Place, 
             } = *r;
             reference(alloc, up, index, at.wrapping_add(offset))
         }
-        Place::Row(row) => part_of_row(alloc, *row, offset),
+        Place::VariableElement(row) => part_of_variable_element(alloc, *row, offset),
         Place::Element(element) => part_of_element(alloc, Box::into_inner(element), offset),
     }
 }
@@ -85,14 +85,18 @@ pub(crate) fn reference(
 }
 
 /// Returns the place at an offset within an element whose array and index are variables.
-fn part_of_row(alloc: Global, row: Row, offset: usize) -> Result<Place, AllocError>
-    ensures { IfOk result (λ p. place_of p ≡ part_at (row_of row) offset) }
+fn part_of_variable_element(
+    alloc: Global,
+    row: VariableElement,
+    offset: usize,
+) -> Result<Place, AllocError>
+    ensures { IfOk result (λ p. place_of p ≡ part_at (variable_element_of row) offset) }
 {
-    let row = Row {
+    let row = VariableElement {
         offset: row.offset.wrapping_add(offset),
         ..row
     };
-    Ok(Place::Row(Box::new(alloc, row)?))
+    Ok(Place::VariableElement(Box::new(alloc, row)?))
 }
 
 /// Returns the place at an offset within an element.
@@ -132,7 +136,7 @@ fn literal_offset(index: i32, length: usize, stride: usize) -> Option<usize>
     }
 }
 
-fn first_offset(first: &FirstOperand, length: usize, stride: usize) -> Option<usize>
+fn first_operand_offset(first: &FirstOperand, length: usize, stride: usize) -> Option<usize>
     ensures { result ≡ known_offset (first_of first.now) length stride }
 {
     match first {
@@ -153,11 +157,11 @@ fn count_links(chain: &Chain) -> usize
 /// Returns the offset of an element whose index is a chain. It is known only if the chain has no
 /// operations and begins with a literal.
 fn chain_offset(chain: &Chain, length: usize, stride: usize) -> Option<usize>
-    ensures { result ≡ known_offset (chained_in chain.now) length stride }
+    ensures { result ≡ known_offset (chain_of chain.now) length stride }
 {
     let count = count_links(chain);
     if count == 0 {
-        return first_offset(&chain.first, length, stride);
+        return first_operand_offset(&chain.first, length, stride);
     }
     None
 }
@@ -208,7 +212,7 @@ fn computed_element(
 {
     match array {
         Place::Variable(array) => variable_element(alloc, array, index, length, stride),
-        array => any_element(alloc, array, index, length, stride),
+        array => general_element(alloc, array, index, length, stride),
     }
 }
 
@@ -225,20 +229,20 @@ fn variable_element(
 {
     match index {
         Number::Variable(index) => {
-            let row = Row {
+            let row = VariableElement {
                 array,
                 index,
                 length,
                 stride,
                 offset: 0,
             };
-            Ok(Place::Row(Box::new(alloc, row)?))
+            Ok(Place::VariableElement(Box::new(alloc, row)?))
         }
-        index => any_element(alloc, Place::Variable(array), index, length, stride),
+        index => general_element(alloc, Place::Variable(array), index, length, stride),
     }
 }
 
-fn any_element(
+fn general_element(
     alloc: Global,
     array: Place,
     index: Number,

@@ -3,20 +3,20 @@
 ghost use Rattle.std.specs.Prelude.{◌≡◌, ℕ, IfOk, OnOk, slice_set};
 ghost use Rattle.ob0_tree.specs.Tree.{more};
 ghost use Rattle.ob0_tree.specs.View.{block_of, procedure_of};
-ghost use Rattle.ob0_tree.specs.Parsed.{named_tree_of};
-ghost use Rattle.ob0_types_table.specs.KnownTables.{declared_in};
+ghost use Rattle.ob0_tree.specs.ParsedModule.{named_tree_of};
+ghost use Rattle.ob0_types_table.specs.KnownTables.{declared_object_in};
 ghost use Rattle.ob0_language_types.specs.Bindings.{declared_object};
 ghost use Rattle.ob0_language_types.specs.WellTyped.{WellTyped};
-ghost use Rattle.ob0_language_names.specs.Names.{as_labels};
+ghost use Rattle.ob0_language_names.specs.Names.{naming_by_label};
 ghost use Rattle.ob0_language_names.specs.Scopes.{numbered};
-ghost use Rattle.ob0_scope_table.specs.InLabels.{in_labels};
+ghost use Rattle.ob0_scope_table.specs.LabelledTrees.{tree_with_labels};
 ghost use Rattle.ob0_run_cells.specs.Activations.{ProgramMeans};
 ghost use Rattle.ob0_run_machine.specs.View.{program_of};
-ghost use Rattle.ob0_run_lowering.specs.Blocks.{Goes, LowersBlock};
+ghost use Rattle.ob0_run_lowering.specs.Blocks.{LowersProcedures, LowersBlock};
 
 use crate::contexts::LoweringContext;
 use crate::visible_sites::{Frame, VisibleSites};
-use crate::{Scene, Site, Types, body};
+use crate::{Scene, Site, TypeLayouts, body};
 use ob0_run_machine::code;
 use ob0_scope_table::Resolved;
 use ob0_tree::{Block, Procedure};
@@ -44,10 +44,10 @@ impl Lowering {
     ghost use Rattle.ob0_run_lowering.specs.Scenes.{site_at};
     ghost use Rattle.ob0_run_lowering.specs.declared.scene.Site.TheVariants as site;
     ghost use Rattle.ob0_run_machine.specs.declared.code.Routine as code;
-    ghost use Rattle.ob0_run_lowering.specs.Placed.{Follows, put_at};
+    ghost use Rattle.ob0_run_lowering.specs.Placed.{Follows, sites_with_binding};
 
     /// Stores the code of a procedure at its index. Does nothing if there is no such index.
-    fn keep(&mut self, index: usize, entry: code::Routine)
+    fn set_routine(&mut self, index: usize, entry: code::Routine)
         ensures procedures { self.new.procedures.items
             ≡ slice_set self.old.procedures.items index entry }
         ensures visible { self.new.visible ≡ self.old.visible }
@@ -59,7 +59,7 @@ impl Lowering {
 
     /// Gives a procedure the next index in the program and binds its name to this index. Until the
     /// code is stored, the index has an empty procedure. Returns the index.
-    fn announce(
+    fn reserve_routine(
         &mut self,
         context: &LoweringContext<'_, '_, '_>,
         depth: usize,
@@ -68,7 +68,7 @@ impl Lowering {
         ensures index { IfOk result (λ i. i ≡ length self.old.procedures.items) }
         ensures sites { IfOk result (λ i. (k : ℕ)
             → site_at self.new.visible.sites.items k
-            ≡ put_at (ordinal_in context.now.resolved.now.ordinals name) (site.Procedure depth i)
+            ≡ sites_with_binding (ordinal_in context.now.resolved.now.ordinals name) (site.Procedure depth i)
             (site_at self.old.visible.sites.items) k) }
         ensures follows { IfOk result (λ i. Follows self.old.visible self.new.visible) }
         ensures pushed { IfOk result (λ i. (e : code.Routine)
@@ -95,23 +95,23 @@ impl Lowering {
         p: &Procedure,
     ) -> Result<(), AllocError>
         ensures { OnOk result ((rest : Tree Label (items procedure))
-            → Goes context.now.types.now self.old self.new depth
-            (more (in_labels context.now.resolved.now (procedure_of p.now)) rest) rest) }
+            → LowersProcedures context.now.types.now self.old self.new depth
+            (more (tree_with_labels context.now.resolved.now (procedure_of p.now)) rest) rest) }
     {
         let Some(inside) = depth.checked_add(1) else {
             return Err(AllocError);
         };
-        let index = self.announce(context, depth, p.name)?;
-        let outside = self.visible.mark();
+        let index = self.reserve_routine(context, depth, p.name)?;
+        let outside = self.visible.hidden_count();
         let frame = Frame {
             depth: inside,
             cells: 0,
             references: 0,
         };
-        let frame = self.visible.parameters(context, frame, &p.formals)?;
+        let frame = self.visible.place_formals(context, frame, &p.formals)?;
         let entry = self.block(context, frame, &p.block)?;
-        self.visible.back_to(outside);
-        self.keep(index, entry);
+        self.visible.restore_hidden(outside);
+        self.set_routine(index, entry);
         Ok(())
     }
 
@@ -125,7 +125,7 @@ impl Lowering {
         b: &Block,
     ) -> Result<code::Routine, AllocError>
         ensures { IfOk result (LowersBlock context.now.types.now self.old self.new frame
-            (in_labels context.now.resolved.now (block_of b.now))) }
+            (tree_with_labels context.now.resolved.now (block_of b.now))) }
     {
         let own = self.visible.variables(context, frame, &b.variables)?;
         for p in &b.procedures {
@@ -157,11 +157,11 @@ pub fn lower<'t>(
 ) -> Result<Program, AllocError>
     ensures { IfOk result (λ made. WellTyped (named_tree_of resolved.now.module_read)
         → ((k : ℕ)
-        → declared_in known.now k ≡ declared_object (named_tree_of resolved.now.module_read) k)
-        → ProgramMeans as_labels (numbered (named_tree_of resolved.now.module_read))
+        → declared_object_in known.now k ≡ declared_object (named_tree_of resolved.now.module_read) k)
+        → ProgramMeans naming_by_label (numbered (named_tree_of resolved.now.module_read))
         (program_of made.code)) }
 {
-    let types = Types::new(alloc, known)?;
+    let types = TypeLayouts::new(alloc, known)?;
     let context = LoweringContext {
         alloc,
         resolved,

@@ -6,7 +6,7 @@ ghost use Rattle.ob0_run_cells.specs.Lowering.{slot_place};
 ghost use Rattle.ob0_run_cells.specs.Lowering as slots;
 
 use crate::places::reference;
-use crate::types::Types;
+use crate::types::TypeLayouts;
 use ob0_run_machine::code::{Place, Variable};
 use ob0_scope_table::Resolved;
 use ob0_types_table::Object;
@@ -52,23 +52,23 @@ impl CallTarget {
 #[derive(Clone, Copy)]
 pub struct Scene<'s, 'k, 't> {
     pub resolved: &'s Resolved<'t>,
-    pub types: &'s Types<'k>,
+    pub types: &'s TypeLayouts<'k>,
     pub sites: &'s [Site],
     pub depth: usize,
 }
 
 impl<'s, 'k, 't> Scene<'s, 'k, 't> {
     ghost use Rattle.std.specs.Prelude.{option_and_then};
-    ghost use Rattle.ob0_scope_table.specs.InLabels.{label_in};
+    ghost use Rattle.ob0_scope_table.specs.LabelledTrees.{label_at_token};
     ghost use Rattle.ob0_types_table.specs.KnownTables.{shapes_of};
-    ghost use Rattle.ob0_types_table.specs.Tables.{object_in};
-    ghost use Rattle.ob0_run_lowering.specs.Scenes.{object_at, seen_from, slot_at, target_at, whereabouts};
+    ghost use Rattle.ob0_types_table.specs.Tables.{object_view};
+    ghost use Rattle.ob0_run_lowering.specs.Scenes.{object_at, place_seen_from, slot_at, target_at, binding_place};
 
     /// Returns the object of the declaration that a name refers to, or None if the name isn't
     /// bound.
     pub fn object(&self, name: usize) -> Option<&'k Object>
-        ensures { option_and_then (λ o. object_in (shapes_of self.now.types.now) o.now) result
-            ≡ object_at self.now.types.now (label_in self.now.resolved.now name) }
+        ensures { option_and_then (λ o. object_view (shapes_of self.now.types.now) o.now) result
+            ≡ object_at self.now.types.now (label_at_token self.now.resolved.now name) }
     {
         let ordinal = self.resolved.ordinal_at(name)?;
         self.types.declarations().object(ordinal)
@@ -76,8 +76,8 @@ impl<'s, 'k, 't> Scene<'s, 'k, 't> {
 
     /// Returns the site of the declaration that a name refers to.
     fn site(&self, name: usize) -> Site
-        ensures { seen_from self.now.depth result
-            ≡ whereabouts self.now (label_in self.now.resolved.now name) }
+        ensures { place_seen_from self.now.depth result
+            ≡ binding_place self.now (label_at_token self.now.resolved.now name) }
     {
         match self.resolved.ordinal_at(name) {
             None => Site::Nowhere,
@@ -91,7 +91,7 @@ impl<'s, 'k, 't> Scene<'s, 'k, 't> {
     /// Returns the procedure that a name refers to, as seen from the body.
     pub fn target(&self, name: usize) -> CallTarget
         ensures { record { procedure = result.procedure; up = result.up }
-            ≡ target_at self.now (label_in self.now.resolved.now name) }
+            ≡ target_at self.now (label_at_token self.now.resolved.now name) }
     {
         match self.site(name) {
             Site::Procedure { depth, index } => CallTarget {
@@ -109,12 +109,12 @@ impl<'s, 'k, 't> Scene<'s, 'k, 't> {
     /// module's first cell.
     pub(crate) fn variable(&self, alloc: Global, name: usize) -> Result<Place, AllocError>
         ensures { IfOk result (λ p. place_of p
-            ≡ slot_place (slot_at self.now (label_in self.now.resolved.now name))) }
+            ≡ slot_place (slot_at self.now (label_at_token self.now.resolved.now name))) }
     {
         match self.site(name) {
             Site::Module(offset) => Ok(Place::Variable(Variable::Module(offset))),
             Site::Held { depth, offset } => {
-                Ok(held_place(self.depth.saturating_sub(depth), offset))
+                Ok(place_in_activation(self.depth.saturating_sub(depth), offset))
             }
             Site::ByReference { depth, index } => {
                 reference(alloc, self.depth.saturating_sub(depth), index, 0)
@@ -126,7 +126,7 @@ impl<'s, 'k, 't> Scene<'s, 'k, 't> {
 }
 
 /// Returns the place at an offset in the cells of the activation `up` levels out.
-fn held_place(up: usize, offset: usize) -> Place
+fn place_in_activation(up: usize, offset: usize) -> Place
     ensures { place_of result ≡ slot_place (slots.held up offset) }
 {
     if up == 0 {

@@ -7,14 +7,14 @@
 
 ghost use Rattle.std.specs.Prelude.{◌≡◌, ◌++◌, IfOk, OnOk, option_map, option_to_list};
 ghost use Rattle.ob0_tree.specs.View as view;
-ghost use Rattle.ob0_tree.specs.View.{body_of, if_of, sequence_in};
-ghost use Rattle.ob0_scope_table.specs.InLabels.{in_labels};
+ghost use Rattle.ob0_tree.specs.View.{body_of, if_of, sequence_of_vec};
+ghost use Rattle.ob0_scope_table.specs.LabelledTrees.{tree_with_labels};
 ghost use Rattle.ob0_run_machine.specs.View.{sequence_of, statement_of};
-ghost use Rattle.ob0_run_lowering.specs.LoweredBodies.{BodyLowers, CodeLowers, SequenceLowers, StatementLowers};
+ghost use Rattle.ob0_run_lowering.specs.LoweredBodies.{BodyLowers, OptionalStatementLowers, SequenceLowers, StatementLowers};
 
 use crate::Scene;
-use crate::assigning::assignment;
-use crate::calling::call;
+use crate::lowered_assignments::lower_assignment;
+use crate::lowered_calls::lower_call_statement;
 use ob0_run_machine::code;
 use ob0_tree::{If, Statement};
 use std::alloc::{AllocError, Global};
@@ -26,16 +26,19 @@ pub fn body(
     statements: &Option<Vec<Statement>>,
 ) -> Result<Vec<code::Instruction>, AllocError>
     ensures { IfOk result (λ made. BodyLowers scene.now (sequence_of made.items)
-        (in_labels scene.now.resolved.now (body_of statements.now))) }
+        (tree_with_labels scene.now.resolved.now (body_of statements.now))) }
 {
     match statements {
         None => Ok(Vec::new(alloc)),
-        Some(statements) => sequence(alloc, scene, statements),
+        Some(statements) => lower_sequence(alloc, scene, statements),
     }
 }
 
 /// Adds the code of a statement to a list. Does nothing if the statement has no code.
-fn add(made: &mut Vec<code::Instruction>, next: Option<code::Instruction>) -> Result<(), AllocError>
+fn push_if_any(
+    made: &mut Vec<code::Instruction>,
+    next: Option<code::Instruction>,
+) -> Result<(), AllocError>
     ensures { OnOk result (made.new.items ≡ made.old.items ++ option_to_list next) }
 {
     match next {
@@ -54,21 +57,21 @@ fn statement(
     scene: &Scene<'_, '_, '_>,
     s: &Statement,
 ) -> Result<Option<code::Instruction>, AllocError>
-    ensures { IfOk result (λ made. CodeLowers scene.now (option_map statement_of made)
-        (in_labels scene.now.resolved.now (view.statement_of s.now))) }
+    ensures { IfOk result (λ made. OptionalStatementLowers scene.now (option_map statement_of made)
+        (tree_with_labels scene.now.resolved.now (view.statement_of s.now))) }
 {
     match s {
         Statement::Empty => Ok(None),
-        Statement::Assign(a) => Ok(Some(assignment(alloc, scene, a)?)),
-        Statement::Call(c) => Ok(Some(call(alloc, scene, c)?)),
+        Statement::Assign(a) => Ok(Some(lower_assignment(alloc, scene, a)?)),
+        Statement::Call(c) => Ok(Some(lower_call_statement(alloc, scene, c)?)),
         Statement::If(i) => Ok(Some(branches(alloc, scene, i)?)),
         Statement::While(w) => {
             let condition = scene.truth(alloc, &w.condition)?;
-            let body = sequence(alloc, scene, &w.body)?;
+            let body = lower_sequence(alloc, scene, &w.body)?;
             Ok(Some(code::Instruction::While(code::WhileLoop { condition, body })))
         }
         Statement::Repeat(r) => {
-            let body = sequence(alloc, scene, &r.body)?;
+            let body = lower_sequence(alloc, scene, &r.body)?;
             let condition = scene.truth(alloc, &r.condition)?;
             Ok(Some(code::Instruction::Repeat(code::RepeatLoop { body, condition })))
         }
@@ -77,18 +80,18 @@ fn statement(
 
 /// Returns the code of statements, in order.
 #[cycle(statements)]
-fn sequence(
+fn lower_sequence(
     alloc: Global,
     scene: &Scene<'_, '_, '_>,
     statements: &Vec<Statement>,
 ) -> Result<Vec<code::Instruction>, AllocError>
     ensures { IfOk result (λ made. SequenceLowers scene.now (sequence_of made.items)
-        (in_labels scene.now.resolved.now (sequence_in statements.now))) }
+        (tree_with_labels scene.now.resolved.now (sequence_of_vec statements.now))) }
 {
     let mut made = Vec::new(alloc);
     for s in statements {
         let next = statement(alloc, scene, s)?;
-        add(&mut made, next)?;
+        push_if_any(&mut made, next)?;
     }
     Ok(made)
 }
@@ -101,14 +104,14 @@ fn branches(
     i: &If,
 ) -> Result<code::Instruction, AllocError>
     ensures { IfOk result (λ made. StatementLowers scene.now (statement_of made)
-        (in_labels scene.now.resolved.now (if_of i.now))) }
+        (tree_with_labels scene.now.resolved.now (if_of i.now))) }
 {
     let first = scene.truth(alloc, &i.condition)?;
-    let then = sequence(alloc, scene, &i.then)?;
+    let then = lower_sequence(alloc, scene, &i.then)?;
     let mut others = Vec::new(alloc);
     for part in &i.elsifs {
         let condition = scene.truth(alloc, &part.condition)?;
-        let body = sequence(alloc, scene, &part.then)?;
+        let body = lower_sequence(alloc, scene, &part.then)?;
         others.push(code::Branch { condition, body })?;
     }
     match &i.otherwise {
@@ -119,7 +122,7 @@ fn branches(
             otherwise: Vec::new(alloc),
         })),
         Some(statements) => {
-            let otherwise = sequence(alloc, scene, statements)?;
+            let otherwise = lower_sequence(alloc, scene, statements)?;
             Ok(code::Instruction::If(code::Conditional {
                 condition: first,
                 body: then,

@@ -1,7 +1,7 @@
 //! The types of a module, with their numbers of cells and the offsets of fields.
 //!
 //! Sizes and offsets are computed once. The layout of each entry of the checker's table results
-//! from the layouts before it, in the order of `shapes_from` (`LayOut`). So the offset of a field
+//! from the layouts before it, in the order of `extended_shapes` (`HaveLayouts`). So the offset of a field
 //! is a look-up by its place in the record.
 
 ghost use Rattle.std.specs.Prelude.{◌≡◌, ◌≤◌, ◌+◌, ◌*◌, ◌^◌, ℕ, IfOk, List, MatchResult, slice_index_or};
@@ -9,11 +9,11 @@ ghost use Rattle.ob0_run_cells.specs.Cells.{field_offset, size, step_offset};
 ghost use Rattle.ob0_language_names.specs.Names.{Name};
 ghost use Rattle.ob0_types_table.specs.FieldPlaces.{field_selected};
 ghost use Rattle.ob0_types_table.specs.KnownTables.{shapes_of};
-ghost use Rattle.ob0_types_table.specs.Tables.{fields_shape, made_shape, no_shape, only_array, only_record, type_shape};
+ghost use Rattle.ob0_types_table.specs.Tables.{field_shapes, entry_shape, faulty_shape, array_or_faulty, record_or_faulty, type_shape};
 ghost use Rattle.ob0_language_values.specs.Values as values;
-ghost use Rattle.ob0_run_lowering.specs.Layouts.{AreLaidOut, LayOut, HasLayout, RecordAt};
+ghost use Rattle.ob0_run_lowering.specs.Layouts.{AreLaidOut, HaveLayouts, HasLayout, IsLayoutOfRecord};
 
-use ob0_types_table::{DeclarationTable, Field, FieldOf, TypeEntry, TypeId};
+use ob0_types_table::{DeclarationTable, Field, FieldId, TypeEntry, TypeId};
 use std::alloc::{AllocError, Global};
 use std::marker::Model;
 
@@ -33,14 +33,14 @@ enum Layout {
 
 /// The table of a module's declarations, with the layouts of its types.
 #[derive(Drop)]
-pub struct Types<'k> {
+pub struct TypeLayouts<'k> {
     known: &'k DeclarationTable,
     layouts: Vec<Layout>,
 }
 
 /// Returns the sum of two numbers of cells. Fails exactly if the sum has more than 64 bits: no
 /// allocation is that large.
-fn plus(cells: usize, more: usize) -> Result<usize, AllocError>
+fn cell_sum(cells: usize, more: usize) -> Result<usize, AllocError>
     ensures { MatchResult result (λ n. n ≡ cells + more) (λ _. 2 ^ 64 ≤ cells + more) }
 {
     match cells.checked_add(more) {
@@ -50,7 +50,7 @@ fn plus(cells: usize, more: usize) -> Result<usize, AllocError>
 }
 
 /// Returns the product of a count and a number of cells. Fails exactly if it has more than 64 bits.
-fn times(count: usize, cells: usize) -> Result<usize, AllocError>
+fn cell_product(count: usize, cells: usize) -> Result<usize, AllocError>
     ensures { MatchResult result (λ n. n ≡ count * cells) (λ _. 2 ^ 64 ≤ count * cells) }
 {
     match count.checked_mul(cells) {
@@ -63,8 +63,8 @@ fn times(count: usize, cells: usize) -> Result<usize, AllocError>
 /// array type at this place.
 fn array_cells(layouts: &[Layout], place: usize) -> usize
     ensures { (shapes : List values.Shape)
-        → LayOut shapes layouts.now
-        → result ≡ size (only_array (slice_index_or shapes place no_shape)) }
+        → HaveLayouts shapes layouts.now
+        → result ≡ size (array_or_faulty (slice_index_or shapes place faulty_shape)) }
 {
     match layouts.get(place) {
         None => 0,
@@ -79,8 +79,8 @@ fn array_cells(layouts: &[Layout], place: usize) -> usize
 /// record type at this place.
 fn record_at(layouts: &[Layout], place: usize) -> Option<&RecordLayout>
     ensures { (shapes : List values.Shape)
-        → LayOut shapes layouts.now
-        → RecordAt result (only_record (slice_index_or shapes place no_shape)) }
+        → HaveLayouts shapes layouts.now
+        → IsLayoutOfRecord result (record_or_faulty (slice_index_or shapes place faulty_shape)) }
 {
     match layouts.get(place) {
         None => None,
@@ -93,8 +93,8 @@ fn record_at(layouts: &[Layout], place: usize) -> Option<&RecordLayout>
 
 fn record_cells(layouts: &[Layout], place: usize) -> usize
     ensures { (shapes : List values.Shape)
-        → LayOut shapes layouts.now
-        → result ≡ size (only_record (slice_index_or shapes place no_shape)) }
+        → HaveLayouts shapes layouts.now
+        → result ≡ size (record_or_faulty (slice_index_or shapes place faulty_shape)) }
 {
     match record_at(layouts, place) {
         None => 0,
@@ -105,7 +105,7 @@ fn record_cells(layouts: &[Layout], place: usize) -> usize
 /// Returns the number of cells of a type, according to the layouts so far.
 fn size_in(layouts: &[Layout], of: TypeId) -> usize
     ensures { (shapes : List values.Shape)
-        → LayOut shapes layouts.now
+        → HaveLayouts shapes layouts.now
         → result ≡ size (type_shape shapes of) }
 {
     match of {
@@ -124,27 +124,27 @@ fn lay_out_record(
     fields: &[Field],
 ) -> Result<RecordLayout, AllocError>
     ensures { (shapes : List values.Shape)
-        → LayOut shapes layouts.now
-        → IfOk result (AreLaidOut (fields_shape shapes fields.now)) }
+        → HaveLayouts shapes layouts.now
+        → IfOk result (AreLaidOut (field_shapes shapes fields.now)) }
 {
     let mut offsets = Vec::new(alloc);
     let mut cells = 0;
     for field in fields {
         offsets.push(cells)?;
-        cells = plus(cells, size_in(layouts, field.of))?;
+        cells = cell_sum(cells, size_in(layouts, field.of))?;
     }
     Ok(RecordLayout { cells, offsets })
 }
 
 /// Returns the layout of an entry of the table, according to the layouts before it.
-fn entry(alloc: Global, layouts: &[Layout], shape: &TypeEntry) -> Result<Layout, AllocError>
+fn entry_layout(alloc: Global, layouts: &[Layout], shape: &TypeEntry) -> Result<Layout, AllocError>
     ensures { (shapes : List values.Shape)
-        → LayOut shapes layouts.now
-        → IfOk result (HasLayout (made_shape shapes shape.now)) }
+        → HaveLayouts shapes layouts.now
+        → IfOk result (HasLayout (entry_shape shapes shape.now)) }
 {
     match shape {
         TypeEntry::Array(array) => {
-            let cells = times(array.length, size_in(layouts, array.element))?;
+            let cells = cell_product(array.length, size_in(layouts, array.element))?;
             Ok(Layout::Array(cells))
         }
         TypeEntry::Record(record) => {
@@ -154,18 +154,18 @@ fn entry(alloc: Global, layouts: &[Layout], shape: &TypeEntry) -> Result<Layout,
     }
 }
 
-impl<'k> Model for Types<'k> {
+impl<'k> Model for TypeLayouts<'k> {
     ghost use Rattle.ob0_types_table.specs.KnownTables.{Tables, shapes_of};
-    ghost use Rattle.ob0_run_lowering.specs.Layouts.{LayOut};
+    ghost use Rattle.ob0_run_lowering.specs.Layouts.{HaveLayouts};
 
     ghost Value = { Tables };
 
     ghost view = { λ t. t.known.now };
 
-    ghost invariant = { λ t. LayOut (shapes_of t.known.now) t.layouts.items };
+    ghost invariant = { λ t. HaveLayouts (shapes_of t.known.now) t.layouts.items };
 }
 
-impl<'k> Types<'k> {
+impl<'k> TypeLayouts<'k> {
     ghost use Rattle.ob0_types_table.specs.KnownTables.{shapes_of};
     ghost use Rattle.ob0_language_values.specs.Values.{at_field};
 
@@ -174,11 +174,11 @@ impl<'k> Types<'k> {
     /// # Errors
     ///
     /// An allocation failed, or a size has more than 64 bits.
-    pub fn new(alloc: Global, known: &'k DeclarationTable) -> Result<Types<'k>, AllocError>
+    pub fn new(alloc: Global, known: &'k DeclarationTable) -> Result<TypeLayouts<'k>, AllocError>
         ensures { IfOk result (λ t. t ≡ known.now) }
     {
-        let layouts = lay_out_all(alloc, known)?;
-        Ok(Types { known, layouts })
+        let layouts = lay_out_types(alloc, known)?;
+        Ok(TypeLayouts { known, layouts })
     }
 
     /// Returns the table of the module's declarations.
@@ -200,7 +200,7 @@ impl<'k> Types<'k> {
     pub fn offset(&self, of: TypeId, name: &str) -> usize
         ensures { result ≡ step_offset (type_shape (shapes_of self.now) of) (at_field name.now) }
     {
-        offset_in(self.known, self.layouts.as_slice(), of, name)
+        named_field_offset(self.known, self.layouts.as_slice(), of, name)
     }
 }
 
@@ -214,7 +214,7 @@ fn offset_at(offsets: &[usize], index: usize) -> usize
 }
 
 /// Returns the offset of a field of a record, or the size of the record for None.
-fn record_offset(laid: &RecordLayout, field: Option<FieldOf>) -> usize
+fn offset_of_field(laid: &RecordLayout, field: Option<FieldId>) -> usize
     ensures { (k : ℕ) (fs : values.FieldShapes) (x : Name)
         → AreLaidOut fs laid.now
         → field ≡ field_selected (values.record_shape k fs) x
@@ -226,14 +226,14 @@ fn record_offset(laid: &RecordLayout, field: Option<FieldOf>) -> usize
     }
 }
 
-fn offset_in(known: &DeclarationTable, layouts: &[Layout], of: TypeId, name: &str) -> usize
-    ensures { LayOut (shapes_of known.now) layouts.now
+fn named_field_offset(known: &DeclarationTable, layouts: &[Layout], of: TypeId, name: &str) -> usize
+    ensures { HaveLayouts (shapes_of known.now) layouts.now
         → result ≡ step_offset (type_shape (shapes_of known.now) of) (values.at_field name.now) }
 {
     match of {
         TypeId::Record(place) => match record_at(layouts, place) {
             None => 0,
-            Some(record) => record_offset(record, known.field(of, name)),
+            Some(record) => offset_of_field(record, known.field(of, name)),
         },
         TypeId::Integer => 0,
         TypeId::Boolean => 0,
@@ -244,12 +244,12 @@ fn offset_in(known: &DeclarationTable, layouts: &[Layout], of: TypeId, name: &st
 
 /// Returns the layouts of all types of the table, in its order. Each results from the layouts
 /// before it.
-fn lay_out_all(alloc: Global, known: &DeclarationTable) -> Result<Vec<Layout>, AllocError>
-    ensures { IfOk result (λ layouts. LayOut (shapes_of known.now) layouts.items) }
+fn lay_out_types(alloc: Global, known: &DeclarationTable) -> Result<Vec<Layout>, AllocError>
+    ensures { IfOk result (λ layouts. HaveLayouts (shapes_of known.now) layouts.items) }
 {
     let mut layouts = Vec::new(alloc);
     for shape in known.shapes() {
-        let next = entry(alloc, layouts.as_slice(), shape)?;
+        let next = entry_layout(alloc, layouts.as_slice(), shape)?;
         layouts.push(next)?;
     }
     Ok(layouts)

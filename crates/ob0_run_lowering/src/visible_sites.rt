@@ -9,12 +9,12 @@ ghost use Rattle.ob0_run_lowering.specs.Placed.{IsNextSite};
 
 use crate::Site;
 use crate::contexts::LoweringContext;
-use ob0_tree::{Names as NameList, Section, Variables};
+use ob0_tree::{Names as NameList, ParameterSection, VariableDeclaration};
 use std::alloc::{AllocError, Global};
 
 /// A site that a binding has hidden: an ordinal, and its site before the binding.
 #[derive(Drop, Clone, Copy)]
-pub(crate) struct Hidden {
+pub(crate) struct HiddenSite {
     pub(crate) ordinal: usize,
     pub(crate) before: Site,
 }
@@ -24,7 +24,7 @@ pub(crate) struct Hidden {
 #[derive(Drop)]
 pub(crate) struct VisibleSites {
     pub(crate) sites: Vec<Site>,
-    pub(crate) hidden: Vec<Hidden>,
+    pub(crate) hidden: Vec<HiddenSite>,
 }
 
 /// The activation of a block, as far as its names are placed: its depth, which is 0 for the module,
@@ -52,7 +52,7 @@ fn next_site(frame: Frame) -> Site
 
 impl Frame {
     /// Returns the frame with `size` more cells, or None if their number has more than 64 bits.
-    fn with(self, size: usize) -> Option<Frame>
+    fn with_more_cells(self, size: usize) -> Option<Frame>
         ensures { MatchOption result (2 ^ 64 ≤ self.cells + size)
             (λ f. f ≡ record self { cells = self.cells + size }) }
     {
@@ -68,10 +68,10 @@ impl Frame {
 impl VisibleSites {
     ghost use Rattle.std.specs.Prelude.{[], Some};
     ghost use Rattle.ob0_tree.specs.View.{formals_of, items_of, further_section_of, names_of, variable_of, variables_of};
-    ghost use Rattle.ob0_language_names.specs.Parts.{formal_sections, names_listed, section_variables};
-    ghost use Rattle.ob0_scope_table.specs.InLabels.{in_labels, label_in};
-    ghost use Rattle.ob0_run_cells.specs.Activations.{place_one};
-    ghost use Rattle.ob0_run_lowering.specs.Placed.{Follows, IsRestored, Places, declared_size, place_each, put_at, slots_at};
+    ghost use Rattle.ob0_language_names.specs.Parts.{formal_sections, names_in_list, section_variables};
+    ghost use Rattle.ob0_scope_table.specs.LabelledTrees.{tree_with_labels, label_at_token};
+    ghost use Rattle.ob0_run_cells.specs.Activations.{place_name};
+    ghost use Rattle.ob0_run_lowering.specs.Placed.{Follows, IsRestored, Places, declared_size, place_each, sites_with_binding, variable_slot};
     ghost use Rattle.ob0_run_lowering.specs.Placed as placed;
     ghost use Rattle.ob0_types_table.specs.Tables.{mode_of};
 
@@ -86,7 +86,7 @@ impl VisibleSites {
     }
 
     /// Extends the list of sites until it has an entry for an ordinal. New entries are `Nowhere`.
-    fn reach(&mut self, ordinal: usize) -> Result<(), AllocError>
+    fn make_room_for(&mut self, ordinal: usize) -> Result<(), AllocError>
         ensures same { OnOk result
             ((k : ℕ) → site_at self.new.sites.items k ≡ site_at self.old.sites.items k) }
         ensures hidden { OnOk result (self.new.hidden.items ≡ self.old.hidden.items) }
@@ -100,7 +100,7 @@ impl VisibleSites {
     }
 
     /// Sets the site of an ordinal. Does nothing if the list is too short for it.
-    fn put(&mut self, ordinal: usize, site: Site)
+    fn set_site(&mut self, ordinal: usize, site: Site)
         ensures sites { self.new.sites.items ≡ slice_set self.old.sites.items ordinal site }
         ensures hidden { self.new.hidden.items ≡ self.old.hidden.items }
     {
@@ -110,7 +110,7 @@ impl VisibleSites {
     }
 
     /// Returns the site of an ordinal, or `Nowhere` if the list is too short for it.
-    fn at(&self, ordinal: usize) -> Site
+    fn site_of_ordinal(&self, ordinal: usize) -> Site
         ensures { result ≡ site_at self.now.sites.items ordinal }
     {
         match self.sites.get(ordinal) {
@@ -123,13 +123,13 @@ impl VisibleSites {
     fn bind_ordinal(&mut self, ordinal: usize, site: Site) -> Result<(), AllocError>
         ensures sites { OnOk result ((k : ℕ)
             → site_at self.new.sites.items k
-            ≡ put_at (Some ordinal) site (site_at self.old.sites.items) k) }
+            ≡ sites_with_binding (Some ordinal) site (site_at self.old.sites.items) k) }
         ensures follows { OnOk result (Follows self.old self.new) }
     {
-        self.reach(ordinal)?;
-        let before = self.at(ordinal);
-        self.hidden.push(Hidden { ordinal, before })?;
-        self.put(ordinal, site);
+        self.make_room_for(ordinal)?;
+        let before = self.site_of_ordinal(ordinal);
+        self.hidden.push(HiddenSite { ordinal, before })?;
+        self.set_site(ordinal, site);
         Ok(())
     }
 
@@ -137,7 +137,7 @@ impl VisibleSites {
     pub(crate) fn bind(&mut self, ordinal: Option<usize>, site: Site) -> Result<(), AllocError>
         ensures sites { OnOk result ((k : ℕ)
             → site_at self.new.sites.items k
-            ≡ put_at ordinal site (site_at self.old.sites.items) k) }
+            ≡ sites_with_binding ordinal site (site_at self.old.sites.items) k) }
         ensures follows { OnOk result (Follows self.old self.new) }
     {
         match ordinal {
@@ -146,24 +146,24 @@ impl VisibleSites {
         }
     }
 
-    /// Returns the number of hidden sites. Later `back_to` restores the sites hidden after them.
-    pub(crate) fn mark(&self) -> usize
+    /// Returns the number of hidden sites. Later `restore_hidden` restores the sites hidden after them.
+    pub(crate) fn hidden_count(&self) -> usize
         ensures { result ≡ length self.now.hidden.items }
     {
         self.hidden.len()
     }
 
-    /// Restores the sites that were hidden after the first `mark` ones, the latest first.
-    pub(crate) fn back_to(&mut self, mark: usize)
+    /// Restores the sites that were hidden after the first `hidden_count` ones, the latest first.
+    pub(crate) fn restore_hidden(&mut self, hidden_count: usize)
         ensures { (w : VisibleSites)
             → Follows w self.old
-            → mark ≡ length w.hidden.items
+            → hidden_count ≡ length w.hidden.items
             → IsRestored w self.old self.new }
     {
-        while self.hidden.len() > mark {
+        while self.hidden.len() > hidden_count {
             match self.hidden.pop() {
                 None => break,
-                Some(last) => self.put(last.ordinal, last.before),
+                Some(last) => self.set_site(last.ordinal, last.before),
             }
         }
     }
@@ -177,9 +177,9 @@ impl VisibleSites {
         by_place: bool,
         name: usize,
     ) -> Result<Frame, AllocError>
-        ensures { IfOk result (Places self.old self.new frame (place_one (slots_at frame.depth)
-            (mode_of by_place) (label_in context.now.resolved.now name)
-            (declared_size context.now.types.now (label_in context.now.resolved.now name)))) }
+        ensures { IfOk result (Places self.old self.new frame (place_name (variable_slot frame.depth)
+            (mode_of by_place) (label_at_token context.now.resolved.now name)
+            (declared_size context.now.types.now (label_at_token context.now.resolved.now name)))) }
     {
         let ordinal = context.resolved.ordinal_at(name);
         if by_place {
@@ -197,7 +197,7 @@ impl VisibleSites {
                 references,
             });
         }
-        let Some(next) = frame.with(context.size(name)) else {
+        let Some(next) = frame.with_more_cells(context.size(name)) else {
             return Err(AllocError);
         };
         self.bind(ordinal, next_site(frame))?;
@@ -212,9 +212,9 @@ impl VisibleSites {
         by_place: bool,
         names: &NameList,
     ) -> Result<Frame, AllocError>
-        ensures { IfOk result (Places self.old self.new frame (place_each (slots_at frame.depth)
+        ensures { IfOk result (Places self.old self.new frame (place_each (variable_slot frame.depth)
             (declared_size context.now.types.now) (mode_of by_place)
-            (names_listed (in_labels context.now.resolved.now (names_of names.now))))) }
+            (names_in_list (tree_with_labels context.now.resolved.now (names_of names.now))))) }
     {
         let mut now = self.place(context, frame, by_place, names.first)?;
         for name in &names.more {
@@ -227,11 +227,11 @@ impl VisibleSites {
         &mut self,
         context: &LoweringContext<'_, '_, '_>,
         frame: Frame,
-        groups: &[Variables],
+        groups: &[VariableDeclaration],
     ) -> Result<Frame, AllocError>
         ensures { IfOk result (Places self.old self.new frame (placed.place_groups
-            (slots_at frame.depth) (declared_size context.now.types.now)
-            (in_labels context.now.resolved.now (items_of variable_of groups.now)))) }
+            (variable_slot frame.depth) (declared_size context.now.types.now)
+            (tree_with_labels context.now.resolved.now (items_of variable_of groups.now)))) }
     {
         let mut now = frame;
         for group in groups {
@@ -245,11 +245,11 @@ impl VisibleSites {
         &mut self,
         context: &LoweringContext<'_, '_, '_>,
         frame: Frame,
-        section: &Option<Vec<Variables>>,
+        section: &Option<Vec<VariableDeclaration>>,
     ) -> Result<Frame, AllocError>
         ensures { IfOk result (Places self.old self.new frame (placed.place_groups
-            (slots_at frame.depth) (declared_size context.now.types.now)
-            (section_variables (in_labels context.now.resolved.now (variables_of section.now))))) }
+            (variable_slot frame.depth) (declared_size context.now.types.now)
+            (section_variables (tree_with_labels context.now.resolved.now (variables_of section.now))))) }
     {
         match section {
             None => self.place_groups(context, frame, &[]),
@@ -261,11 +261,11 @@ impl VisibleSites {
         &mut self,
         context: &LoweringContext<'_, '_, '_>,
         frame: Frame,
-        sections: &[Section],
+        sections: &[ParameterSection],
     ) -> Result<Frame, AllocError>
         ensures { IfOk result (Places self.old self.new frame (placed.place_sections
-            (slots_at frame.depth) (declared_size context.now.types.now)
-            (in_labels context.now.resolved.now (items_of further_section_of sections.now)))) }
+            (variable_slot frame.depth) (declared_size context.now.types.now)
+            (tree_with_labels context.now.resolved.now (items_of further_section_of sections.now)))) }
     {
         let mut now = frame;
         for section in sections {
@@ -275,15 +275,15 @@ impl VisibleSites {
     }
 
     /// Places the parameters of a procedure, one after the other.
-    pub(crate) fn parameters(
+    pub(crate) fn place_formals(
         &mut self,
         context: &LoweringContext<'_, '_, '_>,
         frame: Frame,
-        formals: &Option<Vec<Section>>,
+        formals: &Option<Vec<ParameterSection>>,
     ) -> Result<Frame, AllocError>
         ensures { IfOk result (Places self.old self.new frame (placed.place_sections
-            (slots_at frame.depth) (declared_size context.now.types.now)
-            (formal_sections (in_labels context.now.resolved.now (formals_of formals.now))))) }
+            (variable_slot frame.depth) (declared_size context.now.types.now)
+            (formal_sections (tree_with_labels context.now.resolved.now (formals_of formals.now))))) }
     {
         match formals {
             None => self.place_sections(context, frame, &[]),

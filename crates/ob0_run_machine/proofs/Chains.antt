@@ -9,8 +9,8 @@ use Rattle.ob0_run_machine.specs.declared.code.Number.{Chain, Row_of-Link, end_o
 use Rattle.ob0_run_machine.specs.declared.code.FirstOperand.TheBlock.{hidden-the_row-Link-0}
 use Rattle.ob0_run_machine.specs.Evaluation.{Levels, StepResult, ends, gives, number, ◌>>=◌}
 use Rattle.ob0_run_machine.specs.Lowered as lowered
-use Rattle.ob0_run_machine.specs.Answers.{linked}
-use Rattle.ob0_run_machine.specs.View.{applied, chained_by, chained_from, chained_in, first_of, number_of, variable_of}
+use Rattle.ob0_run_machine.specs.Answers.{link_outcome}
+use Rattle.ob0_run_machine.specs.View.{applied, chain_by_row, chain_on_operand, chain_of, first_of, number_of, variable_of}
 
 pub bind_gives : {A : Type 0} (o : StepResult A) → (o >>= (λ a. gives a)) ≡ o
 bind_gives (gives a) = refl
@@ -23,7 +23,7 @@ bind_assoc (ends e) f g = refl
 -- what a number becomes by the operations that are left
 abbrev pub continued : Levels → List ℤ → List Link → ℤ → StepResult ℤ
 continued ls cells [] a = gives a
-continued ls cells (l ∷ rest) a = linked ls cells l a >>= continued ls cells rest
+continued ls cells (l ∷ rest) a = link_outcome ls cells l a >>= continued ls cells rest
 
 -- a variable is there, so an operation between it and a number ends as the number does
 after_variable : (ls : Levels) (cells : List ℤ) (o : lowered.Operator) (v : Variable) (right : lowered.Number)
@@ -32,32 +32,32 @@ after_variable ls cells o (variable.Module offset) right = refl
 after_variable ls cells o _ right = refl
 
 -- an operation on a number is that on its value
-pub applied_to : (ls : Levels) (cells : List ℤ) (left : lowered.Number) (l : Link) → number ls cells (applied l left) ≡ (number ls cells left >>= linked ls cells l)
+pub applied_to : (ls : Levels) (cells : List ℤ) (left : lowered.Number) (l : Link) → number ls cells (applied l left) ≡ (number ls cells left >>= link_outcome ls cells l)
 applied_to ls cells left (link.VariableSum v) = after_variable ls cells lowered.sum v left
 applied_to ls cells left (link.VariableDifference v) = after_variable ls cells lowered.difference v left
 applied_to ls cells left (link.VariableProduct v) = after_variable ls cells lowered.product v left
 applied_to ls cells left _ = refl
 
-pub chained : (ls : Levels) (cells : List ℤ) (left : lowered.Number) (links : List Link) → number ls cells (chained_from left links) ≡ (number ls cells left >>= continued ls cells links)
+pub chained : (ls : Levels) (cells : List ℤ) (left : lowered.Number) (links : List Link) → number ls cells (chain_on_operand left links) ≡ (number ls cells left >>= continued ls cells links)
 chained ls cells left [] = sym (bind_gives (number ls cells left))
 chained ls cells left (l ∷ rest) = chained ls cells (applied l left) rest
     ∙ ap (λ o. o >>= continued ls cells rest) (applied_to ls cells left l)
-    ∙ bind_assoc (number ls cells left) (linked ls cells l) (continued ls cells rest)
+    ∙ bind_assoc (number ls cells left) (link_outcome ls cells l) (continued ls cells rest)
 
 -- what was operated so far, with what is left, is the whole
 pub record Continuing (ls : Levels) (cells : List ℤ) (whole : StepResult ℤ) (links : List Link) (done : ℕ) (left : ℤ) : Type 0 where
   pub so_far : whole ≡ continued ls cells (drop done links) left
 
-pub chain_fails : (ls : Levels) (cells : List ℤ) (first : lowered.Number) (links : List Link) (o : StepResult ℤ) → o ≡ number ls cells first → (o >>= continued ls cells links) ≡ number ls cells (chained_from first links)
+pub chain_fails : (ls : Levels) (cells : List ℤ) (first : lowered.Number) (links : List Link) (o : StepResult ℤ) → o ≡ number ls cells first → (o >>= continued ls cells links) ≡ number ls cells (chain_on_operand first links)
 chain_fails ls cells first links o h = ap (λ o. o >>= continued ls cells links) h ∙ sym (chained ls cells first links)
 
-pub chain_begins : (ls : Levels) (cells : List ℤ) (first : lowered.Number) (links : List Link) (a : ℤ) → gives a ≡ number ls cells first → Continuing ls cells (number ls cells (chained_from first links)) links 0 a
+pub chain_begins : (ls : Levels) (cells : List ℤ) (first : lowered.Number) (links : List Link) (a : ℤ) → gives a ≡ number ls cells first → Continuing ls cells (number ls cells (chain_on_operand first links)) links 0 a
 chain_begins ls cells first links a h = record { so_far = sym (chain_fails ls cells first links (gives a) h) }
 
-chained_listed : (n : _) (row : Row_of-Link n) (left : lowered.Number) → chained_by row left ≡ chained_from left (items-the_row-Link n row)
+chained_listed : (n : _) (row : Row_of-Link n) (left : lowered.Number) → chain_by_row row left ≡ chain_on_operand left (items-the_row-Link n row)
 chained_listed _ end_of-Link left = refl
 chained_listed _ (more_of-Link l row) left = chained_listed _ row (applied l left)
 
-pub chain_made : (c : _) → number_of (Chain c) ≡ chained_in c.value
+pub chain_made : (c : _) → number_of (Chain c) ≡ chain_of c.value
 chain_made c = chained_listed _ (hidden-the_row-Link-0 (out-Chain c.value).rest) (first_of (out-Chain c.value).first)
-    ∙ ap (chained_from (first_of (out-Chain c.value).first)) (items_hidden-the_row-Link-0 (out-Chain c.value).rest)
+    ∙ ap (chain_on_operand (first_of (out-Chain c.value).first)) (items_hidden-the_row-Link-0 (out-Chain c.value).rest)

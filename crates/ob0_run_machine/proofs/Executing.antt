@@ -3,44 +3,44 @@ use Rattle.std.proofs.Common.{◌≡◌, ℕ, zero, suc, arith, Bool, true, fals
 use Rattle.std.proofs.lemmas.List.{drop_all, drop_more}
 use Rattle.ob0_run_machine.specs.declared.code.Argument.{Argument}
 use Rattle.ob0_run_machine.specs.declared.level.Level as level
-use Rattle.ob0_run_machine.specs.Levels.{levels_after, levels_of, levels_seen}
+use Rattle.ob0_run_machine.specs.Levels.{levels_after, levels_of, levels_of_option}
 use Rattle.ob0_run_machine.specs.declared.code.Branch.{Branch}
 use Rattle.ob0_run_machine.specs.declared.code.ProcedureCall as call
 use Rattle.ob0_run_machine.specs.declared.code.Conditional.{Conditional, out-Conditional}
 use Rattle.ob0_run_machine.specs.declared.code.RepeatLoop.{RepeatLoop}
 use Rattle.ob0_run_machine.specs.declared.code.Instruction.{Increase, Instruction}
-use Rattle.ob0_run_machine.specs.declared.ending.Ending.{Ending}
+use Rattle.ob0_run_machine.specs.declared.ending.EvaluationFault.{EvaluationFault}
 use Rattle.ob0_run_machine.specs.declared.ending.Stop.{Stop}
 use Rattle.ob0_run_machine.specs.declared.ending.Stop.TheVariants as stop
 use Rattle.ob0_run_machine.specs.declared.machine.Machine.{Machine}
 use Rattle.ob0_run_machine.specs.declared.memory.Memory.{Memory}
 use Rattle.ob0_run_machine.specs.Allocations.{has_failed}
-use Rattle.ob0_run_machine.specs.Answers.{end_at, end_of}
+use Rattle.ob0_run_machine.specs.Answers.{end_of_stop, end_of}
 use Rattle.ob0_run_machine.specs.declared.code.Variable.{Variable}
 use Rattle.ob0_run_machine.specs.declared.code.Comparator.TheVariants as relation
 use Rattle.ob0_run_machine.specs.Evaluation.{Halt, Levels, StepResult, TurnBound, address, cell_at, compare, ends, gives, truth, ◌>>=◌}
-use Rattle.ob0_run_machine.specs.Execution.{CallEffect, Passed, MachineProgress, MachineState, choose, entered, execute, execute_all, execute_branches, continue_with, no_room, pass_all, running, stopped, turns, turns_until, use_in}
+use Rattle.ob0_run_machine.specs.Execution.{CallEffect, CallArguments, MachineProgress, MachineState, choose, levels_in_call, execute, execute_all, execute_branches, continue_with, no_room, pass_all, running, stopped, execute_while, execute_repeat, use_result}
 use Rattle.ob0_run_machine.specs.Lowered as lowered
-use Rattle.ob0_run_machine.specs.Machines.{MachineDoes, Doing, Performs, Post, MachineSteps, StopsRun, StopsPassing, executed, executed_all, executed_others, entering, items_out, passed_in, state_of}
-use Rattle.ob0_run_machine.specs.View.{all_branches, argument_of, branches_in, call_of, compared_by, increases, others_in, otherwise_in, repeat_of, sequence_of, statement_of, truth_of, variable_of}
+use Rattle.ob0_run_machine.specs.Machines.{MachineDoes, CodeEffect, PerformsCalls, CallPostcondition, MachineSteps, StopsRun, StopsPassing, statement_effect, sequence_effect, elsifs_effect, entry_effect, output_items, passed_arguments, state_of}
+use Rattle.ob0_run_machine.specs.View.{all_branches, argument_of, conditional_of, call_of, variable_relation, variable_increase, elsif_branches, else_statements, repeat_of, sequence_of, statement_of, truth_of, variable_of}
 
 stopped_then : (o : Option Halt) (m : Machine) (p : MachineProgress) (k : MachineState → MachineProgress) → StopsRun o m p → StopsRun o m (continue_with p k)
 stopped_then (Some x) m p k h = ap (λ p. continue_with p k) h
 stopped_then None m p k h = h
 
 failed_then : (e : Stop) (m : Machine) (p : MachineProgress) (k : MachineState → MachineProgress) → MachineSteps (Err e) m p → MachineSteps (Err e) m (continue_with p k)
-failed_then e = stopped_then (end_at e)
+failed_then e = stopped_then (end_of_stop e)
 
 -- the exit of a `?`
-pub leaving : {post : Post} {r : Result (Unit {0}) Stop} {e : Stop} {m m' : Machine} {f : Doing} → (y : Stop) × (r ≡ Err y) × (y ≡ e) → MachineDoes post (Err e) m m' f → MachineDoes post r m m' f
+pub leaving : {post : CallPostcondition} {r : Result (Unit {0}) Stop} {e : Stop} {m m' : Machine} {f : CodeEffect} → (y : Stop) × (r ≡ Err y) × (y ≡ e) → MachineDoes post (Err e) m m' f → MachineDoes post r m m' f
 leaving {post = post} {r = r} {m = m} {m' = m'} {f = f} q h = subst (λ r. MachineDoes post r m m' f) (sym q.1) (subst (λ y. MachineDoes post (Err y) m m' f) (sym q.2) h)
 
 -- what is done ends the run so
-abbrev pub EndsRun : Post → Ending → Machine → Machine → Doing → Type 0
-EndsRun post e m m' f = (enters : CallEffect) → Performs post enters → f enters (state_of m) ≡ stopped (end_of e) (items_out m'.output.items)
+abbrev pub EndsRun : CallPostcondition → EvaluationFault → Machine → Machine → CodeEffect → Type 0
+EndsRun post e m m' f = (enters : CallEffect) → PerformsCalls post enters → f enters (state_of m) ≡ stopped (end_of e) (output_items m'.output.items)
 
 -- the exit of a `?` at what ends the run
-pub ending_by : {post : Post} {r : Result (Unit {0}) Stop} {m m' : Machine} {f : Doing} (e : Ending) → (y : Stop) × (r ≡ Err y) × (end_at y ≡ Some (end_of e))
+pub ending_by : {post : CallPostcondition} {r : Result (Unit {0}) Stop} {m m' : Machine} {f : CodeEffect} (e : EvaluationFault) → (y : Stop) × (r ≡ Err y) × (end_of_stop y ≡ Some (end_of e))
     → EndsRun post e m m' f → MachineDoes post r m m' f
 ending_by {m = m} {m' = m'} {f = f} e q h = leaving (q.0, q.1, refl) record { as_defined = λ enters p. subst (λ o. StopsRun o m' (f enters (state_of m))) (sym q.2) (h enters p) }
 
@@ -48,14 +48,14 @@ ending_by {m = m} {m' = m'} {f = f} e q h = leaving (q.0, q.1, refl) record { as
 pub settled : {a b : Bool} {o : StepResult Bool} → gives a ≡ o → a ≡ b → gives b ≡ o
 settled h e = sym (ap gives e) ∙ h
 
-pub does_statement : {post : Post} {r : Result (Unit {0}) Stop} {m m' : Machine} (t : ℕ) (ls : Levels) {a b : lowered.Instruction} → a ≡ b → MachineDoes post r m m' (executed t ls a) → MachineDoes post r m m' (executed t ls b)
-does_statement {post = post} {r = r} {m = m} {m' = m'} t ls e h = subst (λ a. MachineDoes post r m m' (executed t ls a)) e h
+pub does_statement : {post : CallPostcondition} {r : Result (Unit {0}) Stop} {m m' : Machine} (t : ℕ) (ls : Levels) {a b : lowered.Instruction} → a ≡ b → MachineDoes post r m m' (statement_effect t ls a) → MachineDoes post r m m' (statement_effect t ls b)
+does_statement {post = post} {r = r} {m = m} {m' = m'} t ls e h = subst (λ a. MachineDoes post r m m' (statement_effect t ls a)) e h
 
 -- sequences
 
 -- what was executed so far, with what is left, is the whole
-pub record InSequence (post : Post) (start now : Machine) (t : ℕ) (ls : Levels) (xs : List Instruction) (k : ℕ) : Type 0 where
-  pub so_far : (enters : CallEffect) → Performs post enters → execute_all enters t ls (sequence_of xs) (state_of start) ≡ execute_all enters t ls (sequence_of (drop k xs)) (state_of now)
+pub record InSequence (post : CallPostcondition) (start now : Machine) (t : ℕ) (ls : Levels) (xs : List Instruction) (k : ℕ) : Type 0 where
+  pub so_far : (enters : CallEffect) → PerformsCalls post enters → execute_all enters t ls (sequence_of xs) (state_of start) ≡ execute_all enters t ls (sequence_of (drop k xs)) (state_of now)
 
 execute-next : (enters : CallEffect) (t : ℕ) (ls : Levels) (xs : List Instruction) (k : ℕ) (x : Instruction) (s : MachineState) → k < length xs → x ≡ get_or xs k x
     → execute_all enters t ls (sequence_of (drop k xs)) s ≡ continue_with (execute enters t ls (statement_of x) s) (execute_all enters t ls (sequence_of (drop (k + 1) xs)))
@@ -66,62 +66,62 @@ execute-last : (enters : CallEffect) (t : ℕ) (ls : Levels) (xs : List Instruct
 unfolding execute
 execute-last enters t ls xs k s all = ap (λ ys. execute_all enters t ls (sequence_of ys) s) (drop_all k xs all)
 
-pub sequence_begins : {post : Post} {start : Machine} {t : ℕ} {ls : Levels} {xs : List Instruction} → InSequence post start start t ls xs 0
+pub sequence_begins : {post : CallPostcondition} {start : Machine} {t : ℕ} {ls : Levels} {xs : List Instruction} → InSequence post start start t ls xs 0
 sequence_begins = record { so_far = λ enters p. refl }
 
-pub sequence_on : {post : Post} {start now m : Machine} {t : ℕ} {ls : Levels} {xs : List Instruction} {k : ℕ} (u : Unit {0}) (x : Instruction) → InSequence post start now t ls xs k → k < length xs → x ≡ get_or xs k x
-    → MachineDoes post (Ok u) now m (executed t ls (statement_of x)) → InSequence post start m t ls xs (k + 1)
+pub sequence_on : {post : CallPostcondition} {start now m : Machine} {t : ℕ} {ls : Levels} {xs : List Instruction} {k : ℕ} (u : Unit {0}) (x : Instruction) → InSequence post start now t ls xs k → k < length xs → x ≡ get_or xs k x
+    → MachineDoes post (Ok u) now m (statement_effect t ls (statement_of x)) → InSequence post start m t ls xs (k + 1)
 sequence_on {now = now} {t = t} {ls = ls} {xs = xs} {k = k} u x c less is h = record {
   so_far = λ enters p.
       c.so_far enters p ∙ execute-next enters t ls xs k x (state_of now) less is ∙ ap (λ q. continue_with q (execute_all enters t ls (sequence_of (drop (k + 1) xs)))) (h.as_defined enters p);
 }
 
-pub sequence_fails : {post : Post} {start now m : Machine} {t : ℕ} {ls : Levels} {xs : List Instruction} {k : ℕ} (e : Stop) (x : Instruction) → InSequence post start now t ls xs k → k < length xs → x ≡ get_or xs k x
-    → MachineDoes post (Err e) now m (executed t ls (statement_of x)) → MachineDoes post (Err e) start m (executed_all t ls (sequence_of xs))
+pub sequence_fails : {post : CallPostcondition} {start now m : Machine} {t : ℕ} {ls : Levels} {xs : List Instruction} {k : ℕ} (e : Stop) (x : Instruction) → InSequence post start now t ls xs k → k < length xs → x ≡ get_or xs k x
+    → MachineDoes post (Err e) now m (statement_effect t ls (statement_of x)) → MachineDoes post (Err e) start m (sequence_effect t ls (sequence_of xs))
 sequence_fails {now = now} {m = m} {t = t} {ls = ls} {xs = xs} {k = k} e x c less is h = record {
   as_defined = λ enters p.
       subst (MachineSteps (Err e) m) (sym (c.so_far enters p ∙ execute-next enters t ls xs k x (state_of now) less is))
       (failed_then e m (execute enters t ls (statement_of x) (state_of now)) (execute_all enters t ls (sequence_of (drop (k + 1) xs))) (h.as_defined enters p));
 }
 
-pub sequence_ends : {post : Post} {start now : Machine} {t : ℕ} {ls : Levels} {xs : List Instruction} {k : ℕ} (u : Unit {0}) → InSequence post start now t ls xs k → length xs ≤ k → MachineDoes post (Ok u) start now (executed_all t ls (sequence_of xs))
+pub sequence_ends : {post : CallPostcondition} {start now : Machine} {t : ℕ} {ls : Levels} {xs : List Instruction} {k : ℕ} (u : Unit {0}) → InSequence post start now t ls xs k → length xs ≤ k → MachineDoes post (Ok u) start now (sequence_effect t ls (sequence_of xs))
 sequence_ends {now = now} {t = t} {ls = ls} {xs = xs} {k = k} u c all = record { as_defined = λ enters p. c.so_far enters p ∙ execute-last enters t ls xs k (state_of now) all }
 
 -- branches
 
 abbrev pub from_branches : CallEffect → ℕ → Levels → Conditional → List Branch → MachineState → MachineProgress
-from_branches enters t ls i bs = execute_branches enters t ls (all_branches bs) (execute_all enters t ls (otherwise_in i))
+from_branches enters t ls i bs = execute_branches enters t ls (all_branches bs) (execute_all enters t ls (else_statements i))
 
-pub record InBranches (post : Post) (start now : Machine) (t : ℕ) (ls : Levels) (i : Conditional) (xs : List Branch) (k : ℕ) : Type 0 where
-  pub so_far : (enters : CallEffect) → Performs post enters → executed_others t ls (others_in i) (otherwise_in i) enters (state_of start) ≡ from_branches enters t ls i (drop k xs) (state_of now)
+pub record InBranches (post : CallPostcondition) (start now : Machine) (t : ℕ) (ls : Levels) (i : Conditional) (xs : List Branch) (k : ℕ) : Type 0 where
+  pub so_far : (enters : CallEffect) → PerformsCalls post enters → elsifs_effect t ls (elsif_branches i) (else_statements i) enters (state_of start) ≡ from_branches enters t ls i (drop k xs) (state_of now)
 
 branch-next : (enters : CallEffect) (t : ℕ) (ls : Levels) (i : Conditional) (xs : List Branch) (k : ℕ) (x : Branch) (s : MachineState) → k < length xs → x ≡ get_or xs k x
     → from_branches enters t ls i (drop k xs) s ≡ choose s (truth ls s.cells (truth_of x.condition)) (execute_all enters t ls (sequence_of x.body.items)) (from_branches enters t ls i (drop (k + 1) xs))
 unfolding execute
 branch-next enters t ls i xs k x s less is = ap (λ ys. from_branches enters t ls i ys s) (drop_more xs k x less ∙ ap (λ z. z ∷ drop (k + 1) xs) (sym is))
 
-branch-last : (enters : CallEffect) (t : ℕ) (ls : Levels) (i : Conditional) (xs : List Branch) (k : ℕ) (s : MachineState) → length xs ≤ k → from_branches enters t ls i (drop k xs) s ≡ execute_all enters t ls (otherwise_in i) s
+branch-last : (enters : CallEffect) (t : ℕ) (ls : Levels) (i : Conditional) (xs : List Branch) (k : ℕ) (s : MachineState) → length xs ≤ k → from_branches enters t ls i (drop k xs) s ≡ execute_all enters t ls (else_statements i) s
 unfolding execute
 branch-last enters t ls i xs k s all = ap (λ ys. from_branches enters t ls i ys s) (drop_all k xs all)
 
-pub branches_begin : {post : Post} {start : Machine} {t : ℕ} {ls : Levels} {i : Conditional} {xs : List Branch} → xs ≡ (out-Conditional i).others.items → InBranches post start start t ls i xs 0
+pub branches_begin : {post : CallPostcondition} {start : Machine} {t : ℕ} {ls : Levels} {i : Conditional} {xs : List Branch} → xs ≡ (out-Conditional i).others.items → InBranches post start start t ls i xs 0
 branches_begin {start = start} {t = t} {ls = ls} {i = i} same = record { so_far = λ enters p. ap (λ ys. from_branches enters t ls i ys (state_of start)) (sym same) }
 
-pub branches_on : {post : Post} {start now : Machine} {t : ℕ} {ls : Levels} {i : Conditional} {xs : List Branch} {k : ℕ} (x : Branch) → InBranches post start now t ls i xs k → k < length xs → x ≡ get_or xs k x
+pub branches_on : {post : CallPostcondition} {start now : Machine} {t : ℕ} {ls : Levels} {i : Conditional} {xs : List Branch} {k : ℕ} (x : Branch) → InBranches post start now t ls i xs k → k < length xs → x ≡ get_or xs k x
     → gives false ≡ truth ls now.cells.items (truth_of x.condition) → InBranches post start now t ls i xs (k + 1)
 branches_on {now = now} {t = t} {ls = ls} {i = i} {xs = xs} {k = k} x c less is h = record {
   so_far = λ enters p. c.so_far enters p ∙ branch-next enters t ls i xs k x (state_of now) less is
       ∙ ap (λ o. choose (state_of now) o (execute_all enters t ls (sequence_of x.body.items)) (from_branches enters t ls i (drop (k + 1) xs))) (sym h);
 }
 
-pub branches_fail : {post : Post} {start now : Machine} {t : ℕ} {ls : Levels} {i : Conditional} {xs : List Branch} {k : ℕ} (e : Ending) (x : Branch) → InBranches post start now t ls i xs k → k < length xs → x ≡ get_or xs k x
-    → ends (end_of e) ≡ truth ls now.cells.items (truth_of x.condition) → EndsRun post e start now (executed_others t ls (others_in i) (otherwise_in i))
+pub branches_fail : {post : CallPostcondition} {start now : Machine} {t : ℕ} {ls : Levels} {i : Conditional} {xs : List Branch} {k : ℕ} (e : EvaluationFault) (x : Branch) → InBranches post start now t ls i xs k → k < length xs → x ≡ get_or xs k x
+    → ends (end_of e) ≡ truth ls now.cells.items (truth_of x.condition) → EndsRun post e start now (elsifs_effect t ls (elsif_branches i) (else_statements i))
 branches_fail {now = now} {t = t} {ls = ls} {i = i} {xs = xs} {k = k} e x c less is h = λ enters p.
     c.so_far enters p ∙ branch-next enters t ls i xs k x (state_of now) less is
     ∙ ap (λ o. choose (state_of now) o (execute_all enters t ls (sequence_of x.body.items)) (from_branches enters t ls i (drop (k + 1) xs))) (sym h)
 
-pub branch_taken : {post : Post} {start now m : Machine} {t : ℕ} {ls : Levels} {i : Conditional} {xs : List Branch} {k : ℕ} (r : Result (Unit {0}) Stop) (ss : List Instruction) (x : Branch) → InBranches post start now t ls i xs k → k < length xs → x ≡ get_or xs k x
-    → gives true ≡ truth ls now.cells.items (truth_of x.condition) → ss ≡ x.body.items → MachineDoes post r now m (executed_all t ls (sequence_of ss)) → MachineDoes post r start m (executed_others t ls (others_in i) (otherwise_in i))
+pub branch_taken : {post : CallPostcondition} {start now m : Machine} {t : ℕ} {ls : Levels} {i : Conditional} {xs : List Branch} {k : ℕ} (r : Result (Unit {0}) Stop) (ss : List Instruction) (x : Branch) → InBranches post start now t ls i xs k → k < length xs → x ≡ get_or xs k x
+    → gives true ≡ truth ls now.cells.items (truth_of x.condition) → ss ≡ x.body.items → MachineDoes post r now m (sequence_effect t ls (sequence_of ss)) → MachineDoes post r start m (elsifs_effect t ls (elsif_branches i) (else_statements i))
 branch_taken {now = now} {m = m} {t = t} {ls = ls} {i = i} {xs = xs} {k = k} r ss x c less is h same d = record {
   as_defined = λ enters p.
       subst (MachineSteps r m) (sym (c.so_far enters p ∙ branch-next enters t ls i xs k x (state_of now) less is
@@ -129,8 +129,8 @@ branch_taken {now = now} {m = m} {t = t} {ls = ls} {i = i} {xs = xs} {k = k} r s
       ∙ ap (λ ss. execute_all enters t ls (sequence_of ss) (state_of now)) (sym same))) (d.as_defined enters p);
 }
 
-pub branches_end : {post : Post} {start now m : Machine} {t : ℕ} {ls : Levels} {i : Conditional} {xs : List Branch} {k : ℕ} (r : Result (Unit {0}) Stop) (ss : List Instruction) → InBranches post start now t ls i xs k → length xs ≤ k
-    → ss ≡ (out-Conditional i).otherwise.items → MachineDoes post r now m (executed_all t ls (sequence_of ss)) → MachineDoes post r start m (executed_others t ls (others_in i) (otherwise_in i))
+pub branches_end : {post : CallPostcondition} {start now m : Machine} {t : ℕ} {ls : Levels} {i : Conditional} {xs : List Branch} {k : ℕ} (r : Result (Unit {0}) Stop) (ss : List Instruction) → InBranches post start now t ls i xs k → length xs ≤ k
+    → ss ≡ (out-Conditional i).otherwise.items → MachineDoes post r now m (sequence_effect t ls (sequence_of ss)) → MachineDoes post r start m (elsifs_effect t ls (elsif_branches i) (else_statements i))
 branches_end {now = now} {m = m} {t = t} {ls = ls} {i = i} {xs = xs} {k = k} r ss c all same d = record {
   as_defined = λ enters p.
       subst (MachineSteps r m) (sym (c.so_far enters p ∙ branch-last enters t ls i xs k (state_of now) all ∙ ap (λ ss. execute_all enters t ls (sequence_of ss) (state_of now)) (sym same))) (d.as_defined enters p);
@@ -139,34 +139,34 @@ branches_end {now = now} {m = m} {t = t} {ls = ls} {i = i} {xs = xs} {k = k} r s
 -- IF: its first condition
 
 abbrev if_chosen : CallEffect → ℕ → Levels → Conditional → MachineState → StepResult Bool → MachineProgress
-if_chosen enters t ls i s o = choose s o (execute_all enters t ls (sequence_of (out-Conditional i).body.items)) (executed_others t ls (others_in i) (otherwise_in i) enters)
+if_chosen enters t ls i s o = choose s o (execute_all enters t ls (sequence_of (out-Conditional i).body.items)) (elsifs_effect t ls (elsif_branches i) (else_statements i) enters)
 
-if-goes : (enters : CallEffect) (t : ℕ) (ls : Levels) (i : Conditional) (s : MachineState) (o : StepResult Bool) → o ≡ truth ls s.cells (truth_of (out-Conditional i).condition) → execute enters t ls (branches_in i) s ≡ if_chosen enters t ls i s o
+if-goes : (enters : CallEffect) (t : ℕ) (ls : Levels) (i : Conditional) (s : MachineState) (o : StepResult Bool) → o ≡ truth ls s.cells (truth_of (out-Conditional i).condition) → execute enters t ls (conditional_of i) s ≡ if_chosen enters t ls i s o
 unfolding execute
 if-goes enters t ls i s o h = ap (if_chosen enters t ls i s) (sym h)
 
-pub if_fails : {post : Post} (m : Machine) (t : ℕ) (ls : Levels) (i : Conditional) (e : Ending) → ends (end_of e) ≡ truth ls m.cells.items (truth_of (out-Conditional i).condition) → EndsRun post e m m (executed t ls (branches_in i))
+pub if_fails : {post : CallPostcondition} (m : Machine) (t : ℕ) (ls : Levels) (i : Conditional) (e : EvaluationFault) → ends (end_of e) ≡ truth ls m.cells.items (truth_of (out-Conditional i).condition) → EndsRun post e m m (statement_effect t ls (conditional_of i))
 if_fails m t ls i e h = λ enters p. if-goes enters t ls i (state_of m) (ends (end_of e)) h
 
-pub if_taken : {post : Post} {m m' : Machine} (t : ℕ) (ls : Levels) (i : Conditional) (r : Result (Unit {0}) Stop) (ss : List Instruction) → gives true ≡ truth ls m.cells.items (truth_of (out-Conditional i).condition)
-    → ss ≡ (out-Conditional i).body.items → MachineDoes post r m m' (executed_all t ls (sequence_of ss)) → MachineDoes post r m m' (executed t ls (branches_in i))
+pub if_taken : {post : CallPostcondition} {m m' : Machine} (t : ℕ) (ls : Levels) (i : Conditional) (r : Result (Unit {0}) Stop) (ss : List Instruction) → gives true ≡ truth ls m.cells.items (truth_of (out-Conditional i).condition)
+    → ss ≡ (out-Conditional i).body.items → MachineDoes post r m m' (sequence_effect t ls (sequence_of ss)) → MachineDoes post r m m' (statement_effect t ls (conditional_of i))
 if_taken {m = m} {m' = m'} t ls i r ss h same d = record {
   as_defined = λ enters p. subst (MachineSteps r m') (sym (if-goes enters t ls i (state_of m) (gives true) h ∙ ap (λ ss. execute_all enters t ls (sequence_of ss) (state_of m)) (sym same))) (d.as_defined enters p);
 }
 
-pub if_passed : {post : Post} {m m' : Machine} (t : ℕ) (ls : Levels) (i : Conditional) (r : Result (Unit {0}) Stop) → gives false ≡ truth ls m.cells.items (truth_of (out-Conditional i).condition)
-    → MachineDoes post r m m' (executed_others t ls (others_in i) (otherwise_in i)) → MachineDoes post r m m' (executed t ls (branches_in i))
+pub if_passed : {post : CallPostcondition} {m m' : Machine} (t : ℕ) (ls : Levels) (i : Conditional) (r : Result (Unit {0}) Stop) → gives false ≡ truth ls m.cells.items (truth_of (out-Conditional i).condition)
+    → MachineDoes post r m m' (elsifs_effect t ls (elsif_branches i) (else_statements i)) → MachineDoes post r m m' (statement_effect t ls (conditional_of i))
 if_passed {m = m} {m' = m'} t ls i r h d = record { as_defined = λ enters p. subst (MachineSteps r m') (sym (if-goes enters t ls i (state_of m) (gives false) h)) (d.as_defined enters p) }
 
 -- WHILE
 
 abbrev pub turning : CallEffect → ℕ → ℕ → Levels → lowered.Truth → List Instruction → MachineState → MachineProgress
-turning enters left t ls w xs = turns left (λ s'. truth ls s'.cells w) (execute_all enters t ls (sequence_of xs))
+turning enters left t ls w xs = execute_while left (λ s'. truth ls s'.cells w) (execute_all enters t ls (sequence_of xs))
 
-pub record InWhile (post : Post) (start now : Machine) (t : ℕ) (ls : Levels) (w : lowered.Truth) (xs : List Instruction) (left : ℕ) : Type 0 where
-  pub so_far : (enters : CallEffect) → Performs post enters → execute enters t ls (lowered.while_loop w (sequence_of xs)) (state_of start) ≡ turning enters left t ls w xs (state_of now)
+pub record InWhile (post : CallPostcondition) (start now : Machine) (t : ℕ) (ls : Levels) (w : lowered.Truth) (xs : List Instruction) (left : ℕ) : Type 0 where
+  pub so_far : (enters : CallEffect) → PerformsCalls post enters → execute enters t ls (lowered.while_loop w (sequence_of xs)) (state_of start) ≡ turning enters left t ls w xs (state_of now)
 
-pub while_begins : {post : Post} {start : Machine} {t : ℕ} {ls : Levels} {w : lowered.Truth} {xs : List Instruction} → InWhile post start start t ls w xs t
+pub while_begins : {post : CallPostcondition} {start : Machine} {t : ℕ} {ls : Levels} {w : lowered.Truth} {xs : List Instruction} → InWhile post start start t ls w xs t
 unfolding execute
 while_begins = record { so_far = λ enters p. refl }
 
@@ -192,31 +192,31 @@ once-more : (enters : CallEffect) (left t : ℕ) (ls : Levels) (w : lowered.Trut
 unfolding once_more
 once-more enters left t ls w xs s e = ap (λ left. once_more enters left t ls w xs s) (one_less left e)
 
-while-chosen : {post : Post} {start now : Machine} {t : ℕ} {ls : Levels} {w : lowered.Truth} {xs : List Instruction} {left : ℕ} (o : StepResult Bool) → InWhile post start now t ls w xs left → o ≡ truth ls now.cells.items w
-    → (enters : CallEffect) → Performs post enters → execute enters t ls (lowered.while_loop w (sequence_of xs)) (state_of start) ≡ choose (state_of now) o (once_more enters left t ls w xs) running
+while-chosen : {post : CallPostcondition} {start now : Machine} {t : ℕ} {ls : Levels} {w : lowered.Truth} {xs : List Instruction} {left : ℕ} (o : StepResult Bool) → InWhile post start now t ls w xs left → o ≡ truth ls now.cells.items w
+    → (enters : CallEffect) → PerformsCalls post enters → execute enters t ls (lowered.while_loop w (sequence_of xs)) (state_of start) ≡ choose (state_of now) o (once_more enters left t ls w xs) running
 while-chosen {now = now} {t = t} {ls = ls} {w = w} {xs = xs} {left = left} o c h enters p = c.so_far enters p ∙ turning-goes enters left t ls w xs (state_of now) ∙ ap (λ o. choose (state_of now) o (once_more enters left t ls w xs) running) (sym h)
 
-pub while_fails : {post : Post} {start now : Machine} {t : ℕ} {ls : Levels} {w : lowered.Truth} {xs : List Instruction} {left : ℕ} (e : Ending) → InWhile post start now t ls w xs left → ends (end_of e) ≡ truth ls now.cells.items w
-    → EndsRun post e start now (executed t ls (lowered.while_loop w (sequence_of xs)))
+pub while_fails : {post : CallPostcondition} {start now : Machine} {t : ℕ} {ls : Levels} {w : lowered.Truth} {xs : List Instruction} {left : ℕ} (e : EvaluationFault) → InWhile post start now t ls w xs left → ends (end_of e) ≡ truth ls now.cells.items w
+    → EndsRun post e start now (statement_effect t ls (lowered.while_loop w (sequence_of xs)))
 while_fails e c h = while-chosen (ends (end_of e)) c h
 
-pub while_ends : {post : Post} {start now : Machine} {t : ℕ} {ls : Levels} {w : lowered.Truth} {xs : List Instruction} {left : ℕ} (u : Unit {0}) → InWhile post start now t ls w xs left → gives false ≡ truth ls now.cells.items w
-    → MachineDoes post (Ok u) start now (executed t ls (lowered.while_loop w (sequence_of xs)))
+pub while_ends : {post : CallPostcondition} {start now : Machine} {t : ℕ} {ls : Levels} {w : lowered.Truth} {xs : List Instruction} {left : ℕ} (u : Unit {0}) → InWhile post start now t ls w xs left → gives false ≡ truth ls now.cells.items w
+    → MachineDoes post (Ok u) start now (statement_effect t ls (lowered.while_loop w (sequence_of xs)))
 while_ends u c h = record { as_defined = while-chosen (gives false) c h }
 
-pub while_bound : {post : Post} {start now : Machine} {t : ℕ} {ls : Levels} {w : lowered.Truth} {xs : List Instruction} {left : ℕ} → InWhile post start now t ls w xs left → gives true ≡ truth ls now.cells.items w → left ≡ 0
-    → MachineDoes post (Err stop.TurnBound) start now (executed t ls (lowered.while_loop w (sequence_of xs)))
+pub while_bound : {post : CallPostcondition} {start now : Machine} {t : ℕ} {ls : Levels} {w : lowered.Truth} {xs : List Instruction} {left : ℕ} → InWhile post start now t ls w xs left → gives true ≡ truth ls now.cells.items w → left ≡ 0
+    → MachineDoes post (Err stop.TurnBound) start now (statement_effect t ls (lowered.while_loop w (sequence_of xs)))
 while_bound {now = now} {t = t} {ls = ls} {w = w} {xs = xs} {left = left} c h e = record { as_defined = λ enters p. while-chosen (gives true) c h enters p ∙ once-none enters left t ls w xs (state_of now) e }
 
-pub while_on : {post : Post} {start now m : Machine} {t : ℕ} {ls : Levels} {w : lowered.Truth} {xs : List Instruction} {left : ℕ} (u : Unit {0}) (ss : List Instruction) → InWhile post start now t ls w xs left → gives true ≡ truth ls now.cells.items w → left ≢ 0
-    → ss ≡ xs → MachineDoes post (Ok u) now m (executed_all t ls (sequence_of ss)) → InWhile post start m t ls w xs (left - 1)
+pub while_on : {post : CallPostcondition} {start now m : Machine} {t : ℕ} {ls : Levels} {w : lowered.Truth} {xs : List Instruction} {left : ℕ} (u : Unit {0}) (ss : List Instruction) → InWhile post start now t ls w xs left → gives true ≡ truth ls now.cells.items w → left ≢ 0
+    → ss ≡ xs → MachineDoes post (Ok u) now m (sequence_effect t ls (sequence_of ss)) → InWhile post start m t ls w xs (left - 1)
 while_on {now = now} {t = t} {ls = ls} {w = w} {xs = xs} {left = left} u ss c h e same d = record {
   so_far = λ enters p. while-chosen (gives true) c h enters p ∙ once-more enters left t ls w xs (state_of now) e
       ∙ ap (λ q. continue_with q (turning enters (left - 1) t ls w xs)) (ap (λ ss. execute_all enters t ls (sequence_of ss) (state_of now)) (sym same) ∙ d.as_defined enters p);
 }
 
-pub while_body_fails : {post : Post} {start now m : Machine} {t : ℕ} {ls : Levels} {w : lowered.Truth} {xs : List Instruction} {left : ℕ} (x : Stop) (ss : List Instruction) → InWhile post start now t ls w xs left → gives true ≡ truth ls now.cells.items w → left ≢ 0
-    → ss ≡ xs → MachineDoes post (Err x) now m (executed_all t ls (sequence_of ss)) → MachineDoes post (Err x) start m (executed t ls (lowered.while_loop w (sequence_of xs)))
+pub while_body_fails : {post : CallPostcondition} {start now m : Machine} {t : ℕ} {ls : Levels} {w : lowered.Truth} {xs : List Instruction} {left : ℕ} (x : Stop) (ss : List Instruction) → InWhile post start now t ls w xs left → gives true ≡ truth ls now.cells.items w → left ≢ 0
+    → ss ≡ xs → MachineDoes post (Err x) now m (sequence_effect t ls (sequence_of ss)) → MachineDoes post (Err x) start m (statement_effect t ls (lowered.while_loop w (sequence_of xs)))
 while_body_fails {now = now} {m = m} {t = t} {ls = ls} {w = w} {xs = xs} {left = left} x ss c h e same d = record {
   as_defined = λ enters p.
       subst (MachineSteps (Err x) m) (sym (while-chosen (gives true) c h enters p ∙ once-more enters left t ls w xs (state_of now) e
@@ -242,46 +242,46 @@ unfolding execute
 all-after enters t ls [] x s = continued_running (execute enters t ls (statement_of x) s) _ (λ s. refl)
 all-after enters t ls (y ∷ ys) x s = continued_twice (execute enters t ls (statement_of y) s) _ _ (execute enters t ls (statement_of x)) (all-after enters t ls ys x)
 
-pub then_last : {post : Post} {r : Result (Unit {0}) Stop} {start now m : Machine} (t : ℕ) (ls : Levels) (xs : List Instruction) (u : Unit {0}) (x : Instruction) → MachineDoes post (Ok u) start now (executed_all t ls (sequence_of xs))
-    → MachineDoes post r now m (executed t ls (statement_of x)) → MachineDoes post r start m (executed_all t ls (sequence_of (xs ++ x ∷ [])))
+pub then_last : {post : CallPostcondition} {r : Result (Unit {0}) Stop} {start now m : Machine} (t : ℕ) (ls : Levels) (xs : List Instruction) (u : Unit {0}) (x : Instruction) → MachineDoes post (Ok u) start now (sequence_effect t ls (sequence_of xs))
+    → MachineDoes post r now m (statement_effect t ls (statement_of x)) → MachineDoes post r start m (sequence_effect t ls (sequence_of (xs ++ x ∷ [])))
 then_last {r = r} {start = start} {now = now} {m = m} t ls xs u x d e = record {
   as_defined = λ enters p.
       subst (MachineSteps r m) (sym (all-after enters t ls xs x (state_of start) ∙ ap (λ q. continue_with q (execute enters t ls (statement_of x))) (d.as_defined enters p))) (e.as_defined enters p);
 }
 
-pub before_last : {post : Post} {start m : Machine} (t : ℕ) (ls : Levels) (xs : List Instruction) (e : Stop) (x : Instruction) → MachineDoes post (Err e) start m (executed_all t ls (sequence_of xs))
-    → MachineDoes post (Err e) start m (executed_all t ls (sequence_of (xs ++ x ∷ [])))
+pub before_last : {post : CallPostcondition} {start m : Machine} (t : ℕ) (ls : Levels) (xs : List Instruction) (e : Stop) (x : Instruction) → MachineDoes post (Err e) start m (sequence_effect t ls (sequence_of xs))
+    → MachineDoes post (Err e) start m (sequence_effect t ls (sequence_of (xs ++ x ∷ [])))
 before_last {start = start} {m = m} t ls xs e x d = record {
   as_defined = λ enters p.
       subst (MachineSteps (Err e) m) (sym (all-after enters t ls xs x (state_of start))) (failed_then e m (execute_all enters t ls (sequence_of xs) (state_of start)) (execute enters t ls (statement_of x)) (d.as_defined enters p));
 }
 
-pub steps_by : (m : Machine) (r : Result (Unit {0}) Stop) (p : MachineProgress) (e : Ending) → (y : Stop) × (r ≡ Err y) × (end_at y ≡ Some (end_of e)) → stopped (end_of e) (items_out m.output.items) ≡ p → MachineSteps r m p
+pub steps_by : (m : Machine) (r : Result (Unit {0}) Stop) (p : MachineProgress) (e : EvaluationFault) → (y : Stop) × (r ≡ Err y) × (end_of_stop y ≡ Some (end_of e)) → stopped (end_of e) (output_items m.output.items) ≡ p → MachineSteps r m p
 steps_by m r p e q h = subst (λ r. MachineSteps r m p) (sym q.1) (subst (λ o. StopsRun o m p) (sym q.2) (sym h))
 
-pub steps_as : (enters : CallEffect) (t : ℕ) (ls : Levels) (v : Variable) (r : Result (Unit {0}) Stop) (m : Machine) (s : MachineState) {a b : ℤ} → a ≡ b → MachineSteps r m (execute enters t ls (increases v a) s) → MachineSteps r m (execute enters t ls (increases v b) s)
-steps_as enters t ls v r m s e h = subst (λ n. MachineSteps r m (execute enters t ls (increases v n) s)) e h
+pub steps_as : (enters : CallEffect) (t : ℕ) (ls : Levels) (v : Variable) (r : Result (Unit {0}) Stop) (m : Machine) (s : MachineState) {a b : ℤ} → a ≡ b → MachineSteps r m (execute enters t ls (variable_increase v a) s) → MachineSteps r m (execute enters t ls (variable_increase v b) s)
+steps_as enters t ls v r m s e h = subst (λ n. MachineSteps r m (execute enters t ls (variable_increase v n) s)) e h
 
-pub loop_as : {post : Post} {r : Result (Unit {0}) Stop} {m m' : Machine} (t : ℕ) (ls : Levels) (v u : Variable) (xs : List Instruction) {n n' b b' : ℤ} → n ≡ n' → b ≡ b'
-    → MachineDoes post r m m' (executed t ls (lowered.while_loop (compared_by relation.Less v (lowered.literal n)) (sequence_of (xs ++ Increase u b ∷ []))))
-    → MachineDoes post r m m' (executed t ls (lowered.while_loop (compared_by relation.Less v (lowered.literal n')) (sequence_of (xs ++ Increase u b' ∷ []))))
+pub loop_as : {post : CallPostcondition} {r : Result (Unit {0}) Stop} {m m' : Machine} (t : ℕ) (ls : Levels) (v u : Variable) (xs : List Instruction) {n n' b b' : ℤ} → n ≡ n' → b ≡ b'
+    → MachineDoes post r m m' (statement_effect t ls (lowered.while_loop (variable_relation relation.Less v (lowered.literal n)) (sequence_of (xs ++ Increase u b ∷ []))))
+    → MachineDoes post r m m' (statement_effect t ls (lowered.while_loop (variable_relation relation.Less v (lowered.literal n')) (sequence_of (xs ++ Increase u b' ∷ []))))
 loop_as {post = post} {r = r} {m = m} {m' = m'} t ls v u xs {n = n} {b' = b'} e f h =
-    subst (λ n. MachineDoes post r m m' (executed t ls (lowered.while_loop (compared_by relation.Less v (lowered.literal n)) (sequence_of (xs ++ Increase u b' ∷ []))))) e
-    (subst (λ b. MachineDoes post r m m' (executed t ls (lowered.while_loop (compared_by relation.Less v (lowered.literal n)) (sequence_of (xs ++ Increase u b ∷ []))))) f h)
+    subst (λ n. MachineDoes post r m m' (statement_effect t ls (lowered.while_loop (variable_relation relation.Less v (lowered.literal n)) (sequence_of (xs ++ Increase u b' ∷ []))))) e
+    (subst (λ b. MachineDoes post r m m' (statement_effect t ls (lowered.while_loop (variable_relation relation.Less v (lowered.literal n)) (sequence_of (xs ++ Increase u b ∷ []))))) f h)
 
 -- a variable at a known address that is compared with a literal
-pub compared_at : (ls : Levels) (cells : List ℤ) (v : Variable) (a : ℕ) (n : ℤ) (b : Bool) → address ls cells (variable_of v) ≡ gives a → b ≡ compare lowered.less (cell_at cells a) n → gives b ≡ truth ls cells (compared_by relation.Less v (lowered.literal n))
+pub compared_at : (ls : Levels) (cells : List ℤ) (v : Variable) (a : ℕ) (n : ℤ) (b : Bool) → address ls cells (variable_of v) ≡ gives a → b ≡ compare lowered.less (cell_at cells a) n → gives b ≡ truth ls cells (variable_relation relation.Less v (lowered.literal n))
 compared_at ls cells v a n b h e = ap gives e ∙ ap (λ o. (o >>= (λ a. gives (cell_at cells a))) >>= (λ x. gives (compare lowered.less x n))) (sym h)
 
 -- REPEAT
 
 abbrev pub turning_until : CallEffect → ℕ → ℕ → Levels → RepeatLoop → MachineState → MachineProgress
-turning_until enters left t ls r = turns_until left (λ s'. truth ls s'.cells (truth_of r.condition)) (execute_all enters t ls (sequence_of r.body.items))
+turning_until enters left t ls r = execute_repeat left (λ s'. truth ls s'.cells (truth_of r.condition)) (execute_all enters t ls (sequence_of r.body.items))
 
-pub record InRepeat (post : Post) (start now : Machine) (t : ℕ) (ls : Levels) (r : RepeatLoop) (left : ℕ) : Type 0 where
-  pub so_far : (enters : CallEffect) → Performs post enters → execute enters t ls (repeat_of r) (state_of start) ≡ turning_until enters left t ls r (state_of now)
+pub record InRepeat (post : CallPostcondition) (start now : Machine) (t : ℕ) (ls : Levels) (r : RepeatLoop) (left : ℕ) : Type 0 where
+  pub so_far : (enters : CallEffect) → PerformsCalls post enters → execute enters t ls (repeat_of r) (state_of start) ≡ turning_until enters left t ls r (state_of now)
 
-pub repeat_begins : {post : Post} {start : Machine} {t : ℕ} {ls : Levels} {r : RepeatLoop} {left : ℕ} → left ≡ t - 1 → InRepeat post start start t ls r left
+pub repeat_begins : {post : CallPostcondition} {start : Machine} {t : ℕ} {ls : Levels} {r : RepeatLoop} {left : ℕ} → left ≡ t - 1 → InRepeat post start start t ls r left
 unfolding execute
 repeat_begins {start = start} {t = t} {ls = ls} {r = r} e = record { so_far = λ enters p. ap (λ left. turning_until enters left t ls r (state_of start)) (sym e) }
 
@@ -306,8 +306,8 @@ again-more : (enters : CallEffect) (left t : ℕ) (ls : Levels) (r : RepeatLoop)
 unfolding again
 again-more enters left t ls r s e = ap (λ left. again enters left t ls r s) (one_less left e)
 
-pub repeat_body_fails : {post : Post} {start now m : Machine} {t : ℕ} {ls : Levels} {r : RepeatLoop} {left : ℕ} (x : Stop) (ss : List Instruction) → InRepeat post start now t ls r left
-    → ss ≡ r.body.items → MachineDoes post (Err x) now m (executed_all t ls (sequence_of ss)) → MachineDoes post (Err x) start m (executed t ls (repeat_of r))
+pub repeat_body_fails : {post : CallPostcondition} {start now m : Machine} {t : ℕ} {ls : Levels} {r : RepeatLoop} {left : ℕ} (x : Stop) (ss : List Instruction) → InRepeat post start now t ls r left
+    → ss ≡ r.body.items → MachineDoes post (Err x) now m (sequence_effect t ls (sequence_of ss)) → MachineDoes post (Err x) start m (statement_effect t ls (repeat_of r))
 repeat_body_fails {now = now} {m = m} {t = t} {ls = ls} {r = r} {left = left} x ss c same d = record {
   as_defined = λ enters p.
       subst (MachineSteps (Err x) m) (sym (c.so_far enters p ∙ until-goes enters left t ls r (state_of now)
@@ -316,86 +316,86 @@ repeat_body_fails {now = now} {m = m} {t = t} {ls = ls} {r = r} {left = left} x 
 }
 
 -- a turn was made
-pub record Turned (post : Post) (start now : Machine) (t : ℕ) (ls : Levels) (r : RepeatLoop) (left : ℕ) : Type 0 where
-  pub so_far : (enters : CallEffect) → Performs post enters → execute enters t ls (repeat_of r) (state_of start) ≡ turned enters left t ls r (state_of now)
+pub record Turned (post : CallPostcondition) (start now : Machine) (t : ℕ) (ls : Levels) (r : RepeatLoop) (left : ℕ) : Type 0 where
+  pub so_far : (enters : CallEffect) → PerformsCalls post enters → execute enters t ls (repeat_of r) (state_of start) ≡ turned enters left t ls r (state_of now)
 
-pub turn_made : {post : Post} {start now m : Machine} {t : ℕ} {ls : Levels} {r : RepeatLoop} {left : ℕ} (u : Unit {0}) (ss : List Instruction) → InRepeat post start now t ls r left
-    → ss ≡ r.body.items → MachineDoes post (Ok u) now m (executed_all t ls (sequence_of ss)) → Turned post start m t ls r left
+pub turn_made : {post : CallPostcondition} {start now m : Machine} {t : ℕ} {ls : Levels} {r : RepeatLoop} {left : ℕ} (u : Unit {0}) (ss : List Instruction) → InRepeat post start now t ls r left
+    → ss ≡ r.body.items → MachineDoes post (Ok u) now m (sequence_effect t ls (sequence_of ss)) → Turned post start m t ls r left
 turn_made {now = now} {t = t} {ls = ls} {r = r} {left = left} u ss c same d = record {
   so_far = λ enters p. c.so_far enters p ∙ until-goes enters left t ls r (state_of now)
       ∙ ap (λ q. continue_with q (turned enters left t ls r)) (ap (λ ss. execute_all enters t ls (sequence_of ss) (state_of now)) (sym same) ∙ d.as_defined enters p);
 }
 
-turned-chosen : {post : Post} {start now : Machine} {t : ℕ} {ls : Levels} {r : RepeatLoop} {left : ℕ} (o : StepResult Bool) → Turned post start now t ls r left → o ≡ truth ls now.cells.items (truth_of r.condition)
-    → (enters : CallEffect) → Performs post enters → execute enters t ls (repeat_of r) (state_of start) ≡ choose (state_of now) o running (again enters left t ls r)
+turned-chosen : {post : CallPostcondition} {start now : Machine} {t : ℕ} {ls : Levels} {r : RepeatLoop} {left : ℕ} (o : StepResult Bool) → Turned post start now t ls r left → o ≡ truth ls now.cells.items (truth_of r.condition)
+    → (enters : CallEffect) → PerformsCalls post enters → execute enters t ls (repeat_of r) (state_of start) ≡ choose (state_of now) o running (again enters left t ls r)
 turned-chosen {now = now} {t = t} {ls = ls} {r = r} {left = left} o c h enters p = c.so_far enters p ∙ ap (λ o. choose (state_of now) o running (again enters left t ls r)) (sym h)
 
-pub repeat_fails : {post : Post} {start now : Machine} {t : ℕ} {ls : Levels} {r : RepeatLoop} {left : ℕ} (e : Ending) → Turned post start now t ls r left → ends (end_of e) ≡ truth ls now.cells.items (truth_of r.condition)
-    → EndsRun post e start now (executed t ls (repeat_of r))
+pub repeat_fails : {post : CallPostcondition} {start now : Machine} {t : ℕ} {ls : Levels} {r : RepeatLoop} {left : ℕ} (e : EvaluationFault) → Turned post start now t ls r left → ends (end_of e) ≡ truth ls now.cells.items (truth_of r.condition)
+    → EndsRun post e start now (statement_effect t ls (repeat_of r))
 repeat_fails e c h = turned-chosen (ends (end_of e)) c h
 
-pub repeat_ends : {post : Post} {start now : Machine} {t : ℕ} {ls : Levels} {r : RepeatLoop} {left : ℕ} (u : Unit {0}) → Turned post start now t ls r left → gives true ≡ truth ls now.cells.items (truth_of r.condition)
-    → MachineDoes post (Ok u) start now (executed t ls (repeat_of r))
+pub repeat_ends : {post : CallPostcondition} {start now : Machine} {t : ℕ} {ls : Levels} {r : RepeatLoop} {left : ℕ} (u : Unit {0}) → Turned post start now t ls r left → gives true ≡ truth ls now.cells.items (truth_of r.condition)
+    → MachineDoes post (Ok u) start now (statement_effect t ls (repeat_of r))
 repeat_ends u c h = record { as_defined = turned-chosen (gives true) c h }
 
-pub repeat_bound : {post : Post} {start now : Machine} {t : ℕ} {ls : Levels} {r : RepeatLoop} {left : ℕ} → Turned post start now t ls r left → gives false ≡ truth ls now.cells.items (truth_of r.condition) → left ≡ 0
-    → MachineDoes post (Err stop.TurnBound) start now (executed t ls (repeat_of r))
+pub repeat_bound : {post : CallPostcondition} {start now : Machine} {t : ℕ} {ls : Levels} {r : RepeatLoop} {left : ℕ} → Turned post start now t ls r left → gives false ≡ truth ls now.cells.items (truth_of r.condition) → left ≡ 0
+    → MachineDoes post (Err stop.TurnBound) start now (statement_effect t ls (repeat_of r))
 repeat_bound {now = now} {t = t} {ls = ls} {r = r} {left = left} c h e = record { as_defined = λ enters p. turned-chosen (gives false) c h enters p ∙ again-none enters left t ls r (state_of now) e }
 
-pub repeat_on : {post : Post} {start now : Machine} {t : ℕ} {ls : Levels} {r : RepeatLoop} {left : ℕ} → Turned post start now t ls r left → gives false ≡ truth ls now.cells.items (truth_of r.condition) → left ≢ 0
+pub repeat_on : {post : CallPostcondition} {start now : Machine} {t : ℕ} {ls : Levels} {r : RepeatLoop} {left : ℕ} → Turned post start now t ls r left → gives false ≡ truth ls now.cells.items (truth_of r.condition) → left ≢ 0
     → InRepeat post start now t ls r (left - 1)
 repeat_on {now = now} {t = t} {ls = ls} {r = r} {left = left} c h e = record { so_far = λ enters p. turned-chosen (gives false) c h enters p ∙ again-more enters left t ls r (state_of now) e }
 
 -- calls
 
 pub call-goes : (t : ℕ) (ls : Levels) (c : call.ProcedureCall) (enters : CallEffect) (s : MachineState)
-    → executed t ls (call_of c) enters s ≡ use_in s (pass_all ls (map argument_of c.arguments.items) (passed_in s.cells [])) (λ p. enters c.procedure (entered ls (length s.cells) c.up p) record s { cells = p.cells })
+    → statement_effect t ls (call_of c) enters s ≡ use_result s (pass_all ls (map argument_of c.arguments.items) (passed_arguments s.cells [])) (λ p. enters c.procedure (levels_in_call ls (length s.cells) c.up p) record s { cells = p.cells })
 unfolding execute
 call-goes t ls c enters s = refl
 
-passing_stops : (m m' : Machine) (o : Option Halt) (memory : Memory) → m'.output ≡ m.output → m'.memory ≡ memory → (given : StepResult Passed) (next : Passed → MachineProgress)
-    → StopsPassing o memory given → StopsRun o m' (use_in (state_of m) given next)
-passing_stops m m' (Some x) memory out kept given next h = ap (λ o. use_in (state_of m) o next) h ∙ ap (λ o. stopped x (items_out o.items)) (sym out)
+passing_stops : (m m' : Machine) (o : Option Halt) (memory : Memory) → m'.output ≡ m.output → m'.memory ≡ memory → (given : StepResult CallArguments) (next : CallArguments → MachineProgress)
+    → StopsPassing o memory given → StopsRun o m' (use_result (state_of m) given next)
+passing_stops m m' (Some x) memory out kept given next h = ap (λ o. use_result (state_of m) o next) h ∙ ap (λ o. stopped x (output_items o.items)) (sym out)
 passing_stops m m' None memory out kept given next h = ap has_failed kept ∙ h
 
-pub call_fails : {post : Post} {m m' : Machine} (memory : Memory) (e : Stop) (t : ℕ) (ls : Levels) (c : call.ProcedureCall) (xs : List Argument) (none : List ℕ)
-    → none ≡ [] → xs ≡ c.arguments.items → StopsPassing (end_at e) memory (pass_all ls (map argument_of xs) (passed_in m.cells.items none)) → m'.output ≡ m.output → m'.memory ≡ memory
-    → MachineDoes post (Err e) m m' (executed t ls (call_of c))
+pub call_fails : {post : CallPostcondition} {m m' : Machine} (memory : Memory) (e : Stop) (t : ℕ) (ls : Levels) (c : call.ProcedureCall) (xs : List Argument) (none : List ℕ)
+    → none ≡ [] → xs ≡ c.arguments.items → StopsPassing (end_of_stop e) memory (pass_all ls (map argument_of xs) (passed_arguments m.cells.items none)) → m'.output ≡ m.output → m'.memory ≡ memory
+    → MachineDoes post (Err e) m m' (statement_effect t ls (call_of c))
 call_fails {m = m} {m' = m'} memory e t ls c xs none empty same h out kept = record {
-  as_defined = λ enters p. subst (StopsRun (end_at e) m') (sym (call-goes t ls c enters (state_of m)
-      ∙ ap (λ o. use_in (state_of m) o (λ p. enters c.procedure (entered ls (length m.cells.items) c.up p) record (state_of m) { cells = p.cells }))
-      (ap (λ xs. pass_all ls (map argument_of xs) (passed_in m.cells.items [])) (sym same) ∙ ap (λ none. pass_all ls (map argument_of xs) (passed_in m.cells.items none)) (sym empty))))
-      (passing_stops m m' (end_at e) memory out kept _ _ h);
+  as_defined = λ enters p. subst (StopsRun (end_of_stop e) m') (sym (call-goes t ls c enters (state_of m)
+      ∙ ap (λ o. use_result (state_of m) o (λ p. enters c.procedure (levels_in_call ls (length m.cells.items) c.up p) record (state_of m) { cells = p.cells }))
+      (ap (λ xs. pass_all ls (map argument_of xs) (passed_arguments m.cells.items [])) (sym same) ∙ ap (λ none. pass_all ls (map argument_of xs) (passed_arguments m.cells.items none)) (sym empty))))
+      (passing_stops m m' (end_of_stop e) memory out kept _ _ h);
 }
 
-pub call_enters : {post : Post} {m m' : Machine} {r : Result (Unit {0}) Stop} (cells : List ℤ) (addresses : List ℕ) (t : ℕ) (ls inner : Levels) (c : call.ProcedureCall) (xs : List Argument) (none : List ℕ)
-    → none ≡ [] → xs ≡ c.arguments.items → pass_all ls (map argument_of xs) (passed_in m.cells.items none) ≡ gives (passed_in cells addresses)
-    → inner ≡ entered ls (length m.cells.items) c.up (passed_in cells addresses)
-    → ((enters : CallEffect) → Performs post enters → MachineSteps r m' (enters c.procedure inner (record (state_of m) { cells = cells })))
-    → MachineDoes post r m m' (executed t ls (call_of c))
+pub call_enters : {post : CallPostcondition} {m m' : Machine} {r : Result (Unit {0}) Stop} (cells : List ℤ) (addresses : List ℕ) (t : ℕ) (ls inner : Levels) (c : call.ProcedureCall) (xs : List Argument) (none : List ℕ)
+    → none ≡ [] → xs ≡ c.arguments.items → pass_all ls (map argument_of xs) (passed_arguments m.cells.items none) ≡ gives (passed_arguments cells addresses)
+    → inner ≡ levels_in_call ls (length m.cells.items) c.up (passed_arguments cells addresses)
+    → ((enters : CallEffect) → PerformsCalls post enters → MachineSteps r m' (enters c.procedure inner (record (state_of m) { cells = cells })))
+    → MachineDoes post r m m' (statement_effect t ls (call_of c))
 call_enters {m = m} {m' = m'} {r = r} cells addresses t ls inner c xs none empty same h seen done = record {
   as_defined = λ enters p.
       subst (MachineSteps r m') (sym (call-goes t ls c enters (state_of m)
-      ∙ ap (λ o. use_in (state_of m) o (λ p. enters c.procedure (entered ls (length m.cells.items) c.up p) record (state_of m) { cells = p.cells }))
-      (ap (λ xs. pass_all ls (map argument_of xs) (passed_in m.cells.items [])) (sym same) ∙ ap (λ none. pass_all ls (map argument_of xs) (passed_in m.cells.items none)) (sym empty) ∙ h)
+      ∙ ap (λ o. use_result (state_of m) o (λ p. enters c.procedure (levels_in_call ls (length m.cells.items) c.up p) record (state_of m) { cells = p.cells }))
+      (ap (λ xs. pass_all ls (map argument_of xs) (passed_arguments m.cells.items [])) (sym same) ∙ ap (λ none. pass_all ls (map argument_of xs) (passed_arguments m.cells.items none)) (sym empty) ∙ h)
       ∙ ap (λ ls. enters c.procedure ls record (state_of m) { cells = cells }) (sym seen)))
       (done enters p);
 }
 
-pub enters_as : {post : Post} {m m' : Machine} {r : Result (Unit {0}) Stop} (k up base : ℕ) (addresses : List ℕ) (ls inner : Levels) → inner ≡ entered ls base up (passed_in m.cells.items addresses)
-    → ((enters : CallEffect) → Performs post enters → MachineSteps r m' (enters k inner (state_of m))) → MachineDoes post r m m' (entering k up ls base addresses)
+pub enters_as : {post : CallPostcondition} {m m' : Machine} {r : Result (Unit {0}) Stop} (k up base : ℕ) (addresses : List ℕ) (ls inner : Levels) → inner ≡ levels_in_call ls base up (passed_arguments m.cells.items addresses)
+    → ((enters : CallEffect) → PerformsCalls post enters → MachineSteps r m' (enters k inner (state_of m))) → MachineDoes post r m m' (entry_effect k up ls base addresses)
 enters_as {m = m} {m' = m'} {r = r} k up base addresses ls inner seen done = record { as_defined = λ enters p. subst (λ seen. MachineSteps r m' (enters k seen (state_of m))) seen (done enters p) }
 
 -- the levels of an activation that is made
-following : (o : _) → levels_after (level.back-Level-enclosing o) ≡ levels_seen o
+following : (o : _) → levels_after (level.back-Level-enclosing o) ≡ levels_of_option o
 following None = refl
 following (Some l) = refl
 
-pub level_made : (x : _) → levels_of (level.roll-Level x) ≡ record { base = x.base; addresses = x.addresses.now } ∷ levels_seen x.enclosing
+pub level_made : (x : _) → levels_of (level.roll-Level x) ≡ record { base = x.base; addresses = x.addresses.now } ∷ levels_of_option x.enclosing
 level_made x = ap levels_of (level.rolls-Level' x) ∙ ap (λ outer. record { base = x.base; addresses = x.addresses.now } ∷ outer) (following x.enclosing)
 
 pub entered_as : {base n : ℕ} {addresses given : List ℕ} {outer seen : Levels} → base ≡ n → addresses ≡ given → outer ≡ seen → record { base = base; addresses = addresses } ∷ outer ≡ record { base = n; addresses = given } ∷ seen
 entered_as {base} {n} {addresses} {given} {outer} {seen} a b c = cc
 
-pub does_sequence : {post : Post} {r : Result (Unit {0}) Stop} {m m' : Machine} (t : ℕ) (ls : Levels) {xs ys : List Instruction} → xs ≡ ys → MachineDoes post r m m' (executed_all t ls (sequence_of xs)) → MachineDoes post r m m' (executed_all t ls (sequence_of ys))
-does_sequence {post = post} {r = r} {m = m} {m' = m'} t ls e h = subst (λ xs. MachineDoes post r m m' (executed_all t ls (sequence_of xs))) e h
+pub does_sequence : {post : CallPostcondition} {r : Result (Unit {0}) Stop} {m m' : Machine} (t : ℕ) (ls : Levels) {xs ys : List Instruction} → xs ≡ ys → MachineDoes post r m m' (sequence_effect t ls (sequence_of xs)) → MachineDoes post r m m' (sequence_effect t ls (sequence_of ys))
+does_sequence {post = post} {r = r} {m = m} {m' = m'} t ls e h = subst (λ xs. MachineDoes post r m m' (sequence_effect t ls (sequence_of xs))) e h

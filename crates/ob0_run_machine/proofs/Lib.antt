@@ -1,6 +1,6 @@
 pub mod Chains
 pub mod Exits
-pub mod Several
+pub mod TruthList
 pub mod InOrder
 pub mod Viewed
 pub mod Executing

@@ -7,18 +7,18 @@ use Rattle.ob0_run_machine.specs.declared.ending.Stop.{Stop}
 use Rattle.ob0_run_machine.specs.declared.ending.Stop.TheVariants as stop
 use Rattle.ob0_run_machine.specs.declared.level.Level as level
 use Rattle.ob0_run_machine.specs.declared.machine.Machine.{Machine}
-use Rattle.ob0_run_machine.specs.Answers.{end_at}
+use Rattle.ob0_run_machine.specs.Answers.{end_of_stop}
 use Rattle.ob0_run_machine.specs.Evaluation as ending
-use Rattle.ob0_run_machine.specs.Evaluation.{CallBound, Levels, innermost}
-use Rattle.ob0_run_machine.specs.Execution.{MachineProgress, MachineState, OutputItem, activate, call, execute_all, finished, drop_variables, no_room, outermost, run, running, stopped, with_cells, zeros}
+use Rattle.ob0_run_machine.specs.Evaluation.{CallBound, Levels, innermost_level}
+use Rattle.ob0_run_machine.specs.Execution.{MachineProgress, MachineState, OutputItem, activate, call, execute_all, run_result, drop_variables, no_room, outermost, run, running, stopped, run_with_cells, zeros}
 use Rattle.ob0_run_machine.specs.Levels.{levels_of}
 use Rattle.ob0_run_machine.specs.Lowered.{Routine}
-use Rattle.ob0_run_machine.specs.Machines.{MachineDoes, Enters, StopsRun, Performs, Post, MachineSteps, activated, executed_all, items_out, state_of}
+use Rattle.ob0_run_machine.specs.Machines.{MachineDoes, CallSteps, StopsRun, PerformsCalls, CallPostcondition, MachineSteps, activation_effect, sequence_effect, output_items, state_of}
 use Rattle.ob0_run_machine.specs.declared.machine.Item.{Item}
 use Rattle.ob0_run_machine.specs.Lowered as lowered
 use Rattle.ob0_run_machine.specs.View.{program_of, sequence_of}
 use Rattle.ob0_run_machine.specs.declared.code.Instruction.{Instruction}
-use Rattle.ob0_run_machine.specs.Outcomes.{EndsAs, IsEndOf, block_run, end_in}
+use Rattle.ob0_run_machine.specs.Outcomes.{ReturnsEnd, IsEndOf, body_run, meaning_of_end}
 use Rattle.ob0_run_machine.specs.declared.running.End.{End}
 use Rattle.std.specs.declared.alloc.AllocError.{AllocError}
 use Rattle.std.specs.Prelude.{slice_get}
@@ -31,31 +31,31 @@ one_less : (n : ℕ) → n ≢ 0 → n ≡ suc (n - 1)
 one_less zero h = absurd (h refl)
 one_less (suc n) h = omega arith
 
-call-goes : (ps : List Routine) (c t k : ℕ) (ls : Levels) (s : MachineState) → c ≢ 0 → call ps c t k ls s ≡ drop_variables (innermost ls).base (activate (call ps (c - 1) t) t ls (slice_get ps k) s)
+call-goes : (ps : List Routine) (c t k : ℕ) (ls : Levels) (s : MachineState) → c ≢ 0 → call ps c t k ls s ≡ drop_variables (innermost_level ls).base (activate (call ps (c - 1) t) t ls (slice_get ps k) s)
 unfolding call
 call-goes ps c t k ls s e = ap (λ c. call ps c t k ls s) (one_less c e)
 
-pub call_ends : (m : Machine) (program : LoweredCode) (c t k : ℕ) (l : level.Level) → c ≡ 0 → Enters (Err stop.CallBound) m m program c t k l
+pub call_ends : (m : Machine) (program : LoweredCode) (c t k : ℕ) (l : level.Level) → c ≡ 0 → CallSteps (Err stop.CallBound) m m program c t k l
 call_ends m program c t k l e = call-none (program_of program).procedures c t k (levels_of l) (state_of m) e
 
-module _ (m m₂ : Machine) (program : LoweredCode) (c t k : ℕ) (l : level.Level) (o : Option Routine) (post : Post) (more : c ≢ 0) (found : o ≡ slice_get (program_of program).procedures k)
-    (performs : Performs post (call (program_of program).procedures (c - 1) t)) where
-  goes : call (program_of program).procedures c t k (levels_of l) (state_of m) ≡ drop_variables (innermost (levels_of l)).base (activate (call (program_of program).procedures (c - 1) t) t (levels_of l) o (state_of m))
+module _ (m m₂ : Machine) (program : LoweredCode) (c t k : ℕ) (l : level.Level) (o : Option Routine) (post : CallPostcondition) (more : c ≢ 0) (found : o ≡ slice_get (program_of program).procedures k)
+    (performs : PerformsCalls post (call (program_of program).procedures (c - 1) t)) where
+  goes : call (program_of program).procedures c t k (levels_of l) (state_of m) ≡ drop_variables (innermost_level (levels_of l)).base (activate (call (program_of program).procedures (c - 1) t) t (levels_of l) o (state_of m))
   goes = call-goes (program_of program).procedures c t k (levels_of l) (state_of m) more
-      ∙ ap (λ o. drop_variables (innermost (levels_of l)).base (activate (call (program_of program).procedures (c - 1) t) t (levels_of l) o (state_of m))) (sym found)
+      ∙ ap (λ o. drop_variables (innermost_level (levels_of l)).base (activate (call (program_of program).procedures (c - 1) t) t (levels_of l) o (state_of m))) (sym found)
 
-  dropped : (o : Option ending.Halt) (p : MachineProgress) → StopsRun o m₂ p → StopsRun o m₂ (drop_variables (innermost (levels_of l)).base p)
-  dropped (Some x) p h = ap (drop_variables (innermost (levels_of l)).base) h
+  dropped : (o : Option ending.Halt) (p : MachineProgress) → StopsRun o m₂ p → StopsRun o m₂ (drop_variables (innermost_level (levels_of l)).base p)
+  dropped (Some x) p h = ap (drop_variables (innermost_level (levels_of l)).base) h
   dropped None p h = h
 
-  pub call_fails : (e : Stop) → MachineDoes post (Err e) m m₂ (activated o t (levels_of l)) → Enters (Err e) m m₂ program c t k l
-  call_fails e d = subst (StopsRun (end_at e) m₂) (sym goes) (dropped (end_at e) _ (d.as_defined _ performs))
+  pub call_fails : (e : Stop) → MachineDoes post (Err e) m m₂ (activation_effect o t (levels_of l)) → CallSteps (Err e) m m₂ program c t k l
+  call_fails e d = subst (StopsRun (end_of_stop e) m₂) (sym goes) (dropped (end_of_stop e) _ (d.as_defined _ performs))
 
-  pub call_returns : (m₃ : Machine) (u v : Unit {0}) → MachineDoes post (Ok u) m m₂ (activated o t (levels_of l)) → state_of m₃ ≡ record (state_of m₂) { cells = take (innermost (levels_of l)).base m₂.cells.items } → Enters (Ok v) m m₃ program c t k l
-  call_returns m₃ u v d cut = goes ∙ ap (drop_variables (innermost (levels_of l)).base) (d.as_defined _ performs) ∙ ap running (sym cut)
+  pub call_returns : (m₃ : Machine) (u v : Unit {0}) → MachineDoes post (Ok u) m m₂ (activation_effect o t (levels_of l)) → state_of m₃ ≡ record (state_of m₂) { cells = take (innermost_level (levels_of l)).base m₂.cells.items } → CallSteps (Ok v) m m₃ program c t k l
+  call_returns m₃ u v d cut = goes ∙ ap (drop_variables (innermost_level (levels_of l)).base) (d.as_defined _ performs) ∙ ap running (sym cut)
 
 -- the body
-pub activates_none : {post : Post} {m : Machine} {o : Option Routine} (u : Unit {0}) (t : ℕ) (ls : Levels) → o ≡ None → MachineDoes post (Ok u) m m (activated o t ls)
+pub activates_none : {post : CallPostcondition} {m : Machine} {o : Option Routine} (u : Unit {0}) (t : ℕ) (ls : Levels) → o ≡ None → MachineDoes post (Ok u) m m (activation_effect o t ls)
 unfolding activate
 activates_none {m = m} u t ls e = record { as_defined = λ enters p. ap (λ o. activate enters t ls o (state_of m)) e }
 
@@ -65,15 +65,15 @@ has_room cells more n same few =
     let long : length more ≡ length cells + n = ap length same ∙ (length-append cells (zeros n) ∙ ap (λ k. length cells + k) (length-replicate n (pos 0))) in
     lt-ltb (length cells + n) (2 ^ 64) (omega (arith, long, few))
 
-pub with-room : (n : ℕ) (next : MachineState → MachineProgress) (s : MachineState) (more : List ℤ) → more ≡ s.cells ++ zeros n → length more < 2 ^ 64 → with_cells n next s ≡ next (record s { cells = s.cells ++ zeros n })
+pub with-room : (n : ℕ) (next : MachineState → MachineProgress) (s : MachineState) (more : List ℤ) → more ≡ s.cells ++ zeros n → length more < 2 ^ 64 → run_with_cells n next s ≡ next (record s { cells = s.cells ++ zeros n })
 with-room n next s more same few = ap (λ b. if b then next (record s { cells = s.cells ++ zeros n }) else no_room) (has_room s.cells more n same few)
 
-activate-goes : (enters : _) (t : ℕ) (ls : Levels) (o : Option Routine) (p : Routine) (s : MachineState) → o ≡ Some p → activate enters t ls o s ≡ with_cells p.cells (execute_all enters t ls p.body) s
+activate-goes : (enters : _) (t : ℕ) (ls : Levels) (o : Option Routine) (p : Routine) (s : MachineState) → o ≡ Some p → activate enters t ls o s ≡ run_with_cells p.cells (execute_all enters t ls p.body) s
 unfolding activate
 activate-goes enters t ls o p s e = ap (λ o. activate enters t ls o s) e
 
-pub activates : {post : Post} {r : Result (Unit {0}) Stop} {m m₂ m' : Machine} {o : Option Routine} (t : ℕ) (ls : Levels) (p : Routine) → o ≡ Some p → m₂.cells.items ≡ m.cells.items ++ zeros p.cells → length m₂.cells.items < 2 ^ 64
-    → state_of m₂ ≡ record (state_of m) { cells = m.cells.items ++ zeros p.cells } → MachineDoes post r m₂ m' (executed_all t ls p.body) → MachineDoes post r m m' (activated o t ls)
+pub activates : {post : CallPostcondition} {r : Result (Unit {0}) Stop} {m m₂ m' : Machine} {o : Option Routine} (t : ℕ) (ls : Levels) (p : Routine) → o ≡ Some p → m₂.cells.items ≡ m.cells.items ++ zeros p.cells → length m₂.cells.items < 2 ^ 64
+    → state_of m₂ ≡ record (state_of m) { cells = m.cells.items ++ zeros p.cells } → MachineDoes post r m₂ m' (sequence_effect t ls p.body) → MachineDoes post r m m' (activation_effect o t ls)
 activates {r = r} {m = m} {m₂ = m₂} {m' = m'} {o = o} t ls p e grown few more d = record {
   as_defined = λ enters performs.
       subst (MachineSteps r m') (sym (activate-goes enters t ls o p (state_of m) e ∙ with-room p.cells (execute_all enters t ls p.body) (state_of m) m₂.cells.items grown few ∙ ap (execute_all enters t ls p.body) (sym more))) (d.as_defined enters performs);
@@ -83,11 +83,11 @@ pub leaving_steps : (r : Result (Unit {0}) Stop) (e : Stop) (m : Machine) (p : M
 leaving_steps r e m p q h = subst (λ r. MachineSteps r m p) (sym q.1) (subst (λ y. MachineSteps (Err y) m p) (sym q.2) h)
 
 -- the statements of a program
-pub block_runs : (m m' : Machine) (program : LoweredCode) (c t : ℕ) (r : Result (Unit {0}) Stop) (post : Post) (inner : Levels) (xs : List Instruction) → Performs post (call (program_of program).procedures c t)
-    → inner ≡ outermost → xs ≡ program.body.items → MachineDoes post r m m' (executed_all t inner (sequence_of xs)) → MachineSteps r m' (block_run (program_of program) c t (state_of m))
+pub block_runs : (m m' : Machine) (program : LoweredCode) (c t : ℕ) (r : Result (Unit {0}) Stop) (post : CallPostcondition) (inner : Levels) (xs : List Instruction) → PerformsCalls post (call (program_of program).procedures c t)
+    → inner ≡ outermost → xs ≡ program.body.items → MachineDoes post r m m' (sequence_effect t inner (sequence_of xs)) → MachineSteps r m' (body_run (program_of program) c t (state_of m))
 block_runs m m' program c t r post inner xs performs seen same d =
-    subst (λ xs. MachineSteps r m' (executed_all t outermost (sequence_of xs) (call (program_of program).procedures c t) (state_of m))) same
-    (subst (λ inner. MachineSteps r m' (executed_all t inner (sequence_of xs) (call (program_of program).procedures c t) (state_of m))) seen (d.as_defined _ performs))
+    subst (λ xs. MachineSteps r m' (sequence_effect t outermost (sequence_of xs) (call (program_of program).procedures c t) (state_of m))) same
+    (subst (λ inner. MachineSteps r m' (sequence_effect t inner (sequence_of xs) (call (program_of program).procedures c t) (state_of m))) seen (d.as_defined _ performs))
 
 -- whole runs
 abbrev pub state_with : List ℤ → List ℤ → List OutputItem → MachineState
@@ -100,21 +100,21 @@ given d (Err e) = d
 ok-same : {A E : Type 0} {a b : A} (r : Result A E) → r ≡ Ok a → r ≡ Ok b → a ≡ b
 ok-same {a = a} r h k = sym (ap (given a) h) ∙ ap (given a) k
 
-ended_at : (o : Option ending.Halt) (m : Machine) (p : MachineProgress) (r : Result End AllocError) (end : End) → r ≡ Ok end → EndsAs o r → StopsRun o m p
-    → Some (record { output = items_out m.output.items; ending = end_in end }) ≡ finished p
-ended_at (Some e) m p r end is h steps = ap (λ e. Some (record { output = items_out m.output.items; ending = e })) (ap end_in (ok-same r is h.1) ∙ h.2) ∙ sym (ap finished steps)
-ended_at None m p r end is h steps = let no = subst IsErr is h in absurd (cc)
+index_ending_at : (o : Option ending.Halt) (m : Machine) (p : MachineProgress) (r : Result End AllocError) (end : End) → r ≡ Ok end → ReturnsEnd o r → StopsRun o m p
+    → Some (record { output = output_items m.output.items; ending = meaning_of_end end }) ≡ run_result p
+index_ending_at (Some e) m p r end is h steps = ap (λ e. Some (record { output = output_items m.output.items; ending = e })) (ap meaning_of_end (ok-same r is h.1) ∙ h.2) ∙ sym (ap run_result steps)
+index_ending_at None m p r end is h steps = let no = subst IsErr is h in absurd (cc)
 
 pub ended_by : (m : Machine) (p : MachineProgress) (executed : Result (Unit {0}) Stop) (r : Result End AllocError) (end : End) → r ≡ Ok end → IsEndOf executed r → MachineSteps executed m p
-    → Some (record { output = items_out m.output.items; ending = end_in end }) ≡ finished p
-ended_by m p (Ok done) r end is h steps = ap (λ e. Some (record { output = items_out m.output.items; ending = end_in e })) (ok-same r is h) ∙ sym (ap finished steps)
-ended_by m p (Err s) r end is h steps = ended_at (end_at s) m p r end is h steps
+    → Some (record { output = output_items m.output.items; ending = meaning_of_end end }) ≡ run_result p
+ended_by m p (Ok done) r end is h steps = ap (λ e. Some (record { output = output_items m.output.items; ending = meaning_of_end e })) (ok-same r is h) ∙ sym (ap run_result steps)
+ended_by m p (Err s) r end is h steps = index_ending_at (end_of_stop s) m p r end is h steps
 
-pub finishes : (program : lowered.LoweredCode) (input : List ℤ) (c t : ℕ) (s : MachineState) (p : MachineProgress) (more : List ℤ) → more ≡ [] ++ zeros program.cells → length more < 2 ^ 64 → s ≡ record { cells = zeros program.cells; input = input; output = [] } → block_run program c t s ≡ p
-    → run program input c t ≡ finished p
+pub finishes : (program : lowered.LoweredCode) (input : List ℤ) (c t : ℕ) (s : MachineState) (p : MachineProgress) (more : List ℤ) → more ≡ [] ++ zeros program.cells → length more < 2 ^ 64 → s ≡ record { cells = zeros program.cells; input = input; output = [] } → body_run program c t s ≡ p
+    → run program input c t ≡ run_result p
 unfolding run
 finishes program input c t s p more same few begun h =
-    ap finished (with-room program.cells (block_run program c t) record { cells = []; input = input; output = [] } more same few) ∙ ap (λ s. finished (block_run program c t s)) (sym begun) ∙ ap finished h
+    ap run_result (with-room program.cells (body_run program c t) record { cells = []; input = input; output = [] } more same few) ∙ ap (λ s. run_result (body_run program c t s)) (sym begun) ∙ ap run_result h
 
-pub begins_with : (cells before zs input : List ℤ) (out : List Item) → cells ≡ before ++ zs → before ≡ [] → out ≡ [] → state_with cells input (items_out out) ≡ state_with zs input []
-begins_with cells before zs input out a b d = ap (λ cells. state_with cells input (items_out out)) (a ∙ ap (λ xs. xs ++ zs) b) ∙ ap (λ out. state_with zs input (items_out out)) d
+pub begins_with : (cells before zs input : List ℤ) (out : List Item) → cells ≡ before ++ zs → before ≡ [] → out ≡ [] → state_with cells input (output_items out) ≡ state_with zs input []
+begins_with cells before zs input out a b d = ap (λ cells. state_with cells input (output_items out)) (a ∙ ap (λ xs. xs ++ zs) b) ∙ ap (λ out. state_with zs input (output_items out)) d

@@ -4,7 +4,7 @@ use Rattle.ob0_run_machine.specs.declared.code.Instruction.{If, While, Repeat, R
 use Rattle.ob0_run_machine.specs.declared.code.Instruction.TheBlock.{hidden-the_row-Instruction-0, items_shown-the_row-Instruction-0, hidden-the_row-Branch-1}
 use Rattle.ob0_run_machine.specs.declared.code.Conditional.{out-Conditional, roll-Conditional, roll-out-Conditional, rolls-Conditional', Row_of-Branch, end_of-Branch, more_of-Branch, items-the_row-Branch, items_hidden-the_row-Branch-1}
 use Rattle.ob0_run_machine.specs.Lowered.{before, branch, chooses, repeat_loop, while_loop}
-use Rattle.ob0_run_machine.specs.View.{all_branches, branches_in, branches_of, if_of, repeat_of, sequence_of, statement_of, statements_of, truth_of, while_of}
+use Rattle.ob0_run_machine.specs.View.{all_branches, conditional_of, branches_of, if_of, repeat_of, sequence_of, statement_of, statements_of, truth_of, while_of}
 
 statements_listed : (n : _) (row : Row_of-Instruction n) → statements_of row ≡ sequence_of (items-the_row-Instruction n row)
 statements_listed _ end_of-Instruction = refl
@@ -30,5 +30,5 @@ if_rolled x =
     let listed = branches_listed _ (hidden-the_row-Branch-1 x.others) ∙ ap all_branches (items_hidden-the_row-Branch-1 x.others) in
     ap if_of (rolls-Conditional' x) ∙ cc (listed, statements_hidden x.body, statements_hidden x.otherwise)
 
-pub if_made : (i : _) → statement_of (If i) ≡ branches_in i
+pub if_made : (i : _) → statement_of (If i) ≡ conditional_of i
 if_made i = sym (ap if_of (roll-out-Conditional i)) ∙ if_rolled (out-Conditional i)

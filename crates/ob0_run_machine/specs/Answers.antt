@@ -1,51 +1,51 @@
 -- The outcomes that the results of the machine's functions stand for.
 -- Rule: none; for contracts of the machine's steps.
 use Rattle.std.specs.Prelude.{ℤ, List, Option, Some, None, Ok, Err, Result}
-use Rattle.ob0_run_machine.specs.declared.ending.Ending.{Ending}
-use Rattle.ob0_run_machine.specs.declared.ending.Ending.TheVariants as ending
+use Rattle.ob0_run_machine.specs.declared.ending.EvaluationFault.{EvaluationFault}
+use Rattle.ob0_run_machine.specs.declared.ending.EvaluationFault.TheVariants as ending
 use Rattle.ob0_run_machine.specs.declared.ending.Stop.{Stop}
 use Rattle.ob0_run_machine.specs.declared.ending.Stop.TheVariants as stop
 use Rattle.ob0_run_machine.specs.Evaluation as evaluation
 use Rattle.ob0_run_machine.specs.Evaluation.{Halt, Levels, StepResult, ends, gives, number}
 use Rattle.ob0_run_machine.specs.declared.code.Link.{Link}
-use Rattle.ob0_run_machine.specs.declared.evaluated.Evaluated.{Evaluated}
-use Rattle.ob0_run_machine.specs.declared.evaluated.Evaluated.TheVariants as evaluated
+use Rattle.ob0_run_machine.specs.declared.flat_outcome.FlatOutcome.{FlatOutcome}
+use Rattle.ob0_run_machine.specs.declared.flat_outcome.FlatOutcome.TheVariants as flat_outcome
 use Rattle.ob0_run_machine.specs.Lowered.{literal}
 use Rattle.ob0_run_machine.specs.View.{applied}
 
 -- the end of a run that a fault of an expression causes
-abbrev pub end_of : Ending → Halt
+abbrev pub end_of : EvaluationFault → Halt
 end_of ending.Overflow = evaluation.Overflow
 end_of ending.Divisor = evaluation.Divisor
 end_of ending.Index = evaluation.Index
 
 -- the end of a run that a statement's reason to stop causes, or None if an allocation failed
-abbrev pub end_at : Stop → Option Halt
-end_at stop.Overflow = Some evaluation.Overflow
-end_at stop.Divisor = Some evaluation.Divisor
-end_at stop.Index = Some evaluation.Index
-end_at stop.InputEnd = Some evaluation.InputEnd
-end_at stop.CallBound = Some evaluation.CallBound
-end_at stop.TurnBound = Some evaluation.TurnBound
-end_at stop.Memory = None
+abbrev pub end_of_stop : Stop → Option Halt
+end_of_stop stop.Overflow = Some evaluation.Overflow
+end_of_stop stop.Divisor = Some evaluation.Divisor
+end_of_stop stop.Index = Some evaluation.Index
+end_of_stop stop.InputEnd = Some evaluation.InputEnd
+end_of_stop stop.CallBound = Some evaluation.CallBound
+end_of_stop stop.TurnBound = Some evaluation.TurnBound
+end_of_stop stop.Memory = None
 
 -- the outcome of an evaluation that is returned as a `Result`
-abbrev pub outcome_of_result : {A : Type 0} → Result A Ending → StepResult A
+abbrev pub outcome_of_result : {A : Type 0} → Result A EvaluationFault → StepResult A
 outcome_of_result (Ok a) = gives a
 outcome_of_result (Err e) = ends (end_of e)
 
 -- the outcome of an evaluation that is returned with one tag
-abbrev pub outcome_of : {A : Type 0} → Evaluated A → StepResult A
-outcome_of (evaluated.Value a) = gives a
-outcome_of evaluated.Overflow = ends evaluation.Overflow
-outcome_of evaluated.Divisor = ends evaluation.Divisor
-outcome_of evaluated.Index = ends evaluation.Index
+abbrev pub outcome_of : {A : Type 0} → FlatOutcome A → StepResult A
+outcome_of (flat_outcome.Value a) = gives a
+outcome_of flat_outcome.Overflow = ends evaluation.Overflow
+outcome_of flat_outcome.Divisor = ends evaluation.Divisor
+outcome_of flat_outcome.Index = ends evaluation.Index
 
 -- the number as an outcome; None, for a result of more than 32 bits, is the end Overflow
-abbrev pub if_there : Option ℤ → StepResult ℤ
-if_there None = ends evaluation.Overflow
-if_there (Some n) = gives n
+abbrev pub number_or_overflow : Option ℤ → StepResult ℤ
+number_or_overflow None = ends evaluation.Overflow
+number_or_overflow (Some n) = gives n
 
 -- the outcome of a link that is applied to a number
-abbrev pub linked : Levels → List ℤ → Link → ℤ → StepResult ℤ
-linked ls cells l left = number ls cells (applied l (literal left))
+abbrev pub link_outcome : Levels → List ℤ → Link → ℤ → StepResult ℤ
+link_outcome ls cells l left = number ls cells (applied l (literal left))

@@ -3,7 +3,7 @@
 -- by the rules of docs/LANGUAGE.md, Runs 2 to 4.
 use Rattle.std.specs.Prelude.{ℕ, suc, zero, ◌+◌, ◌*◌, ◌%◌, ◌^◌, Bool, true, false, not, ◌&&◌, List, [], ◌∷◌, Option, None, Some, ℤ, pos, negsuc, ◌+ℤ◌, ◌-ℤ◌, ◌*ℤ◌, neg_ℤ, if◌then◌else◌, nat_lt, slice_index_or, int_lt, int_le, drop}
 use Rattle.ob0_language_values.specs.Division as division
-use Rattle.ob0_language_values.specs.Division.{divided}
+use Rattle.ob0_language_values.specs.Division.{checked_division}
 pub use Rattle.ob0_language_values.specs.Values.{fits, same_truth}
 use Rattle.ob0_run_machine.specs.Lowered.{Place, in_module, here, outside, passed, element, Number, literal, cell, negative, operation, Operator, sum, difference, product, quotient, remainder, Comparator, equal, not_equal, less, less_equal, greater, greater_equal, Truth, constant, flag, negation, both, either, related, same, different}
 
@@ -33,61 +33,61 @@ abbrev pub Levels : Type 0
 Levels = List Level
 
 -- the first activation of a list; for the empty list one with base 0 and no addresses
-abbrev pub innermost : Levels → Level
-innermost [] = record { base = 0; addresses = [] }
-innermost (l ∷ ls) = l
+abbrev pub innermost_level : Levels → Level
+innermost_level [] = record { base = 0; addresses = [] }
+innermost_level (l ∷ ls) = l
 
 -- the activation `up` levels out
 abbrev pub level_at : Levels → ℕ → Level
-level_at ls up = innermost (drop up ls)
+level_at ls up = innermost_level (drop up ls)
 
 -- the address at an offset after another address; the sum wraps at 64 bits
-abbrev pub forward : ℕ → ℕ → ℕ
-forward address offset = (address + offset) % 2 ^ 64
+abbrev pub add_offset : ℕ → ℕ → ℕ
+add_offset address offset = (address + offset) % 2 ^ 64
 
 -- the address of an array's element; the end Index if the index is negative or not below the length
-abbrev pub element_at : ℕ → ℕ → ℕ → ℤ → StepResult ℕ
-element_at address length stride (pos i) =
-    if nat_lt i length then gives (forward address (i * stride)) else ends Index
-element_at address length stride (negsuc i) = ends Index
+abbrev pub element_address : ℕ → ℕ → ℕ → ℤ → StepResult ℕ
+element_address address length stride (pos i) =
+    if nat_lt i length then gives (add_offset address (i * stride)) else ends Index
+element_address address length stride (negsuc i) = ends Index
 
 -- the value of a cell, or 0 if there is no cell at the address
 abbrev pub cell_at : List ℤ → ℕ → ℤ
 cell_at cells address = slice_index_or cells address (pos 0)
 
 -- the number as an outcome; the end Overflow if it has more than 32 bits
-abbrev pub in_range : ℤ → StepResult ℤ
-in_range n = if fits n then gives n else ends Overflow
+abbrev pub checked_number : ℤ → StepResult ℤ
+checked_number n = if fits n then gives n else ends Overflow
 
 -- the result of a division as an outcome; None, for a divisor below 1, is the end Divisor
-abbrev pub divided_by : Option ℤ → StepResult ℤ
-divided_by None = ends Divisor
-divided_by (Some n) = in_range n
+abbrev pub division_outcome : Option ℤ → StepResult ℤ
+division_outcome None = ends Divisor
+division_outcome (Some n) = checked_number n
 
 -- the outcome of an operator on two numbers
 abbrev pub operate : Operator → ℤ → ℤ → StepResult ℤ
-operate sum a b = in_range (a +ℤ b)
-operate difference a b = in_range (a -ℤ b)
-operate product a b = in_range (a *ℤ b)
-operate quotient a b = divided_by (divided division.quotient a b)
-operate remainder a b = divided_by (divided division.remainder a b)
+operate sum a b = checked_number (a +ℤ b)
+operate difference a b = checked_number (a -ℤ b)
+operate product a b = checked_number (a *ℤ b)
+operate quotient a b = division_outcome (checked_division division.quotient a b)
+operate remainder a b = division_outcome (checked_division division.remainder a b)
 
 abbrev mutual
   -- the address of a place; the end Index if an array has no such element
   pub address : Levels → List ℤ → Place → StepResult ℕ
   address ls cells (in_module offset) = gives offset
-  address ls cells (here offset) = gives (forward (innermost ls).base offset)
-  address ls cells (outside up offset) = gives (forward (level_at ls up).base offset)
+  address ls cells (here offset) = gives (add_offset (innermost_level ls).base offset)
+  address ls cells (outside up offset) = gives (add_offset (level_at ls up).base offset)
   address ls cells (passed up index offset) =
-      gives (forward (slice_index_or (level_at ls up).addresses index 0) offset)
+      gives (add_offset (slice_index_or (level_at ls up).addresses index 0) offset)
   address ls cells (element p i length stride offset) =
-      address ls cells p >>= (λ a. number ls cells i >>= element_at (forward a offset) length stride)
+      address ls cells p >>= (λ a. number ls cells i >>= element_address (add_offset a offset) length stride)
 
   -- the value of a number; each result of an operation has 32 bits, or the run ends
   pub number : Levels → List ℤ → Number → StepResult ℤ
   number ls cells (literal n) = gives n
   number ls cells (cell p) = address ls cells p >>= (λ a. gives (cell_at cells a))
-  number ls cells (negative n) = number ls cells n >>= (λ a. in_range (neg_ℤ a))
+  number ls cells (negative n) = number ls cells n >>= (λ a. checked_number (neg_ℤ a))
   number ls cells (operation o m n) = number ls cells m >>= (λ a. number ls cells n >>= operate o a)
 
 -- true if a relation holds between two numbers

@@ -5,7 +5,7 @@
 -- by the rules of docs/LANGUAGE.md, Runs 5 to 10.
 use Rattle.std.specs.Prelude.{ℕ, zero, suc, ◌+◌, ◌-◌, ◌^◌, Bool, true, false, ◌&&◌, List, [], ◌∷◌, ◌++◌, length, take, drop, replicate, ℤ, pos, Some, None, Option, if◌then◌else◌, nat_le, nat_lt, slice_get, slice_set}
 use Rattle.ob0_run_machine.specs.Lowered.{LoweredArgument, by_place, by_number, by_truth, by_block, Instruction, stores_number, stores_truth, copies, reads, writes, writes_line, chooses, while_loop, repeat_loop, calls, Instructions, no_statement, before, Branches, no_branch, branch, Routine, LoweredCode}
-use Rattle.ob0_run_machine.specs.Evaluation.{CallBound, Done, Halt, InputEnd, StepResult, Levels, TurnBound, address, as_cell, ends, gives, innermost, number, truth, ◌>>=◌}
+use Rattle.ob0_run_machine.specs.Evaluation.{CallBound, Done, Halt, InputEnd, StepResult, Levels, TurnBound, address, as_cell, ends, gives, innermost_level, number, truth, ◌>>=◌}
 
 -- an item of output: a number, or the end of a line
 pub data OutputItem : Type 0 where
@@ -26,10 +26,10 @@ pub data MachineProgress : Type 0 where
   no_room : MachineProgress
 
 -- the run after an evaluation: `next` uses its value, or its end is the end of the run
-abbrev pub use_in : {A : Type 0} → MachineState → StepResult A → (A → MachineProgress)
+abbrev pub use_result : {A : Type 0} → MachineState → StepResult A → (A → MachineProgress)
     → MachineProgress
-use_in s (gives a) next = next a
-use_in s (ends e) next = stopped e s.output
+use_result s (gives a) next = next a
+use_result s (ends e) next = stopped e s.output
 
 -- a run, followed by a further step if the run hasn't ended
 abbrev pub continue_with : MachineProgress → (MachineState → MachineProgress) → MachineProgress
@@ -56,8 +56,8 @@ store_at s a n = record s { cells = slice_set s.cells a n }
 
 -- the cells after n cells were copied from one address to another; unchanged if there are too few
 -- cells at either address
-abbrev pub copied : List ℤ → (to from n : ℕ) → List ℤ
-copied cells to from n =
+abbrev pub cells_after_copy : List ℤ → (to from n : ℕ) → List ℤ
+cells_after_copy cells to from n =
     if nat_le (to + n) (length cells) && nat_le (from + n) (length cells)
     then take to cells ++ (take n (drop from cells) ++ drop (to + n) cells)
     else cells
@@ -79,17 +79,17 @@ read_number s a (n ∷ rest) = running (store_at (record s { input = rest }) a n
 
 -- the arguments passed so far: the values as cells at the end of all cells, the places as
 -- addresses, both in the order of the parameters
-pub record Passed : Type 0 where
+pub record CallArguments : Type 0 where
   pub cells : List ℤ
   pub addresses : List ℕ
 
 -- the passed arguments with more cells at the end
-abbrev pub pass_cells : Passed → List ℤ → Passed
+abbrev pub pass_cells : CallArguments → List ℤ → CallArguments
 pass_cells p more = record p { cells = p.cells ++ more }
 
 -- the passed arguments with one more argument: the address of a VAR argument, or the cells of a
 -- value
-abbrev pub pass : Levels → LoweredArgument → Passed → StepResult Passed
+abbrev pub pass : Levels → LoweredArgument → CallArguments → StepResult CallArguments
 pass ls (by_place p) done =
     address ls done.cells p >>= (λ a. gives record done { addresses = done.addresses ++ a ∷ [] })
 pass ls (by_number n) done = number ls done.cells n >>= (λ a. gives (pass_cells done (a ∷ [])))
@@ -99,34 +99,34 @@ pass ls (by_block p n) done =
     address ls done.cells p >>= (λ a. gives (pass_cells done (block_at done.cells a n)))
 
 -- the passed arguments with more arguments, which are evaluated and passed from left to right
-abbrev pub pass_all : Levels → List LoweredArgument → Passed → StepResult Passed
+abbrev pub pass_all : Levels → List LoweredArgument → CallArguments → StepResult CallArguments
 pass_all ls [] done = gives done
 pass_all ls (a ∷ as_given) done = pass ls a done >>= pass_all ls as_given
 
 -- the run of a WHILE: if its condition is TRUE and no iteration of t is left, the run ends with
 -- TurnBound; if one is left, it is made; if the condition is FALSE, the statement ends
-abbrev pub turns : ℕ → (MachineState → StepResult Bool)
+abbrev pub execute_while : ℕ → (MachineState → StepResult Bool)
     → (MachineState → MachineProgress)
     → MachineState
     → MachineProgress
-turns zero condition statements s =
+execute_while zero condition statements s =
     choose s (condition s) (λ s'. stopped TurnBound s'.output) running
-turns (suc t) condition statements s =
-    choose s (condition s) (λ s'. continue_with (statements s') (turns t condition statements))
+execute_while (suc t) condition statements s =
+    choose s (condition s) (λ s'. continue_with (statements s') (execute_while t condition statements))
     running
 
 -- the run of a REPEAT: it makes an iteration and then evaluates its condition; TRUE ends the
 -- statement; FALSE ends the run with TurnBound if no iteration of t after the first is left;
 -- otherwise one more is made
-abbrev pub turns_until : ℕ → (MachineState → StepResult Bool)
+abbrev pub execute_repeat : ℕ → (MachineState → StepResult Bool)
     → (MachineState → MachineProgress)
     → MachineState
     → MachineProgress
-turns_until zero condition turn s =
+execute_repeat zero condition turn s =
     continue_with (turn s)
     (λ s'. choose s' (condition s') running (λ s''. stopped TurnBound s''.output))
-turns_until (suc t) condition turn s =
-    continue_with (turn s) (λ s'. choose s' (condition s') running (turns_until t condition turn))
+execute_repeat (suc t) condition turn s =
+    continue_with (turn s) (λ s'. choose s' (condition s') running (execute_repeat t condition turn))
 
 -- the effect of a call whose arguments have been passed: a function of the procedure's index, the
 -- activations that its body sees, its own first, and the state
@@ -134,8 +134,8 @@ abbrev pub CallEffect : Type 0
 CallEffect = ℕ → Levels → MachineState → MachineProgress
 
 -- the activations that a called procedure sees: its own, and those from `up` levels out
-abbrev pub entered : Levels → (base up : ℕ) → Passed → Levels
-entered ls base up p = record { base = base; addresses = p.addresses } ∷ drop up ls
+abbrev pub levels_in_call : Levels → (base up : ℕ) → CallArguments → Levels
+levels_in_call ls base up p = record { base = base; addresses = p.addresses } ∷ drop up ls
 
 -- the run of statements; an assignment finds its place, then evaluates its right side, then stores
 unfoldable mutual
@@ -143,27 +143,27 @@ unfoldable mutual
   -- loop
   pub execute : CallEffect → ℕ → Levels → Instruction → MachineState → MachineProgress
   execute enter t ls (stores_number p n) s =
-      use_in s (address ls s.cells p)
-      (λ a. use_in s (number ls s.cells n) (λ v. running (store_at s a v)))
+      use_result s (address ls s.cells p)
+      (λ a. use_result s (number ls s.cells n) (λ v. running (store_at s a v)))
   execute enter t ls (stores_truth p u) s =
-      use_in s (address ls s.cells p)
-      (λ a. use_in s (truth ls s.cells u) (λ v. running (store_at s a (as_cell v))))
+      use_result s (address ls s.cells p)
+      (λ a. use_result s (truth ls s.cells u) (λ v. running (store_at s a (as_cell v))))
   execute enter t ls (copies p q n) s =
-      use_in s (address ls s.cells p) (λ to. use_in s (address ls s.cells q)
-      (λ from. running record s { cells = copied s.cells to from n }))
-  execute enter t ls (reads p) s = use_in s (address ls s.cells p) (λ a. read_number s a s.input)
+      use_result s (address ls s.cells p) (λ to. use_result s (address ls s.cells q)
+      (λ from. running record s { cells = cells_after_copy s.cells to from n }))
+  execute enter t ls (reads p) s = use_result s (address ls s.cells p) (λ a. read_number s a s.input)
   execute enter t ls (writes n) s =
-      use_in s (number ls s.cells n) (λ v. running (append_output s (number_out v)))
+      use_result s (number ls s.cells n) (λ v. running (append_output s (number_out v)))
   execute enter t ls writes_line s = running (append_output s line_out)
   execute enter t ls (chooses bs otherwise) s =
       execute_branches enter t ls bs (execute_all enter t ls otherwise) s
   execute enter t ls (while_loop c body) s =
-      turns t (λ s'. truth ls s'.cells c) (execute_all enter t ls body) s
+      execute_while t (λ s'. truth ls s'.cells c) (execute_all enter t ls body) s
   execute enter t ls (repeat_loop body c) s =
-      turns_until (t - 1) (λ s'. truth ls s'.cells c) (execute_all enter t ls body) s
+      execute_repeat (t - 1) (λ s'. truth ls s'.cells c) (execute_all enter t ls body) s
   execute enter t ls (calls k up args) s =
-      use_in s (pass_all ls args record { cells = s.cells; addresses = [] })
-      (λ p. enter k (entered ls (length s.cells) up p) record s { cells = p.cells })
+      use_result s (pass_all ls args record { cells = s.cells; addresses = [] })
+      (λ p. enter k (levels_in_call ls (length s.cells) up p) record s { cells = p.cells })
 
   -- the run of statements, one after the other
   pub execute_all : CallEffect → ℕ → Levels → Instructions → MachineState → MachineProgress
@@ -188,8 +188,8 @@ drop_variables n (stopped e out) = stopped e out
 drop_variables n no_room = no_room
 
 -- a run that begins with n new cells at the end, if all cells have addresses of 64 bits
-abbrev pub with_cells : ℕ → (MachineState → MachineProgress) → MachineState → MachineProgress
-with_cells n next s =
+abbrev pub run_with_cells : ℕ → (MachineState → MachineProgress) → MachineState → MachineProgress
+run_with_cells n next s =
     if nat_lt (length s.cells + n) (2 ^ 64)
     then next record s { cells = s.cells ++ zeros n }
     else no_room
@@ -199,7 +199,7 @@ with_cells n next s =
 unfoldable pub activate : CallEffect → ℕ → Levels → Option Routine → MachineState → MachineProgress
 unfolding execute_all
 activate enter t ls None s = running s
-activate enter t ls (Some p) s = with_cells p.cells (execute_all enter t ls p.body) s
+activate enter t ls (Some p) s = run_with_cells p.cells (execute_all enter t ls p.body) s
 
 -- the effect of calls, of which c more may be open: the procedure's body runs, then its cells are
 -- dropped; if c is 0, the run ends with CallBound
@@ -207,7 +207,7 @@ unfoldable pub call : List Routine → ℕ → ℕ → CallEffect
 unfolding activate
 call procedures zero t k ls s = stopped CallBound s.output
 call procedures (suc c) t k ls s =
-    drop_variables (innermost ls).base
+    drop_variables (innermost_level ls).base
     (activate (call procedures c t) t ls (slice_get procedures k) s)
 
 -- the output and the end of a run
@@ -217,10 +217,10 @@ pub record MachineRun : Type 0 where
 
 -- the output and the end of a run: Done if it reached the end of the program; None if it had no
 -- room
-abbrev pub finished : MachineProgress → Option MachineRun
-finished (running s) = Some (record { output = s.output; ending = Done })
-finished (stopped e out) = Some (record { output = out; ending = e })
-finished no_room = None
+abbrev pub run_result : MachineProgress → Option MachineRun
+run_result (running s) = Some (record { output = s.output; ending = Done })
+run_result (stopped e out) = Some (record { output = out; ending = e })
+run_result no_room = None
 
 -- the activations that the module's body sees: only the module's, with base 0
 abbrev pub outermost : Levels
@@ -230,6 +230,6 @@ outermost = record { base = 0; addresses = [] } ∷ []
 unfoldable pub run : LoweredCode → List ℤ → ℕ → ℕ → Option MachineRun
 unfolding execute_all call
 run program input c t =
-    finished (with_cells program.cells
+    run_result (run_with_cells program.cells
     (execute_all (call program.procedures c t) t outermost program.body) record
     { cells = []; input = input; output = [] })

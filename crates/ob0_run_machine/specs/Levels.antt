@@ -19,9 +19,9 @@ abbrev mutual
   levels_after (code.Some' pointer l) = levels_of l
 
 -- the activations that a `Level` sees, itself first; none without a `Level`
-abbrev pub levels_seen : Option (Bor code.Level) → Levels
-levels_seen None = []
-levels_seen (Some l) = levels_of l.now
+abbrev pub levels_of_option : Option (Bor code.Level) → Levels
+levels_of_option None = []
+levels_of_option (Some l) = levels_of l.now
 
 -- the addresses of a call's VAR parameters
 abbrev pub addresses_in : Addresses → List ℕ

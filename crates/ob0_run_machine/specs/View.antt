@@ -11,7 +11,7 @@ use Rattle.ob0_run_machine.specs.declared.code.Chain as chain
 use Rattle.ob0_run_machine.specs.declared.code.Variable.{Variable}
 use Rattle.ob0_run_machine.specs.declared.code.Variable.TheVariants as variable
 use Rattle.ob0_run_machine.specs.declared.code.Reference.{Reference}
-use Rattle.ob0_run_machine.specs.declared.code.Row.{Row}
+use Rattle.ob0_run_machine.specs.declared.code.VariableElement.{VariableElement}
 use Rattle.ob0_run_machine.specs.declared.code.Operator.{Operator}
 use Rattle.ob0_run_machine.specs.declared.code.Operator.TheVariants as operator
 use Rattle.ob0_run_machine.specs.declared.code.Operation.{Operation, out-Operation}
@@ -23,7 +23,7 @@ use Rattle.ob0_run_machine.specs.declared.code.Comparator.{Comparator}
 use Rattle.ob0_run_machine.specs.declared.code.Comparator.TheVariants as relation
 use Rattle.ob0_run_machine.specs.declared.code.Truth as truth
 use Rattle.ob0_run_machine.specs.declared.code.Truth.{Truth}
-use Rattle.ob0_run_machine.specs.declared.code.Several.{Several, out-Several}
+use Rattle.ob0_run_machine.specs.declared.code.TruthList.{TruthList, out-TruthList}
 use Rattle.ob0_run_machine.specs.declared.code.Argument as argument_type
 use Rattle.ob0_run_machine.specs.declared.code.Argument.TheVariants as argument
 use Rattle.ob0_run_machine.specs.declared.code.Instruction as statement
@@ -55,9 +55,9 @@ variable_of (variable.ByReference index offset) = lowered.passed 0 index offset
 abbrev pub reference_of : Reference → lowered.Place
 reference_of r = lowered.passed r.up r.index r.offset
 
--- the lowered place that a `Row` stands for: an element whose index is the value of a variable
-abbrev pub row_of : Row → lowered.Place
-row_of r =
+-- the lowered place that a `VariableElement` stands for: an element whose index is the value of a variable
+abbrev pub variable_element_of : VariableElement → lowered.Place
+variable_element_of r =
     lowered.element (variable_of r.array) (lowered.cell (variable_of r.index)) r.length r.stride
     r.offset
 
@@ -65,7 +65,7 @@ abbrev mutual
   -- the lowered place that a `Place` stands for
   pub place_of : Place → lowered.Place
   place_of (place.Variable v) = variable_of v
-  place_of (place.Row r) = row_of r.value
+  place_of (place.VariableElement r) = variable_element_of r.value
   place_of (place.Outside up offset) = lowered.outside up offset
   place_of (place.Passed r) = reference_of r.value
   place_of (place.Element' pointer array index length stride offset) =
@@ -78,7 +78,7 @@ abbrev mutual
   number_of (number.Cell p) = lowered.cell (place_of p)
   number_of (number.Negative' pointer n) = lowered.negative (number_of n)
   number_of (number.Operation' pointer begin l) = applied l (first_of begin)
-  number_of (number.Chain' pointer begin shape row) = chained_by row (first_of begin)
+  number_of (number.Chain' pointer begin shape row) = chain_by_row row (first_of begin)
 
   -- the lowered number that the first operand of an operation or a chain stands for
   pub first_of : FirstOperand → lowered.Number
@@ -116,9 +116,9 @@ abbrev mutual
   applied (link.Other o n) left = lowered.operation (operator_of o) left (number_of n)
 
   -- the operations that a row of links applies to a number, one after the other
-  pub chained_by : {n : _} → number.Row_of-Link n → lowered.Number → lowered.Number
-  chained_by number.end_of-Link left = left
-  chained_by (number.more_of-Link l row) left = chained_by row (applied l left)
+  pub chain_by_row : {n : _} → number.Row_of-Link n → lowered.Number → lowered.Number
+  chain_by_row number.end_of-Link left = left
+  chain_by_row (number.more_of-Link l row) left = chain_by_row row (applied l left)
 
 -- the lowered place that an `Element` stands for, by its fields
 abbrev pub element_of : Element → lowered.Place
@@ -131,13 +131,13 @@ abbrev pub operation_of : Operation → lowered.Number
 operation_of o = applied (out-Operation o).link (first_of (out-Operation o).first)
 
 -- the operations that a list of links applies to a number, one after the other
-abbrev pub chained_from : lowered.Number → List Link → lowered.Number
-chained_from left [] = left
-chained_from left (l ∷ ls) = chained_from (applied l left) ls
+abbrev pub chain_on_operand : lowered.Number → List Link → lowered.Number
+chain_on_operand left [] = left
+chain_on_operand left (l ∷ ls) = chain_on_operand (applied l left) ls
 
 -- the lowered number that a `Chain` stands for
-abbrev pub chained_in : chain.Chain → lowered.Number
-chained_in c = chained_from (first_of (chain.out-Chain c).first) (chain.out-Chain c).rest.items
+abbrev pub chain_of : chain.Chain → lowered.Number
+chain_of c = chain_on_operand (first_of (chain.out-Chain c).first) (chain.out-Chain c).rest.items
 
 -- the lowered relation that a `Comparator` stands for
 abbrev pub relation_of : Comparator → lowered.Comparator
@@ -149,17 +149,17 @@ relation_of relation.Greater = lowered.greater
 relation_of relation.GreaterEqual = lowered.greater_equal
 
 -- the truth that a relation holds between two numbers of the code
-abbrev pub related_by : Comparator → Operands → lowered.Truth
-related_by r o = lowered.related (relation_of r) (number_of o.left) (number_of o.right)
+abbrev pub operands_relation : Comparator → Operands → lowered.Truth
+operands_relation r o = lowered.related (relation_of r) (number_of o.left) (number_of o.right)
 
 -- the truth that a relation holds between a variable of the code and a lowered number
-abbrev pub compared_by : Comparator → Variable → lowered.Number → lowered.Truth
-compared_by r v n = lowered.related (relation_of r) (lowered.cell (variable_of v)) n
+abbrev pub variable_relation : Comparator → Variable → lowered.Number → lowered.Truth
+variable_relation r v n = lowered.related (relation_of r) (lowered.cell (variable_of v)) n
 
 -- the truth that a relation holds between an element and a variable of the code
-abbrev pub row_compared : Comparator → Row → Variable → lowered.Truth
-row_compared r q v =
-    lowered.related (relation_of r) (lowered.cell (row_of q)) (lowered.cell (variable_of v))
+abbrev pub element_relation : Comparator → VariableElement → Variable → lowered.Truth
+element_relation r q v =
+    lowered.related (relation_of r) (lowered.cell (variable_element_of q)) (lowered.cell (variable_of v))
 
 abbrev mutual
   -- the lowered truth that a `Truth` stands for
@@ -172,11 +172,11 @@ abbrev mutual
   truth_of (truth.Either' pointer left right) = lowered.either (truth_of left) (truth_of right)
   truth_of (truth.All' pointer first shape row) = all_of row (truth_of first)
   truth_of (truth.Any' pointer first shape row) = any_of row (truth_of first)
-  truth_of (truth.Related r o) = related_by r o.value
-  truth_of (truth.LessThanLiteral v n) = compared_by relation.Less v (lowered.literal n)
-  truth_of (truth.ComparedToLiteral r v n) = compared_by r v (lowered.literal n)
-  truth_of (truth.ComparedToVariable r v w) = compared_by r v (lowered.cell (variable_of w))
-  truth_of (truth.RowToVariable r q v) = row_compared r q.value v
+  truth_of (truth.Related r o) = operands_relation r o.value
+  truth_of (truth.LessThanLiteral v n) = variable_relation relation.Less v (lowered.literal n)
+  truth_of (truth.ComparedToLiteral r v n) = variable_relation r v (lowered.literal n)
+  truth_of (truth.ComparedToVariable r v w) = variable_relation r v (lowered.cell (variable_of w))
+  truth_of (truth.ElementToVariable r q v) = element_relation r q.value v
   truth_of (truth.Same' pointer left right) = lowered.same (truth_of left) (truth_of right)
   truth_of (truth.Different' pointer left right) =
       lowered.different (truth_of left) (truth_of right)
@@ -192,22 +192,22 @@ abbrev mutual
   any_of (truth.more_of-Truth t row) left = any_of row (lowered.either left (truth_of t))
 
 -- this truth and the truths of a list, joined by `&` from left to right
-abbrev pub all_from : lowered.Truth → List Truth → lowered.Truth
-all_from left [] = left
-all_from left (t ∷ ts) = all_from (lowered.both left (truth_of t)) ts
+abbrev pub conjunction_from : lowered.Truth → List Truth → lowered.Truth
+conjunction_from left [] = left
+conjunction_from left (t ∷ ts) = conjunction_from (lowered.both left (truth_of t)) ts
 
 -- this truth and the truths of a list, joined by OR from left to right
-abbrev pub any_from : lowered.Truth → List Truth → lowered.Truth
-any_from left [] = left
-any_from left (t ∷ ts) = any_from (lowered.either left (truth_of t)) ts
+abbrev pub disjunction_from : lowered.Truth → List Truth → lowered.Truth
+disjunction_from left [] = left
+disjunction_from left (t ∷ ts) = disjunction_from (lowered.either left (truth_of t)) ts
 
--- the truths of a `Several`, joined by `&`
-abbrev pub all_in : Several → lowered.Truth
-all_in s = all_from (truth_of (out-Several s).first) (out-Several s).rest.items
+-- the truths of a `TruthList`, joined by `&`
+abbrev pub conjunction_of : TruthList → lowered.Truth
+conjunction_of s = conjunction_from (truth_of (out-TruthList s).first) (out-TruthList s).rest.items
 
--- the truths of a `Several`, joined by OR
-abbrev pub any_in : Several → lowered.Truth
-any_in s = any_from (truth_of (out-Several s).first) (out-Several s).rest.items
+-- the truths of a `TruthList`, joined by OR
+abbrev pub disjunction_of : TruthList → lowered.Truth
+disjunction_of s = disjunction_from (truth_of (out-TruthList s).first) (out-TruthList s).rest.items
 
 -- the lowered argument that an `Argument` stands for
 abbrev pub argument_of : argument_type.Argument → lowered.LoweredArgument
@@ -221,8 +221,8 @@ abbrev pub call_of : call.ProcedureCall → lowered.Instruction
 call_of c = lowered.calls c.procedure c.up (map argument_of c.arguments.items)
 
 -- the statement that adds a number to a variable
-abbrev pub increases : Variable → ℤ → lowered.Instruction
-increases v n =
+abbrev pub variable_increase : Variable → ℤ → lowered.Instruction
+variable_increase v n =
     lowered.stores_number (variable_of v)
     (lowered.operation lowered.sum (lowered.cell (variable_of v)) (lowered.literal n))
 
@@ -231,13 +231,13 @@ abbrev mutual
   pub statement_of : Instruction → lowered.Instruction
   statement_of (statement.StoreNumber p n) = lowered.stores_number (place_of p) (number_of n)
   statement_of (statement.StoreVariable v n) = lowered.stores_number (variable_of v) (number_of n)
-  statement_of (statement.StoreChain v c) = lowered.stores_number (variable_of v) (chained_in c.value)
-  statement_of (statement.Increase v n) = increases v n
+  statement_of (statement.StoreChain v c) = lowered.stores_number (variable_of v) (chain_of c.value)
+  statement_of (statement.Increase v n) = variable_increase v n
   statement_of (statement.Update v l) =
       lowered.stores_number (variable_of v) (applied l (lowered.cell (variable_of v)))
   statement_of (statement.StoreTruth p t) = lowered.stores_truth (place_of p) (truth_of t)
   statement_of (statement.StoreConstant r b) =
-      lowered.stores_truth (row_of r.value) (lowered.constant b)
+      lowered.stores_truth (variable_element_of r.value) (lowered.constant b)
   statement_of (statement.Copy p q n) = lowered.copies (place_of p) (place_of q) n
   statement_of (statement.Read p) = lowered.reads (place_of p)
   statement_of (statement.Write n) = lowered.writes (number_of n)
@@ -299,16 +299,16 @@ program_of p =
     }
 
 -- the lowered branches that the ELSIF parts of an IF stand for
-abbrev pub others_in : if_statement.Conditional → lowered.Branches
-others_in i = all_branches (if_statement.out-Conditional i).others.items
+abbrev pub elsif_branches : if_statement.Conditional → lowered.Branches
+elsif_branches i = all_branches (if_statement.out-Conditional i).others.items
 
 -- the lowered statements that run if no condition of an IF is TRUE
-abbrev pub otherwise_in : if_statement.Conditional → lowered.Instructions
-otherwise_in i = sequence_of (if_statement.out-Conditional i).otherwise.items
+abbrev pub else_statements : if_statement.Conditional → lowered.Instructions
+else_statements i = sequence_of (if_statement.out-Conditional i).otherwise.items
 
 -- the lowered IF that a `Conditional` stands for, by its fields
-abbrev pub branches_in : if_statement.Conditional → lowered.Instruction
-branches_in i =
+abbrev pub conditional_of : if_statement.Conditional → lowered.Instruction
+conditional_of i =
     lowered.chooses
     (lowered.branch (truth_of (if_statement.out-Conditional i).condition)
-    (sequence_of (if_statement.out-Conditional i).body.items) (others_in i)) (otherwise_in i)
+    (sequence_of (if_statement.out-Conditional i).body.items) (elsif_branches i)) (else_statements i)

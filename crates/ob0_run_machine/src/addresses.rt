@@ -18,7 +18,12 @@ pub(crate) enum Addresses {
 }
 
 /// Returns the list of three addresses.
-fn three(memory: &mut Memory, a: usize, b: usize, c: usize) -> Result<Addresses, AllocError>
+fn three_addresses(
+    memory: &mut Memory,
+    a: usize,
+    b: usize,
+    c: usize,
+) -> Result<Addresses, AllocError>
     ensures listed { IfOk result (λ r. addresses_in r ≡ a ∷ b ∷ c ∷ []) }
     ensures failed { OnErr result (has_failed memory.new ≡ true) }
 {
@@ -45,7 +50,7 @@ impl Addresses {
             }
             Addresses::Two(a, b) => {
                 let (a, b) = (*a, *b);
-                *self = three(memory, a, b, address)?;
+                *self = three_addresses(memory, a, b, address)?;
             }
             Addresses::More(all) => memory.push(all, address)?,
         }

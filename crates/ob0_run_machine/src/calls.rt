@@ -1,16 +1,16 @@
 //! Calls of procedures. A call's cells are dropped when it returns.
 
 ghost use Rattle.std.specs.Prelude.{◌≡◌, map, option_map, slice_get, take};
-ghost use Rattle.ob0_run_machine.specs.Evaluation.{innermost};
+ghost use Rattle.ob0_run_machine.specs.Evaluation.{innermost_level};
 ghost use Rattle.ob0_run_machine.specs.Levels.{levels_of};
-ghost use Rattle.ob0_run_machine.specs.Machines.{MachineDoes, Enters, activated, state_of};
+ghost use Rattle.ob0_run_machine.specs.Machines.{MachineDoes, CallSteps, activation_effect, state_of};
 ghost use Rattle.ob0_run_machine.specs.View.{procedure_of};
 
 use crate::code::{LoweredCode, Routine};
 use crate::ending::Stop;
 use crate::level::Level;
 use crate::machine::Machine;
-use crate::statements::run_inlined;
+use crate::statements::run_sequence_inline;
 
 /// Returns the procedure at an index, or None if there is no such procedure.
 #[inline(always)]
@@ -35,7 +35,7 @@ fn activate<F: Fn(&mut Machine<'_>, usize, &Level<'_>) -> Result<(), Stop>>(
 ) -> Result<(), Stop>
     requires { F.IsAlwaysCallable enter.now }
     ensures { MachineDoes (F.post enter.now) result machine.old machine.new
-        (activated (option_map (λ p. procedure_of p.now) procedure.entry) turns
+        (activation_effect (option_map (λ p. procedure_of p.now) procedure.entry) turns
         (levels_of level.now)) }
 {
     match procedure {
@@ -44,7 +44,7 @@ fn activate<F: Fn(&mut Machine<'_>, usize, &Level<'_>) -> Result<(), Stop>>(
             machine
                 .memory
                 .push_zeros(&mut machine.cells, procedure.cells)?;
-            run_inlined(&procedure.body, level, turns, machine, enter)
+            run_sequence_inline(&procedure.body, level, turns, machine, enter)
         }
     }
 }
@@ -53,7 +53,7 @@ fn activate<F: Fn(&mut Machine<'_>, usize, &Level<'_>) -> Result<(), Stop>>(
 fn drop_variables(machine: &mut Machine<'_>, level: &Level<'_>)
     ensures { state_of machine.new
         ≡ record (state_of machine.old)
-        { cells = take (innermost (levels_of level.now)).base machine.old.cells.items } }
+        { cells = take (innermost_level (levels_of level.now)).base machine.old.cells.items } }
 {
     machine.cells.truncate(level.base);
 }
@@ -70,14 +70,14 @@ pub(crate) fn call(
     procedure: usize,
     level: &Level<'_>,
 ) -> Result<(), Stop>
-    ensures { Enters result machine.old machine.new program.now calls turns procedure level.now }
+    ensures { CallSteps result machine.old machine.new program.now calls turns procedure level.now }
 {
     if calls == 0 {
         return Err(Stop::CallBound);
     }
     let left = calls - 1;
     let enter = |machine: &mut Machine<'_>, procedure: usize, level: &Level<'_>|
-        ensures { Enters result machine.old machine.new program.entry.now left turns procedure
+        ensures { CallSteps result machine.old machine.new program.entry.now left turns procedure
             level.now }
     { call(program, left, turns, machine, procedure, level) };
     let called = procedure_at(program.procedures.as_slice(), procedure);

@@ -6,19 +6,19 @@
 //!
 //! - A variable of the module or of the running activation, or at an offset from the address of a
 //!   VAR parameter, is one tag (`Variable`). It occurs as a number, as the target of an assignment,
-//!   and as the array and the index of a `Row`.
+//!   and as the array and the index of a `VariableElement`.
 //! - The operations of a chain are links, which are applied to the result so far. A `Link` has the
 //!   operator and a literal or a variable in one tag. Any other right operand is evaluated by a
-//!   called function (`apply_other`). `v + i * j` is also a chain (`VariableSum`), since `v` has
+//!   called function (`apply_to_expression`). `v + i * j` is also a chain (`VariableSum`), since `v` has
 //!   the same value before and after the product is evaluated.
 //! - `x := x + k` is an `Increase`, `x := x * y` an `Update`. The assignment of a chain to a
 //!   variable is a `StoreChain`.
 //! - A variable compared with a literal or a variable is one node (`LessThanLiteral`,
 //!   `ComparedToLiteral`, `ComparedToVariable`). The same holds for an element compared with a
-//!   variable (`RowToVariable`), for the assignment of TRUE or FALSE to an element
+//!   variable (`ElementToVariable`), for the assignment of TRUE or FALSE to an element
 //!   (`StoreConstant`), and for `~flag` (`Unset`).
 //! - Comparisons of variables are evaluated inline, flags and elements by small functions (`flag`,
-//!   `compare_row`), all other conditions by a large function (`flat_truth`).
+//!   `compare_element`), all other conditions by a large function (`evaluate_truth_flat`).
 //!
 //! Long sums, conjunctions and disjunctions are a `Chain`, an `All` and an `Any`. They mean pairs
 //! that are nested on the left, and loops evaluate them. So a long chain of operators needs no
@@ -57,7 +57,7 @@ pub enum Place {
     Passed(Box<Reference>),
     /// An element whose array and index are variables. It is an `Element` that is evaluated in one
     /// step.
-    Row(Box<Row>),
+    VariableElement(Box<VariableElement>),
     Element(Box<Element>),
 }
 
@@ -73,7 +73,7 @@ pub struct Reference {
 /// A place at an offset in an element of an array, if the array and the index are variables. The
 /// array has `length` elements of `stride` cells each.
 #[derive(Clone, Copy, PartialEq, Eq, Debug)]
-pub struct Row {
+pub struct VariableElement {
     pub array: Variable,
     pub index: Variable,
     pub length: usize,
@@ -183,12 +183,12 @@ pub enum Truth {
     /// The negation of a flag, in one step.
     Unset(Place),
     Negation(Box<Truth>),
-    Both(Box<Truths>),
-    Either(Box<Truths>),
+    Both(Box<TruthPair>),
+    Either(Box<TruthPair>),
     /// Many truths joined by `&`.
-    All(Box<Several>),
+    All(Box<TruthList>),
     /// Many truths joined by `OR`.
-    Any(Box<Several>),
+    Any(Box<TruthList>),
     Related(Comparator, Box<Operands>),
     /// A variable that is less than a literal: a `Related` in one step, like the next three.
     LessThanLiteral(Variable, i32),
@@ -196,15 +196,15 @@ pub enum Truth {
     ComparedToLiteral(Comparator, Variable, i32),
     ComparedToVariable(Comparator, Variable, Variable),
     /// An element compared with a variable.
-    RowToVariable(Comparator, Box<Row>, Variable),
-    Same(Box<Truths>),
-    Different(Box<Truths>),
+    ElementToVariable(Comparator, Box<VariableElement>, Variable),
+    Same(Box<TruthPair>),
+    Different(Box<TruthPair>),
 }
 
 /// The two sides of `&`, OR or a comparison of truth values.
 #[cycle(truths)]
 #[derive(Drop)]
-pub struct Truths {
+pub struct TruthPair {
     pub left: Truth,
     pub right: Truth,
 }
@@ -212,7 +212,7 @@ pub struct Truths {
 /// Truth values that are joined by `&` or by OR, from left to right.
 #[cycle(truths)]
 #[derive(Drop)]
-pub struct Several {
+pub struct TruthList {
     pub first: Truth,
     pub rest: Vec<Truth>,
 }
@@ -242,7 +242,7 @@ pub enum Instruction {
     Increase(Variable, i32),
     StoreTruth(Place, Truth),
     /// Assigns TRUE or FALSE to an element.
-    StoreConstant(Box<Row>, bool),
+    StoreConstant(Box<VariableElement>, bool),
     /// Copies cells from the second place to the first; the last field is their number.
     Copy(Place, Place, usize),
     Read(Place),

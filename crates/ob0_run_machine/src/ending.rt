@@ -7,7 +7,7 @@ use std::alloc::{AllocError, AllocFailed};
 /// The fault with which an expression ends a run. Each case is the case of `End` with the same
 /// name.
 #[derive(Clone, Copy, PartialEq, Eq, Debug)]
-pub(crate) enum Ending {
+pub(crate) enum EvaluationFault {
     Overflow,
     Divisor,
     Index,
@@ -27,17 +27,17 @@ pub(crate) enum Stop {
     Memory,
 }
 
-impl From<Ending> for Stop {
-    ghost use Rattle.ob0_run_machine.specs.Answers.{end_at, end_of};
+impl From<EvaluationFault> for Stop {
+    ghost use Rattle.ob0_run_machine.specs.Answers.{end_of_stop, end_of};
 
-    ghost from_gives = { λ x e. end_at e ≡ Some (end_of x) };
+    ghost from_gives = { λ x e. end_of_stop e ≡ Some (end_of x) };
 
     #[inline(always)]
-    fn from(ending: Ending) -> Stop {
+    fn from(ending: EvaluationFault) -> Stop {
         match ending {
-            Ending::Overflow => Stop::Overflow,
-            Ending::Divisor => Stop::Divisor,
-            Ending::Index => Stop::Index,
+            EvaluationFault::Overflow => Stop::Overflow,
+            EvaluationFault::Divisor => Stop::Divisor,
+            EvaluationFault::Index => Stop::Index,
         }
     }
 }

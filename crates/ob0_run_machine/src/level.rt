@@ -7,8 +7,8 @@
 //! more of them in a `Vec`. Apart from that, only cells and output allocate memory.
 
 ghost use Rattle.std.specs.Prelude.{◌≡◌, drop, slice_index_or};
-ghost use Rattle.ob0_run_machine.specs.Evaluation.{innermost, level_at};
-ghost use Rattle.ob0_run_machine.specs.Levels.{levels_of, levels_seen};
+ghost use Rattle.ob0_run_machine.specs.Evaluation.{innermost_level, level_at};
+ghost use Rattle.ob0_run_machine.specs.Levels.{levels_of, levels_of_option};
 
 /// An activation: the address of its first cell, the addresses of its VAR parameters, and the activation in which its
 /// procedure is declared.
@@ -22,8 +22,8 @@ pub(crate) struct Level<'l> {
 /// Returns the activation `up` levels out, or None if there are fewer levels. For 0 or 1 levels no
 /// function is called.
 #[inline(always)]
-pub(crate) fn outside<'l>(level: &'l Level<'l>, up: usize) -> Option<&'l Level<'l>>
-    ensures { levels_seen result ≡ drop up (levels_of level.now) }
+pub(crate) fn enclosing_level<'l>(level: &'l Level<'l>, up: usize) -> Option<&'l Level<'l>>
+    ensures { levels_of_option result ≡ drop up (levels_of level.now) }
 {
     if up == 0 {
         return Some(level);
@@ -34,21 +34,21 @@ pub(crate) fn outside<'l>(level: &'l Level<'l>, up: usize) -> Option<&'l Level<'
             if up == 1 {
                 return Some(level);
             }
-            further_out(level, up - 1)
+            find_enclosing_level(level, up - 1)
         }
     }
 }
 
 #[inline(never)]
-fn further_out<'l>(level: &'l Level<'l>, up: usize) -> Option<&'l Level<'l>>
-    ensures { levels_seen result ≡ drop up (levels_of level.now) }
+fn find_enclosing_level<'l>(level: &'l Level<'l>, up: usize) -> Option<&'l Level<'l>>
+    ensures { levels_of_option result ≡ drop up (levels_of level.now) }
 {
     if up == 0 {
         return Some(level);
     }
     match level.enclosing {
         None => None,
-        Some(level) => further_out(level, up - 1),
+        Some(level) => find_enclosing_level(level, up - 1),
     }
 }
 
@@ -57,7 +57,7 @@ fn further_out<'l>(level: &'l Level<'l>, up: usize) -> Option<&'l Level<'l>>
 pub(crate) fn base_at(level: &Level<'_>, up: usize) -> usize
     ensures { result ≡ (level_at (levels_of level.now) up).base }
 {
-    match outside(level, up) {
+    match enclosing_level(level, up) {
         None => 0,
         Some(level) => level.base,
     }
@@ -67,7 +67,7 @@ pub(crate) fn base_at(level: &Level<'_>, up: usize) -> usize
 /// Returns 0 if there is no such parameter.
 #[inline(always)]
 pub(crate) fn var_parameter_at(level: &Level<'_>, index: usize) -> usize
-    ensures { result ≡ slice_index_or (innermost (levels_of level.now)).addresses index 0 }
+    ensures { result ≡ slice_index_or (innermost_level (levels_of level.now)).addresses index 0 }
 {
     match level.addresses.get(index) {
         None => 0,
@@ -77,10 +77,10 @@ pub(crate) fn var_parameter_at(level: &Level<'_>, index: usize) -> usize
 
 /// Returns the address of a VAR parameter of the activation `up` levels out, by its index among the
 /// VAR parameters. Returns 0 if there is no such parameter.
-pub(crate) fn passed_at(level: &Level<'_>, up: usize, index: usize) -> usize
+pub(crate) fn outer_var_parameter_at(level: &Level<'_>, up: usize, index: usize) -> usize
     ensures { result ≡ slice_index_or (level_at (levels_of level.now) up).addresses index 0 }
 {
-    match outside(level, up) {
+    match enclosing_level(level, up) {
         None => 0,
         Some(level) => var_parameter_at(level, index),
     }

@@ -2,17 +2,17 @@
 #![tactic(auto)]
 
 mod addresses;
+mod argument_passing;
 mod calls;
+mod cell_copies;
 pub mod code;
-mod copying;
 mod ending;
-mod evaluated;
-mod evaluating;
+mod evaluator;
+mod flat_outcome;
 mod level;
 mod machine;
 mod memory;
 mod operators;
-mod passing;
 mod running;
 mod statements;
 

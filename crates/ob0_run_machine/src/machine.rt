@@ -1,11 +1,11 @@
 //! The machine: the cells of all variables, the rest of the input, and the output so far.
 
 ghost use Rattle.std.specs.Prelude.{◌≡◌, ◌≤◌, OnErr, OnOk, length, slice_set, true, vec_capacity, vec_len};
-ghost use Rattle.ob0_run_machine.specs.Execution.{copied, append_output, read_number};
+ghost use Rattle.ob0_run_machine.specs.Execution.{cells_after_copy, append_output, read_number};
 ghost use Rattle.ob0_run_machine.specs.Machines.{MachineSteps, item_of, state_of};
 ghost use Rattle.ob0_run_machine.specs.Allocations.{has_failed};
 
-use crate::copying::copy_cells;
+use crate::cell_copies::copy_cells;
 use crate::ending::Stop;
 use crate::memory::Memory;
 use std::alloc::AllocError;
@@ -41,7 +41,7 @@ pub(crate) fn store(cells: &mut Vec<i32>, address: usize, number: i32)
 /// Copies `count` cells from one address to another. Does nothing if there are too few cells at
 /// either address.
 pub(crate) fn copy(cells: &mut Vec<i32>, to: usize, from: usize, count: usize)
-    ensures { cells.new.items ≡ copied cells.old.items to from count }
+    ensures { cells.new.items ≡ cells_after_copy cells.old.items to from count }
 {
     let length = cells.len();
     if count > length {

@@ -9,7 +9,7 @@ ghost use Rattle.std.specs.Prelude.{◌≡◌, ◌+◌, ◌++◌, ◌∷◌, ◌
 ghost use Rattle.ob0_run_machine.specs.Execution.{block_at, zeros};
 ghost use Rattle.ob0_run_machine.specs.Allocations.{has_failed};
 
-use crate::copying::copy_up;
+use crate::cell_copies::copy_up;
 use std::alloc::{AllocError, Global};
 
 /// The largest number of cells that are added one by one.
@@ -68,7 +68,7 @@ impl Memory {
         ensures room { OnOk result (length cells.new.items < 2 ^ 64) }
     {
         if count > FEW_CELLS {
-            return self.push_row_of_zeros(cells, count);
+            return self.push_many_zeros(cells, count);
         }
         for _cell in 0..count {
             self.push(cells, 0)?;
@@ -79,7 +79,7 @@ impl Memory {
     }
 
     #[inline(never)]
-    fn push_row_of_zeros(&mut self, cells: &mut Vec<i32>, count: usize) -> Result<(), AllocError>
+    fn push_many_zeros(&mut self, cells: &mut Vec<i32>, count: usize) -> Result<(), AllocError>
         ensures items { OnOk result (cells.new.items ≡ cells.old.items ++ zeros count) }
         ensures failed { OnErr result (has_failed self.new ≡ true) }
         ensures full { OnErr result (vec_capacity cells.old < vec_len cells.old + count) }

@@ -2,58 +2,58 @@
 
 ghost use Rattle.std.specs.Int.{w32};
 ghost use Rattle.std.specs.Prelude.{◌≡◌, ◌+ℤ◌, FitsSigned, SomeIff, neg_ℤ};
-ghost use Rattle.ob0_run_machine.specs.Answers.{if_there, outcome_of_result};
-ghost use Rattle.ob0_run_machine.specs.Evaluation.{compare, divided_by, element_at, forward, in_range, is_true, as_cell, operate, same_truth};
+ghost use Rattle.ob0_run_machine.specs.Answers.{number_or_overflow, outcome_of_result};
+ghost use Rattle.ob0_run_machine.specs.Evaluation.{compare, division_outcome, element_address, add_offset, checked_number, is_true, as_cell, operate, same_truth};
 ghost use Rattle.ob0_run_machine.specs.Lowered.{difference, product, quotient, remainder, sum};
 ghost use Rattle.ob0_run_machine.specs.View.{operator_of, relation_of};
 
 use crate::code::{Comparator, Operator};
-use crate::ending::Ending;
+use crate::ending::EvaluationFault;
 
 /// Returns the number, or the fault Overflow for None.
 #[inline(always)]
-fn in_range(number: Option<i32>) -> Result<i32, Ending>
-    ensures { outcome_of_result result ≡ if_there number }
+fn checked_number(number: Option<i32>) -> Result<i32, EvaluationFault>
+    ensures { outcome_of_result result ≡ number_or_overflow number }
 {
     match number {
         Some(number) => Ok(number),
-        None => Err(Ending::Overflow),
+        None => Err(EvaluationFault::Overflow),
     }
 }
 
 /// Returns the result of a division, or the fault Divisor for None.
 #[inline(always)]
-fn of_division(number: Option<i32>) -> Result<i32, Ending>
-    ensures { outcome_of_result result ≡ divided_by number }
+fn number_or_divisor_fault(number: Option<i32>) -> Result<i32, EvaluationFault>
+    ensures { outcome_of_result result ≡ division_outcome number }
 {
     match number {
         Some(number) => Ok(number),
-        None => Err(Ending::Divisor),
+        None => Err(EvaluationFault::Divisor),
     }
 }
 
 /// Returns the quotient, rounded down. Returns the fault Divisor if the divisor is below 1.
 #[inline(always)]
-pub(crate) fn divide(left: i32, right: i32) -> Result<i32, Ending>
+pub(crate) fn divide(left: i32, right: i32) -> Result<i32, EvaluationFault>
     ensures { outcome_of_result result ≡ operate quotient left right }
 {
-    of_division(ob0_language_values::divide(left, right))
+    number_or_divisor_fault(ob0_language_values::divide(left, right))
 }
 
 /// Returns the remainder, which is never negative. Returns the fault Divisor if the divisor is
 /// below 1.
 #[inline(always)]
-pub(crate) fn modulo(left: i32, right: i32) -> Result<i32, Ending>
+pub(crate) fn modulo(left: i32, right: i32) -> Result<i32, EvaluationFault>
     ensures { outcome_of_result result ≡ operate remainder left right }
 {
-    of_division(ob0_language_values::modulo(left, right))
+    number_or_divisor_fault(ob0_language_values::modulo(left, right))
 }
 
 /// Returns the sum, or None if it has more than 32 bits. It is computed in 64 bits and compared
 /// once. This compiles to an addition and a jump on overflow; `checked_add` takes five instructions
 /// more.
 #[inline(always)]
-fn sum_of(left: i32, right: i32) -> Option<i32>
+fn checked_sum(left: i32, right: i32) -> Option<i32>
     ensures { SomeIff result (FitsSigned w32 (left +ℤ right)) (left +ℤ right) }
 {
     let sum = left as i64 + right as i64;
@@ -69,29 +69,29 @@ fn sum_of(left: i32, right: i32) -> Option<i32>
 /// Returns the sum, or the fault Overflow if it has more than 32 bits. `subtract` and `multiply` do
 /// the same for the difference and the product.
 #[inline(always)]
-pub(crate) fn add(left: i32, right: i32) -> Result<i32, Ending>
+pub(crate) fn add(left: i32, right: i32) -> Result<i32, EvaluationFault>
     ensures { outcome_of_result result ≡ operate sum left right }
 {
-    in_range(sum_of(left, right))
+    checked_number(checked_sum(left, right))
 }
 
 #[inline(always)]
-pub(crate) fn subtract(left: i32, right: i32) -> Result<i32, Ending>
+pub(crate) fn subtract(left: i32, right: i32) -> Result<i32, EvaluationFault>
     ensures { outcome_of_result result ≡ operate difference left right }
 {
-    in_range(left.checked_sub(right))
+    checked_number(left.checked_sub(right))
 }
 
 #[inline(always)]
-pub(crate) fn multiply(left: i32, right: i32) -> Result<i32, Ending>
+pub(crate) fn multiply(left: i32, right: i32) -> Result<i32, EvaluationFault>
     ensures { outcome_of_result result ≡ operate product left right }
 {
-    in_range(left.checked_mul(right))
+    checked_number(left.checked_mul(right))
 }
 
 /// Applies an operator to two numbers. Returns the result, or the fault Overflow or Divisor.
 #[inline(always)]
-pub(crate) fn operate(operator: Operator, left: i32, right: i32) -> Result<i32, Ending>
+pub(crate) fn operate(operator: Operator, left: i32, right: i32) -> Result<i32, EvaluationFault>
     ensures { outcome_of_result result ≡ operate (operator_of operator) left right }
 {
     match operator {
@@ -105,10 +105,10 @@ pub(crate) fn operate(operator: Operator, left: i32, right: i32) -> Result<i32, 
 
 /// Returns the number with the opposite sign, or the fault Overflow if it has more than 32 bits.
 #[inline(always)]
-pub(crate) fn negative(number: i32) -> Result<i32, Ending>
-    ensures { outcome_of_result result ≡ in_range (neg_ℤ number) }
+pub(crate) fn negative(number: i32) -> Result<i32, EvaluationFault>
+    ensures { outcome_of_result result ≡ checked_number (neg_ℤ number) }
 {
-    in_range(number.checked_neg())
+    checked_number(number.checked_neg())
 }
 
 /// Returns whether a relation holds between two numbers.
@@ -128,7 +128,7 @@ pub(crate) fn compare(relation: Comparator, left: i32, right: i32) -> bool
 
 /// Returns whether two truth values are equal.
 #[inline(always)]
-pub(crate) fn alike(left: bool, right: bool) -> bool
+pub(crate) fn equal_truths(left: bool, right: bool) -> bool
     ensures { result ≡ same_truth left right }
 {
     left == right
@@ -152,8 +152,8 @@ pub(crate) fn as_cell(truth: bool) -> i32
 
 /// Returns the address `offset` cells after another one. The sum wraps at 64 bits.
 #[inline(always)]
-pub(crate) fn forward(address: usize, offset: usize) -> usize
-    ensures { result ≡ forward address offset }
+pub(crate) fn add_offset(address: usize, offset: usize) -> usize
+    ensures { result ≡ add_offset address offset }
 {
     address.wrapping_add(offset)
 }
@@ -161,21 +161,21 @@ pub(crate) fn forward(address: usize, offset: usize) -> usize
 /// Returns the address of an array's element, or the fault Index if the array has no such element.
 /// `address` is the address of the array, or of a part of its first element.
 #[inline(always)]
-pub(crate) fn element_at(
+pub(crate) fn element_address(
     address: usize,
     length: usize,
     stride: usize,
     index: i32,
-) -> Result<usize, Ending>
-    ensures { outcome_of_result result ≡ element_at address length stride index }
+) -> Result<usize, EvaluationFault>
+    ensures { outcome_of_result result ≡ element_address address length stride index }
 {
     if index < 0 {
-        return Err(Ending::Index);
+        return Err(EvaluationFault::Index);
     }
     let index = index as usize;
     if index < length {
         Ok(address.wrapping_add(index.wrapping_mul(stride)))
     } else {
-        Err(Ending::Index)
+        Err(EvaluationFault::Index)
     }
 }

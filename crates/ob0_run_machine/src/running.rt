@@ -2,7 +2,7 @@
 
 ghost use Rattle.std.specs.Prelude.{◌≡◌, IfOk, Some};
 ghost use Rattle.ob0_run_machine.specs.Execution.{run};
-ghost use Rattle.ob0_run_machine.specs.Outcomes.{IsEndOf, block_run, run_of};
+ghost use Rattle.ob0_run_machine.specs.Outcomes.{IsEndOf, body_run, run_of};
 ghost use Rattle.ob0_run_machine.specs.Machines.{MachineSteps, state_of};
 ghost use Rattle.ob0_run_machine.specs.View.{program_of};
 
@@ -12,7 +12,7 @@ use crate::ending::Stop;
 use crate::level::Level;
 use crate::machine::{Item, Machine};
 use crate::memory::Memory;
-use crate::statements::run_called;
+use crate::statements::run_sequence;
 use std::alloc::{AllocError, Global};
 
 /// The end of a run.
@@ -49,7 +49,7 @@ fn execute(
     machine: &mut Machine<'_>,
 ) -> Result<(), Stop>
     ensures { MachineSteps result machine.new
-        (block_run (program_of program.now) calls turns (state_of machine.old)) }
+        (body_run (program_of program.now) calls turns (state_of machine.old)) }
 {
     let level = Level {
         base: 0,
@@ -59,7 +59,7 @@ fn execute(
     let enter = |machine: &mut Machine<'_>, procedure: usize, level: &Level<'_>| {
         call(program, calls, turns, machine, procedure, level)
     };
-    run_called(&program.body, &level, turns, machine, &enter)
+    run_sequence(&program.body, &level, turns, machine, &enter)
 }
 
 /// Returns the end of a run from the result of its statements: Done if they returned normally,

@@ -8,24 +8,25 @@ ghost use Rattle.ob0_run_machine.specs.declared.code.Instruction.{Increase};
 ghost use Rattle.ob0_run_machine.specs.Execution.{CallEffect, execute};
 ghost use Rattle.ob0_run_machine.specs.Levels.{levels_of};
 ghost use Rattle.ob0_run_machine.specs.Lowered as lowered;
-ghost use Rattle.ob0_run_machine.specs.Machines.{MachineDoes, MachineSteps, entering, executed, executed_all, executed_others, after_step, state_of};
-ghost use Rattle.ob0_run_machine.specs.View.{applied, branches_in, call_of, chained_in, compared_by, increases, number_of, others_in, otherwise_in, place_of, repeat_of, row_of, sequence_of, statement_of, truth_of, variable_of, while_of};
+ghost use Rattle.ob0_run_machine.specs.Machines.{MachineDoes, MachineSteps, entry_effect, statement_effect, sequence_effect, elsifs_effect, progress_after_step, state_of};
+ghost use Rattle.ob0_run_machine.specs.View.{applied, conditional_of, call_of, chain_of, variable_relation, variable_increase, number_of, elsif_branches, else_statements, place_of, repeat_of, variable_element_of, sequence_of, statement_of, truth_of, variable_of, while_of};
 
 use crate::addresses::Addresses;
+use crate::argument_passing::pass_all;
 use crate::code::{
     Chain, Comparator, Conditional, Instruction, Link, Number, Place, ProcedureCall, RepeatLoop,
-    Row, Truth, Variable, WhileLoop,
+    Truth, Variable, VariableElement, WhileLoop,
 };
-use crate::ending::{Ending, Stop};
-use crate::evaluating::{
-    cell_at, evaluate_number, evaluate_truth, evaluate_update, locate, operations, row, variable_at,
+use crate::ending::{EvaluationFault, Stop};
+use crate::evaluator::{
+    cell_at, evaluate_chain, evaluate_number, evaluate_truth, evaluate_update, locate, row,
+    variable_address,
 };
-use crate::level::{Level, outside};
+use crate::level::{Level, enclosing_level};
 use crate::machine::{Item, Machine, copy, store};
 use crate::operators::{add, as_cell, compare};
-use crate::passing::pass_all;
 
-/// Assigns a number to any place. It isn't inlined, so that `statement` is small enough to be
+/// Assigns a number to any place. It isn't inlined, so that `run_statement` is small enough to be
 /// inlined.
 #[tactic(auto, unfolding(crate::specs::Execution::execute))]
 #[inline(never)]
@@ -34,9 +35,9 @@ fn store_number(
     n: &Number,
     level: &Level<'_>,
     machine: &mut Machine<'_>,
-) -> Result<(), Ending>
+) -> Result<(), EvaluationFault>
     ensures { (enters : CallEffect) (t : ℕ)
-        → after_step result machine.new
+        → progress_after_step result machine.new
         ≡ execute enters t (levels_of level.now)
         (lowered.stores_number (place_of place.now) (number_of n.now)) (state_of machine.old) }
 {
@@ -54,14 +55,14 @@ fn store_variable(
     n: &Number,
     level: &Level<'_>,
     machine: &mut Machine<'_>,
-) -> Result<(), Ending>
+) -> Result<(), EvaluationFault>
     ensures { (enters : CallEffect) (t : ℕ)
-        → after_step result machine.new
+        → progress_after_step result machine.new
         ≡ execute enters t (levels_of level.now)
         (lowered.stores_number (variable_of variable) (number_of n.now)) (state_of machine.old) }
 {
     let v = evaluate_number(n, level, machine.cells.as_slice())?;
-    store(&mut machine.cells, variable_at(variable, level), v);
+    store(&mut machine.cells, variable_address(variable, level), v);
     Ok(())
 }
 
@@ -74,25 +75,25 @@ fn store_chain(
     c: &Chain,
     level: &Level<'_>,
     machine: &mut Machine<'_>,
-) -> Result<(), Ending>
+) -> Result<(), EvaluationFault>
     ensures { (enters : CallEffect) (t : ℕ)
-        → after_step result machine.new
+        → progress_after_step result machine.new
         ≡ execute enters t (levels_of level.now)
-        (lowered.stores_number (variable_of variable) (chained_in c.now)) (state_of machine.old) }
+        (lowered.stores_number (variable_of variable) (chain_of c.now)) (state_of machine.old) }
 {
-    let v = operations(c, level, machine.cells.as_slice())?;
-    store(&mut machine.cells, variable_at(variable, level), v);
+    let v = evaluate_chain(c, level, machine.cells.as_slice())?;
+    store(&mut machine.cells, variable_address(variable, level), v);
     Ok(())
 }
 
 /// Adds a number to the variable at an address.
 #[tactic(auto, unfolding(crate::specs::Execution::execute))]
 #[inline(always)]
-fn increase_at(address: usize, by: i32, machine: &mut Machine<'_>) -> Result<(), Ending>
+fn increase_at(address: usize, by: i32, machine: &mut Machine<'_>) -> Result<(), EvaluationFault>
     ensures { (enters : CallEffect) (t : ℕ) (ls : Levels) (v : Variable)
         → address_of ls machine.old.cells.items (variable_of v) ≡ gives address
-        → after_step result machine.new
-        ≡ execute enters t ls (increases v by) (state_of machine.old) }
+        → progress_after_step result machine.new
+        ≡ execute enters t ls (variable_increase v by) (state_of machine.old) }
 {
     let v = add(cell_at(machine.cells.as_slice(), address), by)?;
     store(&mut machine.cells, address, v);
@@ -106,12 +107,12 @@ fn increase(
     by: i32,
     level: &Level<'_>,
     machine: &mut Machine<'_>,
-) -> Result<(), Ending>
+) -> Result<(), EvaluationFault>
     ensures { (enters : CallEffect) (t : ℕ)
-        → after_step result machine.new
-        ≡ execute enters t (levels_of level.now) (increases variable by) (state_of machine.old) }
+        → progress_after_step result machine.new
+        ≡ execute enters t (levels_of level.now) (variable_increase variable by) (state_of machine.old) }
 {
-    increase_at(variable_at(variable, level), by, machine)
+    increase_at(variable_address(variable, level), by, machine)
 }
 
 /// Assigns to a variable the result of an operation on this variable. Like `store_number`, it isn't
@@ -123,14 +124,14 @@ fn update(
     link: &Link,
     level: &Level<'_>,
     machine: &mut Machine<'_>,
-) -> Result<(), Ending>
+) -> Result<(), EvaluationFault>
     ensures { (enters : CallEffect) (t : ℕ)
-        → after_step result machine.new
+        → progress_after_step result machine.new
         ≡ execute enters t (levels_of level.now) (lowered.stores_number (variable_of variable)
         (applied link.now (lowered.cell (variable_of variable)))) (state_of machine.old) }
 {
     let v = evaluate_update(variable, link, level, machine.cells.as_slice())?;
-    store(&mut machine.cells, variable_at(variable, level), v);
+    store(&mut machine.cells, variable_address(variable, level), v);
     Ok(())
 }
 
@@ -142,9 +143,9 @@ fn store_truth(
     t: &Truth,
     level: &Level<'_>,
     machine: &mut Machine<'_>,
-) -> Result<(), Ending>
+) -> Result<(), EvaluationFault>
     ensures { (enters : CallEffect) (turns : ℕ)
-        → after_step result machine.new
+        → progress_after_step result machine.new
         ≡ execute enters turns (levels_of level.now)
         (lowered.stores_truth (place_of place.now) (truth_of t.now)) (state_of machine.old) }
 {
@@ -158,15 +159,15 @@ fn store_truth(
 #[tactic(auto, unfolding(crate::specs::Execution::execute))]
 #[inline(never)]
 fn store_constant(
-    r: &Row,
+    r: &VariableElement,
     b: bool,
     level: &Level<'_>,
     machine: &mut Machine<'_>,
-) -> Result<(), Ending>
+) -> Result<(), EvaluationFault>
     ensures { (enters : CallEffect) (t : ℕ)
-        → after_step result machine.new
+        → progress_after_step result machine.new
         ≡ execute enters t (levels_of level.now)
-        (lowered.stores_truth (row_of r.now) (lowered.constant b)) (state_of machine.old) }
+        (lowered.stores_truth (variable_element_of r.now) (lowered.constant b)) (state_of machine.old) }
 {
     let a = row(r, level, machine.cells.as_slice())?;
     store(&mut machine.cells, a, as_cell(b));
@@ -180,9 +181,9 @@ fn copy_block(
     count: usize,
     level: &Level<'_>,
     machine: &mut Machine<'_>,
-) -> Result<(), Ending>
+) -> Result<(), EvaluationFault>
     ensures { (enters : CallEffect) (t : ℕ)
-        → after_step result machine.new
+        → progress_after_step result machine.new
         ≡ execute enters t (levels_of level.now)
         (lowered.copies (place_of to.now) (place_of from.now) count) (state_of machine.old) }
 {
@@ -193,7 +194,7 @@ fn copy_block(
 }
 
 #[tactic(auto, unfolding(crate::specs::Execution::execute))]
-fn read(place: &Place, level: &Level<'_>, machine: &mut Machine<'_>) -> Result<(), Stop>
+fn run_read(place: &Place, level: &Level<'_>, machine: &mut Machine<'_>) -> Result<(), Stop>
     ensures { (enters : CallEffect) (t : ℕ)
         → MachineSteps result machine.new (execute enters t (levels_of level.now)
         (lowered.reads (place_of place.now)) (state_of machine.old)) }
@@ -203,7 +204,7 @@ fn read(place: &Place, level: &Level<'_>, machine: &mut Machine<'_>) -> Result<(
 }
 
 #[tactic(auto, unfolding(crate::specs::Execution::execute))]
-fn write(n: &Number, level: &Level<'_>, machine: &mut Machine<'_>) -> Result<(), Stop>
+fn run_write(n: &Number, level: &Level<'_>, machine: &mut Machine<'_>) -> Result<(), Stop>
     ensures { (enters : CallEffect) (t : ℕ)
         → MachineSteps result machine.new (execute enters t (levels_of level.now)
         (lowered.writes (number_of n.now)) (state_of machine.old)) }
@@ -214,7 +215,7 @@ fn write(n: &Number, level: &Level<'_>, machine: &mut Machine<'_>) -> Result<(),
 }
 
 #[tactic(auto, unfolding(crate::specs::Execution::execute))]
-fn write_line(level: &Level<'_>, machine: &mut Machine<'_>) -> Result<(), Stop>
+fn run_write_line(level: &Level<'_>, machine: &mut Machine<'_>) -> Result<(), Stop>
     ensures { (enters : CallEffect) (t : ℕ)
         → MachineSteps result machine.new
         (execute enters t (levels_of level.now) lowered.writes_line (state_of machine.old)) }
@@ -235,12 +236,12 @@ fn enter_procedure<F: Fn(&mut Machine<'_>, usize, &Level<'_>) -> Result<(), Stop
 ) -> Result<(), Stop>
     requires { F.IsAlwaysCallable enter.now }
     ensures { MachineDoes (F.post enter.now) result machine.old machine.new
-        (entering c.now.procedure c.now.up (levels_of level.now) base addresses.now) }
+        (entry_effect c.now.procedure c.now.up (levels_of level.now) base addresses.now) }
 {
     let entered = Level {
         base,
         addresses,
-        enclosing: outside(level, c.up),
+        enclosing: enclosing_level(level, c.up),
     };
     enter(machine, c.procedure, &entered)
 }
@@ -256,7 +257,7 @@ fn run_call<F: Fn(&mut Machine<'_>, usize, &Level<'_>) -> Result<(), Stop>>(
     requires { F.IsAlwaysCallable enter.now }
     ensures { (t : ℕ)
         → MachineDoes (F.post enter.now) result machine.old machine.new
-        (executed t (levels_of level.now) (call_of c.now)) }
+        (statement_effect t (levels_of level.now) (call_of c.now)) }
 {
     let base = machine.size();
     let mut addresses = Addresses::Empty;
@@ -281,7 +282,7 @@ fn evaluate_condition(
     condition: &Truth,
     level: &Level<'_>,
     machine: &Machine<'_>,
-) -> Result<bool, Ending>
+) -> Result<bool, EvaluationFault>
     ensures { outcome_of_result result
         ≡ truth (levels_of level.now) machine.now.cells.items (truth_of condition.now) }
 {
@@ -290,7 +291,7 @@ fn evaluate_condition(
 
 #[inline(always)]
 #[cycle(execution)]
-fn statement<F: Fn(&mut Machine<'_>, usize, &Level<'_>) -> Result<(), Stop>>(
+fn run_statement<F: Fn(&mut Machine<'_>, usize, &Level<'_>) -> Result<(), Stop>>(
     s: &Instruction,
     level: &Level<'_>,
     turns: u32,
@@ -299,7 +300,7 @@ fn statement<F: Fn(&mut Machine<'_>, usize, &Level<'_>) -> Result<(), Stop>>(
 ) -> Result<(), Stop>
     requires { F.IsAlwaysCallable enter.now }
     ensures { MachineDoes (F.post enter.now) result machine.old machine.new
-        (executed turns (levels_of level.now) (statement_of s.now)) }
+        (statement_effect turns (levels_of level.now) (statement_of s.now)) }
 {
     match s {
         Instruction::StoreNumber(place, n) => Ok(store_number(place, n, level, machine)?),
@@ -312,10 +313,10 @@ fn statement<F: Fn(&mut Machine<'_>, usize, &Level<'_>) -> Result<(), Stop>>(
         Instruction::StoreTruth(place, t) => Ok(store_truth(place, t, level, machine)?),
         Instruction::StoreConstant(r, b) => Ok(store_constant(r, *b, level, machine)?),
         Instruction::Copy(to, from, count) => Ok(copy_block(to, from, *count, level, machine)?),
-        Instruction::Read(place) => read(place, level, machine),
-        Instruction::Write(n) => write(n, level, machine),
-        Instruction::WriteLine => write_line(level, machine),
-        Instruction::If(i) => branches(i, level, turns, machine, enter),
+        Instruction::Read(place) => run_read(place, level, machine),
+        Instruction::Write(n) => run_write(n, level, machine),
+        Instruction::WriteLine => run_write_line(level, machine),
+        Instruction::If(i) => run_conditional(i, level, turns, machine, enter),
         Instruction::While(w) => run_while(w, level, turns, machine, enter),
         Instruction::Repeat(r) => run_repeat(r, level, turns, machine, enter),
         Instruction::Call(c) => run_call(c, level, machine, enter),
@@ -326,7 +327,7 @@ fn statement<F: Fn(&mut Machine<'_>, usize, &Level<'_>) -> Result<(), Stop>>(
 /// call.
 #[inline(always)]
 #[cycle(execution)]
-pub(crate) fn run_inlined<F: Fn(&mut Machine<'_>, usize, &Level<'_>) -> Result<(), Stop>>(
+pub(crate) fn run_sequence_inline<F: Fn(&mut Machine<'_>, usize, &Level<'_>) -> Result<(), Stop>>(
     statements: &[Instruction],
     level: &Level<'_>,
     turns: u32,
@@ -335,10 +336,10 @@ pub(crate) fn run_inlined<F: Fn(&mut Machine<'_>, usize, &Level<'_>) -> Result<(
 ) -> Result<(), Stop>
     requires { F.IsAlwaysCallable enter.now }
     ensures { MachineDoes (F.post enter.now) result machine.old machine.new
-        (executed_all turns (levels_of level.now) (sequence_of statements.now)) }
+        (sequence_effect turns (levels_of level.now) (sequence_of statements.now)) }
 {
     for s in statements {
-        statement(s, level, turns, machine, enter)?;
+        run_statement(s, level, turns, machine, enter)?;
     }
     Ok(())
 }
@@ -346,7 +347,7 @@ pub(crate) fn run_inlined<F: Fn(&mut Machine<'_>, usize, &Level<'_>) -> Result<(
 /// Runs statements in order. It isn't inlined; an IF runs its branches by this function.
 #[inline(never)]
 #[cycle(execution)]
-pub(crate) fn run_called<F: Fn(&mut Machine<'_>, usize, &Level<'_>) -> Result<(), Stop>>(
+pub(crate) fn run_sequence<F: Fn(&mut Machine<'_>, usize, &Level<'_>) -> Result<(), Stop>>(
     statements: &[Instruction],
     level: &Level<'_>,
     turns: u32,
@@ -355,9 +356,9 @@ pub(crate) fn run_called<F: Fn(&mut Machine<'_>, usize, &Level<'_>) -> Result<()
 ) -> Result<(), Stop>
     requires { F.IsAlwaysCallable enter.now }
     ensures { MachineDoes (F.post enter.now) result machine.old machine.new
-        (executed_all turns (levels_of level.now) (sequence_of statements.now)) }
+        (sequence_effect turns (levels_of level.now) (sequence_of statements.now)) }
 {
-    run_inlined(statements, level, turns, machine, enter)
+    run_sequence_inline(statements, level, turns, machine, enter)
 }
 
 /// Runs statements in order. If there are none, as in an IF without ELSE, no function is called.
@@ -372,19 +373,19 @@ fn run_unless_empty<F: Fn(&mut Machine<'_>, usize, &Level<'_>) -> Result<(), Sto
 ) -> Result<(), Stop>
     requires { F.IsAlwaysCallable enter.now }
     ensures { MachineDoes (F.post enter.now) result machine.old machine.new
-        (executed_all turns (levels_of level.now) (sequence_of statements.now)) }
+        (sequence_effect turns (levels_of level.now) (sequence_of statements.now)) }
 {
     let count = statements.len();
     if count == 0 {
         return Ok(());
     }
-    run_called(statements, level, turns, machine, enter)
+    run_sequence(statements, level, turns, machine, enter)
 }
 
 /// Runs an IF: the statements of the first condition that is TRUE, otherwise its ELSE part.
 #[inline(always)]
 #[cycle(execution)]
-fn branches<F: Fn(&mut Machine<'_>, usize, &Level<'_>) -> Result<(), Stop>>(
+fn run_conditional<F: Fn(&mut Machine<'_>, usize, &Level<'_>) -> Result<(), Stop>>(
     i: &Conditional,
     level: &Level<'_>,
     turns: u32,
@@ -393,23 +394,23 @@ fn branches<F: Fn(&mut Machine<'_>, usize, &Level<'_>) -> Result<(), Stop>>(
 ) -> Result<(), Stop>
     requires { F.IsAlwaysCallable enter.now }
     ensures { MachineDoes (F.post enter.now) result machine.old machine.new
-        (executed turns (levels_of level.now) (branches_in i.now)) }
+        (statement_effect turns (levels_of level.now) (conditional_of i.now)) }
 {
     if evaluate_condition(&i.condition, level, machine)? {
-        return run_called(&i.body, level, turns, machine, enter);
+        return run_sequence(&i.body, level, turns, machine, enter);
     }
     let others = i.others.as_slice();
     let count = others.len();
     if count == 0 {
         return run_unless_empty(&i.otherwise, level, turns, machine, enter);
     }
-    other_branches(i, level, turns, machine, enter)
+    run_elsifs(i, level, turns, machine, enter)
 }
 
 /// Runs the first ELSIF part of an IF whose condition is TRUE, otherwise its ELSE part.
 #[inline(never)]
 #[cycle(execution)]
-fn other_branches<F: Fn(&mut Machine<'_>, usize, &Level<'_>) -> Result<(), Stop>>(
+fn run_elsifs<F: Fn(&mut Machine<'_>, usize, &Level<'_>) -> Result<(), Stop>>(
     i: &Conditional,
     level: &Level<'_>,
     turns: u32,
@@ -418,11 +419,11 @@ fn other_branches<F: Fn(&mut Machine<'_>, usize, &Level<'_>) -> Result<(), Stop>
 ) -> Result<(), Stop>
     requires { F.IsAlwaysCallable enter.now }
     ensures { MachineDoes (F.post enter.now) result machine.old machine.new
-        (executed_others turns (levels_of level.now) (others_in i.now) (otherwise_in i.now)) }
+        (elsifs_effect turns (levels_of level.now) (elsif_branches i.now) (else_statements i.now)) }
 {
     for branch in &i.others {
         if evaluate_condition(&branch.condition, level, machine)? {
-            return run_called(&branch.body, level, turns, machine, enter);
+            return run_sequence(&branch.body, level, turns, machine, enter);
         }
     }
     run_unless_empty(&i.otherwise, level, turns, machine, enter)
@@ -436,7 +437,7 @@ fn count(address: usize, by: i32, machine: &mut Machine<'_>) -> Result<(), Stop>
     ensures { (enters : CallEffect) (t : ℕ) (ls : Levels) (v : Variable)
         → address_of ls machine.old.cells.items (variable_of v) ≡ gives address
         → MachineSteps result machine.new
-        (execute enters t ls (increases v by) (state_of machine.old)) }
+        (execute enters t ls (variable_increase v by) (state_of machine.old)) }
 {
     Ok(increase_at(address, by, machine)?)
 }
@@ -448,7 +449,7 @@ fn is_below(address: usize, limit: i32, machine: &Machine<'_>) -> bool
     ensures { (ls : Levels) (v : Variable)
         → address_of ls machine.now.cells.items (variable_of v) ≡ gives address
         → gives result
-        ≡ truth ls machine.now.cells.items (compared_by Less v (lowered.literal limit)) }
+        ≡ truth ls machine.now.cells.items (variable_relation Less v (lowered.literal limit)) }
 {
     compare(
         Comparator::Less,
@@ -461,7 +462,7 @@ fn is_below(address: usize, limit: i32, machine: &Machine<'_>) -> bool
 /// number to the variable at an address.
 #[inline(always)]
 #[cycle(execution)]
-fn run_counted<F: Fn(&mut Machine<'_>, usize, &Level<'_>) -> Result<(), Stop>>(
+fn run_counted_body<F: Fn(&mut Machine<'_>, usize, &Level<'_>) -> Result<(), Stop>>(
     statements: &[Instruction],
     address: usize,
     by: i32,
@@ -475,10 +476,10 @@ fn run_counted<F: Fn(&mut Machine<'_>, usize, &Level<'_>) -> Result<(), Stop>>(
         → ((cells : List ℤ)
         → address_of (levels_of level.now) cells (variable_of v) ≡ gives address)
         → MachineDoes (F.post enter.now) result machine.old machine.new
-        (executed_all turns (levels_of level.now)
+        (sequence_effect turns (levels_of level.now)
         (sequence_of (statements.now ++ Increase v by ∷ []))) }
 {
-    run_inlined(statements, level, turns, machine, enter)?;
+    run_sequence_inline(statements, level, turns, machine, enter)?;
     count(address, by, machine)
 }
 
@@ -486,7 +487,7 @@ fn run_counted<F: Fn(&mut Machine<'_>, usize, &Level<'_>) -> Result<(), Stop>>(
 /// number to a variable. The addresses of both variables are found once.
 #[inline(always)]
 #[cycle(execution)]
-fn run_counting<F: Fn(&mut Machine<'_>, usize, &Level<'_>) -> Result<(), Stop>>(
+fn run_counting_loop<F: Fn(&mut Machine<'_>, usize, &Level<'_>) -> Result<(), Stop>>(
     variable: Variable,
     limit: i32,
     statements: &[Instruction],
@@ -499,12 +500,12 @@ fn run_counting<F: Fn(&mut Machine<'_>, usize, &Level<'_>) -> Result<(), Stop>>(
 ) -> Result<(), Stop>
     requires { F.IsAlwaysCallable enter.now }
     ensures { MachineDoes (F.post enter.now) result machine.old machine.new
-        (executed turns (levels_of level.now) (lowered.while_loop
-        (compared_by Less variable (lowered.literal limit))
+        (statement_effect turns (levels_of level.now) (lowered.while_loop
+        (variable_relation Less variable (lowered.literal limit))
         (sequence_of (statements.now ++ Increase increased by ∷ [])))) }
 {
-    let compared = variable_at(variable, level);
-    let changed = variable_at(increased, level);
+    let compared = variable_address(variable, level);
+    let changed = variable_address(increased, level);
     let mut left = turns;
     'again: loop {
         if !is_below(compared, limit, machine) {
@@ -514,7 +515,7 @@ fn run_counting<F: Fn(&mut Machine<'_>, usize, &Level<'_>) -> Result<(), Stop>>(
             return Err(Stop::TurnBound);
         }
         left -= 1;
-        run_counted(statements, changed, by, level, turns, machine, enter)?;
+        run_counted_body(statements, changed, by, level, turns, machine, enter)?;
     }
 }
 
@@ -530,22 +531,22 @@ fn run_while<F: Fn(&mut Machine<'_>, usize, &Level<'_>) -> Result<(), Stop>>(
 ) -> Result<(), Stop>
     requires { F.IsAlwaysCallable enter.now }
     ensures { MachineDoes (F.post enter.now) result machine.old machine.new
-        (executed turns (levels_of level.now) (while_of w.now)) }
+        (statement_effect turns (levels_of level.now) (while_of w.now)) }
 {
     if let Truth::LessThanLiteral(v, limit) = &w.condition
         && let Some((Instruction::Increase(u, by), statements)) = w.body.as_slice().split_last()
     {
-        return run_counting(
+        return run_counting_loop(
             *v, *limit, statements, *u, *by, level, turns, machine, enter,
         );
     }
-    run_any_while(w, level, turns, machine, enter)
+    run_general_while(w, level, turns, machine, enter)
 }
 
 /// Runs a WHILE of any form.
 #[inline(always)]
 #[cycle(execution)]
-fn run_any_while<F: Fn(&mut Machine<'_>, usize, &Level<'_>) -> Result<(), Stop>>(
+fn run_general_while<F: Fn(&mut Machine<'_>, usize, &Level<'_>) -> Result<(), Stop>>(
     w: &WhileLoop,
     level: &Level<'_>,
     turns: u32,
@@ -554,7 +555,7 @@ fn run_any_while<F: Fn(&mut Machine<'_>, usize, &Level<'_>) -> Result<(), Stop>>
 ) -> Result<(), Stop>
     requires { F.IsAlwaysCallable enter.now }
     ensures { MachineDoes (F.post enter.now) result machine.old machine.new
-        (executed turns (levels_of level.now) (while_of w.now)) }
+        (statement_effect turns (levels_of level.now) (while_of w.now)) }
 {
     let mut left = turns;
     loop {
@@ -565,7 +566,7 @@ fn run_any_while<F: Fn(&mut Machine<'_>, usize, &Level<'_>) -> Result<(), Stop>>
             return Err(Stop::TurnBound);
         }
         left -= 1;
-        run_inlined(&w.body, level, turns, machine, enter)?;
+        run_sequence_inline(&w.body, level, turns, machine, enter)?;
     }
 }
 
@@ -582,11 +583,11 @@ fn run_repeat<F: Fn(&mut Machine<'_>, usize, &Level<'_>) -> Result<(), Stop>>(
 ) -> Result<(), Stop>
     requires { F.IsAlwaysCallable enter.now }
     ensures { MachineDoes (F.post enter.now) result machine.old machine.new
-        (executed turns (levels_of level.now) (repeat_of r.now)) }
+        (statement_effect turns (levels_of level.now) (repeat_of r.now)) }
 {
     let mut further = turns.saturating_sub(1);
     loop {
-        run_inlined(&r.body, level, turns, machine, enter)?;
+        run_sequence_inline(&r.body, level, turns, machine, enter)?;
         if evaluate_condition(&r.condition, level, machine)? {
             return Ok(());
         }

@@ -10,8 +10,8 @@ use Rattle.ob0_scan.specs.declared.lexeme.LexemeKind.TheVariants as lexeme
 use Rattle.ob0_scan.specs.declared.lexeme.Span.{Span}
 use Rattle.ob0_scan.specs.declared.lexeme.Token.{Token}
 use Rattle.ob0_scan.specs.Lexed.{Lexeme, joined, AreLexemes}
-use Rattle.ob0_scan.specs.Scanned.{span_from, token_at, comment_at, tokens_from, comments_from}
-use Rattle.ob0_scan.specs.Reused.{move_span, moved_token}
+use Rattle.ob0_scan.specs.TextWithTokens.{span_from, token_at, comment_at, tokens_from, comments_from}
+use Rattle.ob0_scan.specs.Reused.{span_after_shift, token_after_shift}
 use Rattle.ob0_scan.proofs.Cuts.{nonempty}
 
 -- A kind of item that lexemes have, such as tokens or comments. Each lexeme has at most one, at the
@@ -175,9 +175,9 @@ begin_at_borders {X} g s (l ∷ ls) =
     (All-weaker (λ x. Border (s + length l.text) ls (g.span x).start) P (λ x b. further_border s (g.span x).start l ls b) (g.all (s + length l.text) ls) (begin_at_borders g (s + length l.text) ls)))
 
 -- Holds if each item begins before all later ones.
-abbrev pub Ascending : {X : Type 0} → (X → ℕ) → List X → Type 0
-Ascending start [] = Unit {0}
-Ascending start (x ∷ xs) = All (λ y. start x < start y) xs × Ascending start xs
+abbrev pub AreAscending : {X : Type 0} → (X → ℕ) → List X → Type 0
+AreAscending start [] = Unit {0}
+AreAscending start (x ∷ xs) = All (λ y. start x < start y) xs × AreAscending start xs
 
 -- Holds if the key of a non-empty span is less than the key of every later span.
 abbrev pub ComesAfter : (Span → ℕ) → Type 0
@@ -189,16 +189,16 @@ starts_after s n high v some w = omega (arith, some, w.starts)
 pub ends_after : ComesAfter (λ (v : Span). v.end)
 ends_after s n high v some w = omega (arith, some, w.starts, w.some)
 
-ascending_head : {X : Type 0} (g : AtLexemes X) (key : Span → ℕ) → ComesAfter key → (s high : ℕ) (l : Lexeme) (rest : List X) → 0 < length l.text → All (λ x. Lies (s + length l.text) high (g.span x)) rest → Ascending (λ x. key (g.span x)) rest → Ascending (λ x. key (g.span x)) (g.head s l ++ rest)
+ascending_head : {X : Type 0} (g : AtLexemes X) (key : Span → ℕ) → ComesAfter key → (s high : ℕ) (l : Lexeme) (rest : List X) → 0 < length l.text → All (λ x. Lies (s + length l.text) high (g.span x)) rest → AreAscending (λ x. key (g.span x)) rest → AreAscending (λ x. key (g.span x)) (g.head s l ++ rest)
 ascending_head {X} g key after s high l rest some later h = ⊎_elim
-    (λ nothing. subst (λ t. Ascending (λ x. key (g.span x)) (t ++ rest)) (sym nothing) h)
-    (λ one. subst (λ t. Ascending (λ x. key (g.span x)) (t ++ rest)) (sym one.1)
+    (λ nothing. subst (λ t. AreAscending (λ x. key (g.span x)) (t ++ rest)) (sym nothing) h)
+    (λ one. subst (λ t. AreAscending (λ x. key (g.span x)) (t ++ rest)) (sym one.1)
     (All-weaker (λ x. Lies (s + length l.text) high (g.span x)) (λ y. key (g.span one.0) < key (g.span y)) (λ y w. subst (λ (v : Span). key v < key (g.span y)) (sym one.2) (after s (length l.text) high (g.span y) some w)) rest later, h))
     (g.one s l)
 
-pub ascending : {X : Type 0} (g : AtLexemes X) (key : Span → ℕ) → ComesAfter key → (s : ℕ) (ls : List Lexeme) → Full ls → Ascending (λ x. key (g.span x)) (g.all s ls)
-ascending g key after s [] h = subst (Ascending (λ x. key (g.span x))) (sym (g.none s)) tt
-ascending g key after s (l ∷ ls) h = subst (Ascending (λ x. key (g.span x))) (sym (g.step s l ls))
+pub ascending : {X : Type 0} (g : AtLexemes X) (key : Span → ℕ) → ComesAfter key → (s : ℕ) (ls : List Lexeme) → Full ls → AreAscending (λ x. key (g.span x)) (g.all s ls)
+ascending g key after s [] h = subst (AreAscending (λ x. key (g.span x))) (sym (g.none s)) tt
+ascending g key after s (l ∷ ls) h = subst (AreAscending (λ x. key (g.span x))) (sym (g.step s l ls))
     (ascending_head g key after s (s + length l.text + length (joined ls)) l (g.all (s + length l.text) ls) h.0 (lies g (s + length l.text) ls h.1)
     (ascending g key after (s + length l.text) ls h.1))
 
@@ -224,7 +224,7 @@ back_again start near far (x ∷ xs) h = ⊎_elim
 
 -- If the items ascend, all items without the leading ones that begin before a place begin there or
 -- later.
-pub back_later : {X : Type 0} (start : X → ℕ) (place : ℕ) (xs : List X) → Ascending start xs → All (λ x. place ≤ start x) (back_of start place xs)
+pub back_later : {X : Type 0} (start : X → ℕ) (place : ℕ) (xs : List X) → AreAscending start xs → All (λ x. place ≤ start x) (back_of start place xs)
 back_later start place [] h = All-nil (λ x. place ≤ start x)
 back_later {X} start place (x ∷ xs) h = ⊎_elim
     (λ before. All-same (λ y. place ≤ start y) (back_of start place (x ∷ xs)) (back_of start place xs) (back_further start place x xs before) (back_later start place xs h.1))
@@ -248,7 +248,7 @@ abbrev pub first_at : {X : Type 0} → (X → ℕ) → ℕ → List X → Bool
 first_at start place [] = false
 first_at start place (x ∷ xs) = eqb (start x) place
 
-pub none_at : {X : Type 0} (start : X → ℕ) (place : ℕ) (xs : List X) → Ascending start xs → first_at start place (back_of start place xs) ≡ false → All (λ x. start x ≢ place) xs
+pub none_at : {X : Type 0} (start : X → ℕ) (place : ℕ) (xs : List X) → AreAscending start xs → first_at start place (back_of start place xs) ≡ false → All (λ x. start x ≢ place) xs
 none_at start place [] h e = All-nil (λ x. start x ≢ place)
 none_at {X} start place (x ∷ xs) h e = ⊎_elim
     (λ before. All-cons (λ y. start y ≢ place) x xs (λ same. absurd (omega (arith, before, same)))
@@ -267,30 +267,30 @@ make_span start end = record { start = start; end = end }
 
 -- Moving a lexeme moves its span by the same distance.
 module _ (removed added : ℕ) where
-  moved_span : (at place n : ℕ) → at + removed ≡ place + added → removed ≤ place → span_from at n ≡ move_span removed added (span_from place n)
+  moved_span : (at place n : ℕ) → at + removed ≡ place + added → removed ≤ place → span_from at n ≡ span_after_shift removed added (span_from place n)
   moved_span at place n e h =
       let start : at ≡ place + added - removed = omega arith in
       let end : at + n ≡ place + n + added - removed = omega arith in
       ap₂ make_span start end
 
-  token_moved : (k : LexemeKind) (here there : Span) → here ≡ move_span removed added there → token_at k here ≡ map (moved_token removed added) (token_at k there)
+  token_moved : (k : LexemeKind) (here there : Span) → here ≡ span_after_shift removed added there → token_at k here ≡ map (token_after_shift removed added) (token_at k there)
   token_moved lexeme.Space here there e = refl
   token_moved lexeme.Comment here there e = refl
   token_moved (lexeme.Token k) here there e = ap (token_at (lexeme.Token k)) e
 
-  comment_moved : (k : LexemeKind) (here there : Span) → here ≡ move_span removed added there → comment_at k here ≡ map (move_span removed added) (comment_at k there)
+  comment_moved : (k : LexemeKind) (here there : Span) → here ≡ span_after_shift removed added there → comment_at k here ≡ map (span_after_shift removed added) (comment_at k there)
   comment_moved lexeme.Space here there e = refl
   comment_moved lexeme.Comment here there e = ap (comment_at lexeme.Comment) e
   comment_moved (lexeme.Token k) here there e = refl
 
-  pub tokens_moved : (at place : ℕ) (ls : List Lexeme) → at + removed ≡ place + added → removed ≤ place → tokens_from at ls ≡ map (moved_token removed added) (tokens_from place ls)
+  pub tokens_moved : (at place : ℕ) (ls : List Lexeme) → at + removed ≡ place + added → removed ≤ place → tokens_from at ls ≡ map (token_after_shift removed added) (tokens_from place ls)
   tokens_moved at place [] e h = refl
   tokens_moved at place (l ∷ ls) e h =
       ap₂ (λ xs ys. xs ++ ys) (token_moved l.kind (span_from at (length l.text)) (span_from place (length l.text)) (moved_span at place (length l.text) e h)) (tokens_moved (at + length l.text) (place + length l.text) ls (omega arith) (omega arith))
-      ∙ sym (map-append (moved_token removed added) (token_at l.kind (span_from place (length l.text))) (tokens_from (place + length l.text) ls))
+      ∙ sym (map-append (token_after_shift removed added) (token_at l.kind (span_from place (length l.text))) (tokens_from (place + length l.text) ls))
 
-  pub comments_moved : (at place : ℕ) (ls : List Lexeme) → at + removed ≡ place + added → removed ≤ place → comments_from at ls ≡ map (move_span removed added) (comments_from place ls)
+  pub comments_moved : (at place : ℕ) (ls : List Lexeme) → at + removed ≡ place + added → removed ≤ place → comments_from at ls ≡ map (span_after_shift removed added) (comments_from place ls)
   comments_moved at place [] e h = refl
   comments_moved at place (l ∷ ls) e h =
       ap₂ (λ xs ys. xs ++ ys) (comment_moved l.kind (span_from at (length l.text)) (span_from place (length l.text)) (moved_span at place (length l.text) e h)) (comments_moved (at + length l.text) (place + length l.text) ls (omega arith) (omega arith))
-      ∙ sym (map-append (move_span removed added) (comment_at l.kind (span_from place (length l.text))) (comments_from (place + length l.text) ls))
+      ∙ sym (map-append (span_after_shift removed added) (comment_at l.kind (span_from place (length l.text))) (comments_from (place + length l.text) ls))

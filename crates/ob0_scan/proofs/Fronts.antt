@@ -11,8 +11,8 @@ use Rattle.ob0_scan.specs.declared.lexeme.LexemeKind.TheVariants as lexeme
 use Rattle.ob0_scan.specs.declared.lexeme.Span.{Span}
 use Rattle.ob0_scan.specs.declared.lexeme.Token.{Token}
 use Rattle.ob0_scan.specs.Lexed.{Lexeme, joined}
-use Rattle.ob0_scan.specs.Scanned.{span_from, token_at, comment_at, tokens_from, comments_from}
-use Rattle.ob0_scan.specs.Rescanning.{token_end, comment_end, last_end}
+use Rattle.ob0_scan.specs.TextWithTokens.{span_from, token_at, comment_at, tokens_from, comments_from}
+use Rattle.ob0_scan.specs.RescanState.{token_end, comment_end, last_end}
 use Rattle.ob0_scan.proofs.Cuts.{joined_push, tokens_push, comments_push}
 use Rattle.ob0_scan.proofs.AtLexemes.{of_tokens, of_comments, Full, full_parts, Lies, lies, none_end}
 

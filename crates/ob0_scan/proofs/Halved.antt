@@ -7,25 +7,25 @@ use Rattle.std.proofs.lemmas.List.Elements.{All-get_or}
 use Rattle.std.proofs.lemmas.List.Sums.{prefix_len_is}
 use Rattle.ob0_scan.specs.declared.lexeme.Span.{Span}
 use Rattle.ob0_scan.specs.declared.lexeme.Token.{Token}
-use Rattle.ob0_scan.specs.Scanned.{Scanned, IsScan}
-use Rattle.ob0_scan.specs.Rescanning.{AreInOrder}
-use Rattle.ob0_scan.proofs.AtLexemes.{of_tokens, of_comments, full, Ascending, ascending, starts_after, ends_after}
+use Rattle.ob0_scan.specs.TextWithTokens.{TextWithTokens, IsScan}
+use Rattle.ob0_scan.specs.RescanState.{AreInOrder}
+use Rattle.ob0_scan.proofs.AtLexemes.{of_tokens, of_comments, full, AreAscending, ascending, starts_after, ends_after}
 
-rising : {X : Type 0} (n : X → ℕ) (xs : List X) → Ascending n xs → IsNonDecreasingBy n xs
+rising : {X : Type 0} (n : X → ℕ) (xs : List X) → AreAscending n xs → IsNonDecreasingBy n xs
 rising n [] h i j d le less = absurd (omega (arith, less))
 rising n (x ∷ xs) h zero zero d le less = omega arith
 rising n (x ∷ xs) h (suc i) zero d le less = absurd (omega (arith, le))
 rising n (x ∷ xs) h zero (suc j) d le less = let later : n x < n (get_or xs j d) = All-get_or (λ y. n x < n y) xs j d (omega (arith, less)) h.0 in omega (arith, later)
 rising n (x ∷ xs) h (suc i) (suc j) d le less = rising n xs h.1 i j d (omega (arith, le)) (omega (arith, less))
 
-pub in_order : (s : Scanned) → IsScan s → AreInOrder s.tokens s.comments
+pub in_order : (s : TextWithTokens) → IsScan s → AreInOrder s.tokens s.comments
 in_order s o =
     let some = full o.lexemes [] o.lexed.each in
     record {
-      tokens_begin = rising (λ (t : Token). t.span.start) s.tokens (subst (Ascending (λ (t : Token). t.span.start)) (sym o.tokens) (ascending of_tokens (λ (v : Span). v.start) starts_after 0 o.lexemes some));
-      tokens_end = rising (λ (t : Token). t.span.end) s.tokens (subst (Ascending (λ (t : Token). t.span.end)) (sym o.tokens) (ascending of_tokens (λ (v : Span). v.end) ends_after 0 o.lexemes some));
-      comments_begin = rising (λ (c : Span). c.start) s.comments (subst (Ascending (λ (c : Span). c.start)) (sym o.comments) (ascending of_comments (λ (v : Span). v.start) starts_after 0 o.lexemes some));
-      comments_end = rising (λ (c : Span). c.end) s.comments (subst (Ascending (λ (c : Span). c.end)) (sym o.comments) (ascending of_comments (λ (v : Span). v.end) ends_after 0 o.lexemes some));
+      tokens_begin = rising (λ (t : Token). t.span.start) s.tokens (subst (AreAscending (λ (t : Token). t.span.start)) (sym o.tokens) (ascending of_tokens (λ (v : Span). v.start) starts_after 0 o.lexemes some));
+      tokens_end = rising (λ (t : Token). t.span.end) s.tokens (subst (AreAscending (λ (t : Token). t.span.end)) (sym o.tokens) (ascending of_tokens (λ (v : Span). v.end) ends_after 0 o.lexemes some));
+      comments_begin = rising (λ (c : Span). c.start) s.comments (subst (AreAscending (λ (c : Span). c.start)) (sym o.comments) (ascending of_comments (λ (v : Span). v.start) starts_after 0 o.lexemes some));
+      comments_end = rising (λ (c : Span). c.end) s.comments (subst (AreAscending (λ (c : Span). c.end)) (sym o.comments) (ascending of_comments (λ (v : Span). v.end) ends_after 0 o.lexemes some));
     }
 
 -- The partition point of a test is the number of leading items that pass it.

@@ -10,13 +10,13 @@ use Rattle.std.proofs.lemmas.Bool.{lt-ltb, ltb-true}
 use Rattle.ob0_scan.specs.declared.lexeme.Span.{Span}
 use Rattle.ob0_scan.specs.declared.lexeme.Token.{Token}
 use Rattle.ob0_scan.specs.declared.scanner.Scanner.{Scanner}
-use Rattle.ob0_scan.specs.declared.rescanning.Between.{Between}
+use Rattle.ob0_scan.specs.declared.incremental_scan.RescannedMiddle.{RescannedMiddle}
 use Rattle.ob0_scan.specs.Lexed.{Lexeme, joined}
-use Rattle.ob0_scan.specs.Scanned.{Scanned, IsScan}
-use Rattle.ob0_scan.specs.Reused.{move_span, moved_token, tokens_before_change, comments_before_change, back_tokens}
-use Rattle.ob0_scan.specs.Rescanning.{IsMovable, IsBetween, ReadsOn, with_between}
-use Rattle.ob0_scan.proofs.AtLexemes.{AtLexemes, of_tokens, of_comments, Full, Lies, full, lies, Ascending, ascending, starts_after, back_later, front_all}
-use Rattle.ob0_scan.proofs.Between.{Settled, reused}
+use Rattle.ob0_scan.specs.TextWithTokens.{TextWithTokens, IsScan}
+use Rattle.ob0_scan.specs.Reused.{span_after_shift, token_after_shift, tokens_before_change, comments_before_change, tokens_beginning_from}
+use Rattle.ob0_scan.specs.RescanState.{IsMovable, IsRescannedMiddle, ReadsOn, with_middle}
+use Rattle.ob0_scan.proofs.AtLexemes.{AtLexemes, of_tokens, of_comments, Full, Lies, full, lies, AreAscending, ascending, starts_after, back_later, front_all}
+use Rattle.ob0_scan.proofs.RescannedMiddle.{Settled, reused}
 
 longer_count : (b d : Bool) (n m : ℕ) → (b ≡ true → d ≡ true) → n ≤ m → cond b (1 + n) 0 ≤ cond d (1 + m) 0
 longer_count true true n m h less = omega (arith, less)
@@ -56,7 +56,7 @@ parts xs fs rs p q n m less ef er en em =
       back = ap (λ k. drop k xs) far ∙ sym er;
     }
 
-module _ (old : Scanned) (o : IsScan old) (new : List ℕ) (from removed added : ℕ) (s t : Scanner) (fs rs : List Token) (gs qs : List Span) (b : Between) where
+module _ (old : TextWithTokens) (o : IsScan old) (new : List ℕ) (from removed added : ℕ) (s t : Scanner) (fs rs : List Token) (gs qs : List Span) (b : RescannedMiddle) where
   token_parts : fs ≡ tokens_before_change from old.tokens → Settled old new from removed added t rs qs → b.front.tokens ≡ length fs → b.following.tokens ≡ length old.tokens - length rs → Parts old.tokens fs rs b.front.tokens b.following.tokens
   token_parts ef w en em =
       let place : ℕ = t.at + removed - added in
@@ -77,14 +77,14 @@ module _ (old : Scanned) (o : IsScan old) (new : List ℕ) (from removed added :
   pub lies_between : fs ≡ tokens_before_change from old.tokens → gs ≡ comments_before_change from old.comments → t.front.tokens.now ≡ fs → t.front.comments.now ≡ gs → s.tokens.items ≡ [] → s.comments.items ≡ []
       → ReadsOn old from removed added s t → Settled old new from removed added t rs qs
       → b.front.tokens ≡ length fs → b.following.tokens ≡ length old.tokens - length rs → b.front.comments ≡ length gs → b.following.comments ≡ length old.comments - length qs
-      → b.tokens.items ≡ t.tokens.items → b.comments.items ≡ t.comments.items → IsBetween old new from removed added b
+      → b.tokens.items ≡ t.tokens.items → b.comments.items ≡ t.comments.items → IsRescannedMiddle old new from removed added b
   lies_between ef eg tf tg st sc r w n m k l et ec =
       let ts = token_parts ef w n m in
       let cs = comment_parts eg w k l in
-      let tokens : (with_between old new removed added b).tokens ≡ (fs ++ t.tokens.items) ++ map (moved_token removed added) rs =
-      ap₂ (λ x y. x ++ (b.tokens.items ++ map (moved_token removed added) y)) ts.front ts.back ∙ ap (λ x. fs ++ (x ++ map (moved_token removed added) rs)) et ∙ sym (append_assoc fs t.tokens.items (map (moved_token removed added) rs)) in
-      let comments : (with_between old new removed added b).comments ≡ (gs ++ t.comments.items) ++ map (move_span removed added) qs =
-      ap₂ (λ x y. x ++ (b.comments.items ++ map (move_span removed added) y)) cs.front cs.back ∙ ap (λ x. gs ++ (x ++ map (move_span removed added) qs)) ec ∙ sym (append_assoc gs t.comments.items (map (move_span removed added) qs)) in
+      let tokens : (with_middle old new removed added b).tokens ≡ (fs ++ t.tokens.items) ++ map (token_after_shift removed added) rs =
+      ap₂ (λ x y. x ++ (b.tokens.items ++ map (token_after_shift removed added) y)) ts.front ts.back ∙ ap (λ x. fs ++ (x ++ map (token_after_shift removed added) rs)) et ∙ sym (append_assoc fs t.tokens.items (map (token_after_shift removed added) rs)) in
+      let comments : (with_middle old new removed added b).comments ≡ (gs ++ t.comments.items) ++ map (span_after_shift removed added) qs =
+      ap₂ (λ x y. x ++ (b.comments.items ++ map (span_after_shift removed added) y)) cs.front cs.back ∙ ap (λ x. gs ++ (x ++ map (span_after_shift removed added) qs)) ec ∙ sym (append_assoc gs t.comments.items (map (span_after_shift removed added) qs)) in
       record {
         tokens_ordered = ts.ordered;
         tokens_inside = ts.inside;
@@ -93,15 +93,15 @@ module _ (old : Scanned) (o : IsScan old) (new : List ℕ) (from removed added :
         tokens_before = All-weaker (λ (x : Token). ltb x.span.end from ≡ true) (λ (x : Token). x.span.end ≤ from) (λ x w. omega (arith, ltb-true x.span.end from w)) (take b.front.tokens old.tokens)
             (All-same (λ (x : Token). ltb x.span.end from ≡ true) (take b.front.tokens old.tokens) (tokens_before_change from old.tokens) (ts.front ∙ ef) (front_all (λ (x : Token). ltb x.span.end from) old.tokens));
         tokens_after = All-weaker (λ (x : Token). t.at + removed - added ≤ x.span.start) (λ (x : Token). from + removed ≤ x.span.start) (λ x later. omega (arith, later, w.met.following)) (drop b.following.tokens old.tokens)
-            (All-same (λ (x : Token). t.at + removed - added ≤ x.span.start) (drop b.following.tokens old.tokens) (back_tokens (t.at + removed - added) old.tokens) (ts.back ∙ w.met.tokens_are)
-            (back_later (λ (x : Token). x.span.start) (t.at + removed - added) old.tokens (subst (Ascending (λ (x : Token). x.span.start)) (sym o.tokens) (ascending of_tokens (λ (v : Span). v.start) starts_after 0 o.lexemes (full o.lexemes [] o.lexed.each)))));
+            (All-same (λ (x : Token). t.at + removed - added ≤ x.span.start) (drop b.following.tokens old.tokens) (tokens_beginning_from (t.at + removed - added) old.tokens) (ts.back ∙ w.met.tokens_are)
+            (back_later (λ (x : Token). x.span.start) (t.at + removed - added) old.tokens (subst (AreAscending (λ (x : Token). x.span.start)) (sym o.tokens) (ascending of_tokens (λ (v : Span). v.start) starts_after 0 o.lexemes (full o.lexemes [] o.lexed.each)))));
         tokens_move = All-same (λ (x : Token). IsMovable removed added x.span) (drop b.following.tokens old.tokens) rs ts.back w.tokens_move;
         comments_move = All-same (λ (x : Span). IsMovable removed added x) (drop b.following.comments old.comments) qs cs.back w.comments_move;
-        scan = subst (λ (x : List Token). IsScan (record { text = new; tokens = x; comments = (with_between old new removed added b).comments })) (sym tokens)
-            (subst (λ (y : List Span). IsScan (record { text = new; tokens = (fs ++ t.tokens.items) ++ map (moved_token removed added) rs; comments = y })) (sym comments)
-            (subst (λ (x : List Token). IsScan (record { text = new; tokens = (x ++ t.tokens.items) ++ map (moved_token removed added) rs; comments = (gs ++ t.comments.items) ++ map (move_span removed added) qs })) tf
-            (subst (λ (y : List Span). IsScan (record { text = new; tokens = (t.front.tokens.now ++ t.tokens.items) ++ map (moved_token removed added) rs; comments = (y ++ t.comments.items) ++ map (move_span removed added) qs })) tg w.scan)));
-        reuses = reused old (with_between old new removed added b) from removed added s t rs qs (length new) fs gs ef eg st sc r w.met tokens comments (length b.tokens.items + length b.comments.items) (omega (arith, ap length et, ap length ec));
+        scan = subst (λ (x : List Token). IsScan (record { text = new; tokens = x; comments = (with_middle old new removed added b).comments })) (sym tokens)
+            (subst (λ (y : List Span). IsScan (record { text = new; tokens = (fs ++ t.tokens.items) ++ map (token_after_shift removed added) rs; comments = y })) (sym comments)
+            (subst (λ (x : List Token). IsScan (record { text = new; tokens = (x ++ t.tokens.items) ++ map (token_after_shift removed added) rs; comments = (gs ++ t.comments.items) ++ map (span_after_shift removed added) qs })) tf
+            (subst (λ (y : List Span). IsScan (record { text = new; tokens = (t.front.tokens.now ++ t.tokens.items) ++ map (token_after_shift removed added) rs; comments = (y ++ t.comments.items) ++ map (span_after_shift removed added) qs })) tg w.scan)));
+        reuses = reused old (with_middle old new removed added b) from removed added s t rs qs (length new) fs gs ef eg st sc r w.met tokens comments (length b.tokens.items + length b.comments.items) (omega (arith, ap length et, ap length ec));
       }
 
 -- ---- a list whose items are changed one by one from the beginning

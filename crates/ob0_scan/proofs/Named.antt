@@ -8,10 +8,10 @@ use Rattle.std.proofs.lemmas.Bool.{cases_lt}
 use Rattle.ob0_scan.specs.declared.lexeme.Span.{Span}
 use Rattle.ob0_scan.specs.declared.lexeme.Token.{Token}
 use Rattle.ob0_scan.specs.declared.lexeme.TokenKind.{TokenKind}
-use Rattle.ob0_scan.specs.declared.rescanning.Between.{Between}
-use Rattle.ob0_scan.specs.Scanned.{Scanned, Word, spanned}
-use Rattle.ob0_scan.specs.Reused.{IsReplaced, name_of, names_in, words_in, move_span, moved_token}
-use Rattle.ob0_scan.specs.Rescanning.{IsBetween, with_between}
+use Rattle.ob0_scan.specs.declared.incremental_scan.RescannedMiddle.{RescannedMiddle}
+use Rattle.ob0_scan.specs.TextWithTokens.{TextWithTokens, Word, text_in_span}
+use Rattle.ob0_scan.specs.Reused.{ReplacesRange, name_or_empty, names_in, words_of_tokens, span_after_shift, token_after_shift}
+use Rattle.ob0_scan.specs.RescanState.{IsRescannedMiddle, with_middle}
 
 -- A part that lies within the first n bytes of a text is the same part of those n bytes.
 in_first : (text : List ℕ) (n s w : ℕ) → w ≤ n - s → take w (drop s (take n text)) ≡ take w (drop s text)
@@ -25,16 +25,16 @@ in_first text n s w less = ⊎_elim
     (cases_lt n s)
 
 -- Texts with the same first bytes have the same parts within them.
-in_front : (old new : List ℕ) (from : ℕ) (span : Span) → take from old ≡ take from new → span.end ≤ from → spanned new span ≡ spanned old span
+in_front : (old new : List ℕ) (from : ℕ) (span : Span) → take from old ≡ take from new → span.end ≤ from → text_in_span new span ≡ text_in_span old span
 in_front old new from span same inside =
     let wide : span.end - span.start ≤ from - span.start = omega (arith, inside) in
     sym (in_first new from span.start (span.end - span.start) wide)
     ∙ ap (λ text. take (span.end - span.start) (drop span.start text)) (sym same)
     ∙ in_first old from span.start (span.end - span.start) wide
 
-module _ (old new : List ℕ) (from removed added : ℕ) (r : IsReplaced old new from removed added) where
+module _ (old new : List ℕ) (from removed added : ℕ) (r : ReplacesRange old new from removed added) where
   -- A span after the change, shifted, has the same bytes in the new text as before in the old one.
-  at_back : (span : Span) → from + removed ≤ span.start → spanned new (move_span removed added span) ≡ spanned old span
+  at_back : (span : Span) → from + removed ≤ span.start → text_in_span new (span_after_shift removed added span) ≡ text_in_span old span
   at_back span later =
       let away : ℕ = span.start - (from + removed) in
       let wide : span.end + added - removed - (span.start + added - removed) ≡ span.end - span.start = omega (arith, later) in
@@ -48,25 +48,25 @@ module _ (old new : List ℕ) (from removed added : ℕ) (r : IsReplaced old new
 -- Returns a value for each token, made from its kind and spelling.
 module _ {X : Type 0} (of : TokenKind → List ℕ → X) where
   abbrev pub written : List ℕ → List Token → List X
-  written text tokens = map (λ (t : Token). of t.kind (spanned text t.span)) tokens
+  written text tokens = map (λ (t : Token). of t.kind (text_in_span text t.span)) tokens
 
   pub written-append : (text : List ℕ) (a b : List Token) → written text (a ++ b) ≡ written text a ++ written text b
   written-append text [] b = refl
-  written-append text (t ∷ a) b = ap (λ ns. of t.kind (spanned text t.span) ∷ ns) (written-append text a b)
+  written-append text (t ∷ a) b = ap (λ ns. of t.kind (text_in_span text t.span) ∷ ns) (written-append text a b)
 
-  pub before_stays : (old new : List ℕ) (from removed added : ℕ) → IsReplaced old new from removed added → (tokens : List Token) → All (λ (t : Token). t.span.end ≤ from) tokens → written new tokens ≡ written old tokens
+  pub before_stays : (old new : List ℕ) (from removed added : ℕ) → ReplacesRange old new from removed added → (tokens : List Token) → All (λ (t : Token). t.span.end ≤ from) tokens → written new tokens ≡ written old tokens
   before_stays old new from removed added r [] h = refl
   before_stays old new from removed added r (t ∷ tokens) h =
       ap₂ (λ n ns. of t.kind n ∷ ns) (in_front old new from t.span r.front (All-head (λ (x : Token). x.span.end ≤ from) t tokens h)) (before_stays old new from removed added r tokens (All-tail (λ (x : Token). x.span.end ≤ from) t tokens h))
 
-  pub after_stays : (old new : List ℕ) (from removed added : ℕ) → IsReplaced old new from removed added → (tokens : List Token) → All (λ (t : Token). from + removed ≤ t.span.start) tokens → written new (map (moved_token removed added) tokens) ≡ written old tokens
+  pub after_stays : (old new : List ℕ) (from removed added : ℕ) → ReplacesRange old new from removed added → (tokens : List Token) → All (λ (t : Token). from + removed ≤ t.span.start) tokens → written new (map (token_after_shift removed added) tokens) ≡ written old tokens
   after_stays old new from removed added r [] h = refl
   after_stays old new from removed added r (t ∷ tokens) h =
       ap₂ (λ n ns. of t.kind n ∷ ns) (at_back old new from removed added r t.span (All-head (λ (x : Token). from + removed ≤ x.span.start) t tokens h)) (after_stays old new from removed added r tokens (All-tail (λ (x : Token). from + removed ≤ x.span.start) t tokens h))
 
-  written_stays : (old : Scanned) (new : List ℕ) (from removed added : ℕ) (b : Between) → IsReplaced old.text new from removed added → IsBetween old new from removed added b
+  written_stays : (old : TextWithTokens) (new : List ℕ) (from removed added : ℕ) (b : RescannedMiddle) → ReplacesRange old.text new from removed added → IsRescannedMiddle old new from removed added b
       → written new b.tokens.items ≡ written old.text (take (b.following.tokens - b.front.tokens) (drop b.front.tokens old.tokens))
-      → written new (with_between old new removed added b).tokens ≡ written old.text old.tokens
+      → written new (with_middle old new removed added b).tokens ≡ written old.text old.tokens
   written_stays old new from removed added b r w same =
       let front : List Token = take b.front.tokens old.tokens in
       let gone : List Token = take (b.following.tokens - b.front.tokens) (drop b.front.tokens old.tokens) in
@@ -75,51 +75,51 @@ module _ {X : Type 0} (of : TokenKind → List ℕ → X) where
       let parts : gone ++ rest ≡ drop b.front.tokens old.tokens =
       ap (λ l. gone ++ l) (ap (λ n. drop n old.tokens) (sym place) ∙ sym (drop-drop (b.following.tokens - b.front.tokens) b.front.tokens old.tokens))
       ∙ take-append-drop (b.following.tokens - b.front.tokens) (drop b.front.tokens old.tokens) in
-      let middle : written new (b.tokens.items ++ map (moved_token removed added) rest) ≡ written old.text (drop b.front.tokens old.tokens) =
-      written-append new b.tokens.items (map (moved_token removed added) rest)
+      let middle : written new (b.tokens.items ++ map (token_after_shift removed added) rest) ≡ written old.text (drop b.front.tokens old.tokens) =
+      written-append new b.tokens.items (map (token_after_shift removed added) rest)
       ∙ ap₂ (λ x y. x ++ y) same (after_stays old.text new from removed added r rest w.tokens_after)
       ∙ sym (written-append old.text gone rest)
       ∙ ap (written old.text) parts in
-      written-append new front (b.tokens.items ++ map (moved_token removed added) rest)
+      written-append new front (b.tokens.items ++ map (token_after_shift removed added) rest)
       ∙ ap₂ (λ x y. x ++ y) (before_stays old.text new from removed added r front w.tokens_before) middle
       ∙ sym (written-append old.text front (drop b.front.tokens old.tokens))
       ∙ ap (written old.text) (take-append-drop b.front.tokens old.tokens)
 
-pub names_stay : (old : Scanned) (new : List ℕ) (from removed added : ℕ) (b : Between) → IsReplaced old.text new from removed added → IsBetween old new from removed added b
+pub names_stay : (old : TextWithTokens) (new : List ℕ) (from removed added : ℕ) (b : RescannedMiddle) → ReplacesRange old.text new from removed added → IsRescannedMiddle old new from removed added b
     → names_in new b.tokens.items ≡ names_in old.text (take (b.following.tokens - b.front.tokens) (drop b.front.tokens old.tokens))
-    → names_in new (with_between old new removed added b).tokens ≡ names_in old.text old.tokens
-names_stay old new from removed added b r w same = written_stays name_of old new from removed added b r w same
+    → names_in new (with_middle old new removed added b).tokens ≡ names_in old.text old.tokens
+names_stay old new from removed added b r w same = written_stays name_or_empty old new from removed added b r w same
 
-pub words_stay : (old : Scanned) (new : List ℕ) (from removed added : ℕ) (b : Between) → IsReplaced old.text new from removed added → IsBetween old new from removed added b
-    → words_in new b.tokens.items ≡ words_in old.text (take (b.following.tokens - b.front.tokens) (drop b.front.tokens old.tokens))
-    → words_in new (with_between old new removed added b).tokens ≡ words_in old.text old.tokens
+pub words_stay : (old : TextWithTokens) (new : List ℕ) (from removed added : ℕ) (b : RescannedMiddle) → ReplacesRange old.text new from removed added → IsRescannedMiddle old new from removed added b
+    → words_of_tokens new b.tokens.items ≡ words_of_tokens old.text (take (b.following.tokens - b.front.tokens) (drop b.front.tokens old.tokens))
+    → words_of_tokens new (with_middle old new removed added b).tokens ≡ words_of_tokens old.text old.tokens
 words_stay old new from removed added b r w same = written_stays (λ k text. record { kind = k; text = text }) old new from removed added b r w same
 
 -- The tokens before the change have the same kinds and spellings as before.
-pub front_written : (old : Scanned) (new : List ℕ) (from removed added : ℕ) (b : Between) → IsReplaced old.text new from removed added → IsBetween old new from removed added b
-    → take b.front.tokens (words_in new (with_between old new removed added b).tokens) ≡ take b.front.tokens (words_in old.text old.tokens)
+pub front_written : (old : TextWithTokens) (new : List ℕ) (from removed added : ℕ) (b : RescannedMiddle) → ReplacesRange old.text new from removed added → IsRescannedMiddle old new from removed added b
+    → take b.front.tokens (words_of_tokens new (with_middle old new removed added b).tokens) ≡ take b.front.tokens (words_of_tokens old.text old.tokens)
 front_written old new from removed added b r w =
     let of : TokenKind → List ℕ → Word = λ k text. record { kind = k; text = text } in
     let front : List Token = take b.front.tokens old.tokens in
-    let rest : List Token = b.tokens.items ++ map (moved_token removed added) (drop b.following.tokens old.tokens) in
+    let rest : List Token = b.tokens.items ++ map (token_after_shift removed added) (drop b.following.tokens old.tokens) in
     let inside : b.front.tokens ≤ length old.tokens = omega (arith, w.tokens_ordered, w.tokens_inside) in
     ap (take b.front.tokens) (written-append of new front rest ∙ ap (λ l. l ++ written of new rest) (before_stays of old.text new from removed added r front w.tokens_before))
-    ∙ take_at (written of old.text front) (written of new rest) b.front.tokens (length-map front (λ (t : Token). of t.kind (spanned old.text t.span)) ∙ length-take-le b.front.tokens old.tokens inside)
-    ∙ sym (take-map (λ (t : Token). of t.kind (spanned old.text t.span)) b.front.tokens old.tokens)
+    ∙ take_at (written of old.text front) (written of new rest) b.front.tokens (length-map front (λ (t : Token). of t.kind (text_in_span old.text t.span)) ∙ length-take-le b.front.tokens old.tokens inside)
+    ∙ sym (take-map (λ (t : Token). of t.kind (text_in_span old.text t.span)) b.front.tokens old.tokens)
 
-pub back_written : (old : Scanned) (new : List ℕ) (from removed added back : ℕ) (b : Between) → IsReplaced old.text new from removed added → IsBetween old new from removed added b
+pub back_written : (old : TextWithTokens) (new : List ℕ) (from removed added back : ℕ) (b : RescannedMiddle) → ReplacesRange old.text new from removed added → IsRescannedMiddle old new from removed added b
     → back ≡ b.front.tokens + length b.tokens.items
-    → drop back (words_in new (with_between old new removed added b).tokens) ≡ drop b.following.tokens (words_in old.text old.tokens)
+    → drop back (words_of_tokens new (with_middle old new removed added b).tokens) ≡ drop b.following.tokens (words_of_tokens old.text old.tokens)
 back_written old new from removed added back b r w at =
     let of : TokenKind → List ℕ → Word = λ k text. record { kind = k; text = text } in
     let front : List Token = take b.front.tokens old.tokens in
     let last : List Token = drop b.following.tokens old.tokens in
-    let moved : List Token = map (moved_token removed added) last in
+    let moved : List Token = map (token_after_shift removed added) last in
     let inside : b.front.tokens ≤ length old.tokens = omega (arith, w.tokens_ordered, w.tokens_inside) in
     let count : length (written of new (front ++ b.tokens.items)) ≡ back =
-    length-map (front ++ b.tokens.items) (λ (t : Token). of t.kind (spanned new t.span)) ∙ (length-append front b.tokens.items ∙ omega (arith, at, length-take-le b.front.tokens old.tokens inside)) in
-    ap (λ (l : List Token). drop back (words_in new l)) (sym (append_assoc front b.tokens.items moved))
+    length-map (front ++ b.tokens.items) (λ (t : Token). of t.kind (text_in_span new t.span)) ∙ (length-append front b.tokens.items ∙ omega (arith, at, length-take-le b.front.tokens old.tokens inside)) in
+    ap (λ (l : List Token). drop back (words_of_tokens new l)) (sym (append_assoc front b.tokens.items moved))
     ∙ (ap (drop back) (written-append of new (front ++ b.tokens.items) moved)
     ∙ (drop_at (written of new (front ++ b.tokens.items)) (written of new moved) back count
     ∙ (after_stays of old.text new from removed added r last w.tokens_after
-    ∙ sym (drop-map (λ (t : Token). of t.kind (spanned old.text t.span)) b.following.tokens old.tokens))))
+    ∙ sym (drop-map (λ (t : Token). of t.kind (text_in_span old.text t.span)) b.following.tokens old.tokens))))

@@ -9,11 +9,11 @@ use Rattle.ob0_scan.specs.declared.lexeme.Token.{Token}
 use Rattle.ob0_scan.specs.declared.fault.Fault.{Fault}
 use Rattle.ob0_scan.specs.Lexed.{Lexeme, joined, IsFirst, AreLexemes}
 use Rattle.ob0_scan.specs.Ends.{EndsBefore}
-use Rattle.ob0_scan.specs.Scanned.{tokens_from, comments_from, IsRangeOf, Scanned, IsScan, max_text}
-use Rattle.ob0_scan.specs.Faults.{FaultsFrom, lexeme}
+use Rattle.ob0_scan.specs.TextWithTokens.{tokens_from, comments_from, IsRangeOf, TextWithTokens, IsScan, max_text}
+use Rattle.ob0_scan.specs.Faults.{AreFaultsFrom, lexeme}
 use Rattle.ob0_scan.specs.Progress.{IsCutTo, ScanProgress}
-use Rattle.ob0_scan.specs.Reused.{IsReplaced, move_span, moved_token, tokens_before_change, comments_before_change, back_tokens, back_comments}
-use Rattle.ob0_scan.specs.Rescanning.{last_end, IsMovable}
+use Rattle.ob0_scan.specs.Reused.{ReplacesRange, span_after_shift, token_after_shift, tokens_before_change, comments_before_change, tokens_beginning_from, comments_beginning_from}
+use Rattle.ob0_scan.specs.RescanState.{last_end, IsMovable}
 use Rattle.ob0_scan.proofs.Borders.{first_from_end, end_from_first}
 use Rattle.ob0_scan.proofs.Spans.{LexemesFrom, next_from}
 use Rattle.ob0_scan.proofs.AtLexemes.{of_tokens, of_comments, Full, full, full_parts, Lies, lies, all-append, back_split, front_split, Border, tokens_moved, comments_moved}
@@ -66,12 +66,12 @@ boundary_following text s (l ∷ ls) after h =
     let place : s + length l.text + length (joined ls) ≡ s + length (joined (l ∷ ls)) = omega (arith, length-append l.text (joined ls)) in
     subst (IsCharBoundary text) place (boundary_following text (s + length l.text) ls after (next_from text s l ls after h))
 
-reported_following : {room : ℕ} {faults : List Fault} (s : ℕ) (text : List ℕ) (ls : List Lexeme) (after : List ℕ) → AreLexemes ls after → text ≡ joined ls ++ after → FaultsFrom room (s + length (joined ls)) after faults → FaultsFrom room s text faults
-reported_following {room = room} {faults = faults} s text [] after f e h = subst (λ t. FaultsFrom room s t faults) (sym e) (subst (λ n. FaultsFrom room n after faults) (add-zero s) h)
+reported_following : {room : ℕ} {faults : List Fault} (s : ℕ) (text : List ℕ) (ls : List Lexeme) (after : List ℕ) → AreLexemes ls after → text ≡ joined ls ++ after → AreFaultsFrom room (s + length (joined ls)) after faults → AreFaultsFrom room s text faults
+reported_following {room = room} {faults = faults} s text [] after f e h = subst (λ t. AreFaultsFrom room s t faults) (sym e) (subst (λ n. AreFaultsFrom room n after faults) (add-zero s) h)
 reported_following {room = room} {faults = faults} s text (l ∷ ls) after f e h =
     let place : s + length (joined (l ∷ ls)) ≡ s + length l.text + length (joined ls) = omega (arith, length-append l.text (joined ls)) in
     lexeme l (joined ls ++ after) f.0 (e ∙ append_assoc l.text (joined ls) after)
-    (reported_following (s + length l.text) (joined ls ++ after) ls after f.1 refl (subst (λ n. FaultsFrom room n after faults) place h))
+    (reported_following (s + length l.text) (joined ls ++ after) ls after f.1 refl (subst (λ n. AreFaultsFrom room n after faults) place h))
 
 -- If a part of a text is already cut, a scanner can begin after that part.
 pub progress_following : (text : List ℕ) (at : ℕ) (tokens : List Token) (comments : List Span) → IsUtf8 text → length text ≤ max_text → at ≤ length text → IsCutTo text at tokens comments → ScanProgress text at tokens comments []
@@ -85,12 +85,12 @@ progress_following text at tokens comments utf8 short inside cut =
       few = omega arith;
       room = λ more. omega arith;
       ranges = All-nil (λ (fault : Fault). IsRangeOf text fault.span);
-      reported = λ more h. reported_following 0 text cut.lexemes (drop at text) cut.each (sym whole) (subst (λ n. FaultsFrom 100 n (drop at text) more) (sym place) h);
+      reported = λ more h. reported_following 0 text cut.lexemes (drop at text) cut.each (sym whole) (subst (λ n. AreFaultsFrom 100 n (drop at text) more) (sym place) h);
       cut = λ none. cut;
       uncut = λ some. absurd (omega (arith, some));
     }
 
-module _ (old : Scanned) (o : IsScan old) (new : List ℕ) (from removed added : ℕ) (r : IsReplaced old.text new from removed added) where
+module _ (old : TextWithTokens) (o : IsScan old) (new : List ℕ) (from removed added : ℕ) (r : ReplacesRange old.text new from removed added) where
   some_each : Full o.lexemes
   some_each = full o.lexemes [] o.lexed.each
 
@@ -135,22 +135,22 @@ module _ (old : Scanned) (o : IsScan old) (new : List ℕ) (from removed added :
 
   -- At a border of the old lexemes, the later lexemes spell the rest of the old text and have its
   -- tokens and comments.
-  border_facts : (p : ℕ) (b : Border 0 o.lexemes p) → (joined b.back ≡ drop p old.text) × AreLexemes b.back [] × (back_tokens p old.tokens ≡ tokens_from p b.back) × (back_comments p old.comments ≡ comments_from p b.back) × Full b.back
+  border_facts : (p : ℕ) (b : Border 0 o.lexemes p) → (joined b.back ≡ drop p old.text) × AreLexemes b.back [] × (tokens_beginning_from p old.tokens ≡ tokens_from p b.back) × (comments_beginning_from p old.comments ≡ comments_from p b.back) × Full b.back
   border_facts p b =
       let parts = full_parts b.front b.back (subst Full b.split some_each) in
       let each = lexemes_parts b.front b.back [] (subst (λ t. AreLexemes t []) b.split o.lexed.each) in
       let whole : joined b.front ++ joined b.back ≡ old.text = sym (joined_append b.front b.back) ∙ ap joined (sym b.split) ∙ o.lexed.whole in (
         sym (drop_at (joined b.front) (joined b.back) p (omega (arith, b.at))) ∙ ap (drop p) whole,
         each.1,
-        ap (back_tokens p) (o.tokens ∙ ap (tokens_from 0) b.split) ∙ back_split of_tokens 0 p b.front b.back parts.0 parts.1 b.at,
-        ap (back_comments p) (o.comments ∙ ap (comments_from 0) b.split) ∙ back_split of_comments 0 p b.front b.back parts.0 parts.1 b.at,
+        ap (tokens_beginning_from p) (o.tokens ∙ ap (tokens_from 0) b.split) ∙ back_split of_tokens 0 p b.front b.back parts.0 parts.1 b.at,
+        ap (comments_beginning_from p) (o.comments ∙ ap (comments_from 0) b.split) ∙ back_split of_comments 0 p b.front b.back parts.0 parts.1 b.at,
         parts.1,
       )
 
   -- If a scan stopped at a border of the old lexemes, it can be completed with the old tokens and
   -- comments after that border, shifted. The result is a scan of the new text.
   pub finished : (at p : ℕ) (tokens : List Token) (comments : List Span) → IsUtf8 new → length new ≤ max_text → at ≤ length new → from + added ≤ at → at + removed ≡ p + added → IsCutTo new at tokens comments → Border 0 o.lexemes p
-      → IsScan (record { text = new; tokens = tokens ++ map (moved_token removed added) (back_tokens p old.tokens); comments = comments ++ map (move_span removed added) (back_comments p old.comments) })
+      → IsScan (record { text = new; tokens = tokens ++ map (token_after_shift removed added) (tokens_beginning_from p old.tokens); comments = comments ++ map (span_after_shift removed added) (comments_beginning_from p old.comments) })
   finished at p tokens comments utf8 short inside following e cut b =
       let facts = border_facts p b in
       let rest : joined b.back ≡ drop at new = facts.0 ∙ sym (same_rest at p following e) in
@@ -164,22 +164,22 @@ module _ (old : Scanned) (o : IsScan old) (new : List ℕ) (from removed added :
           whole = joined_append cut.lexemes b.back ∙ ap₂ (λ x y. x ++ y) cut.front rest ∙ take-append-drop at new;
           each = lexemes_append cut.lexemes b.back [] (subst (AreLexemes cut.lexemes) (sym rest ∙ sym (append-nil (joined b.back))) cut.each) facts.1;
         };
-        tokens = ap₂ (λ x y. x ++ y) cut.tokens_are (ap (map (moved_token removed added)) facts.2 ∙ sym (tokens_moved removed added at p b.back e low) ∙ ap (λ n. tokens_from n b.back) (sym place)) ∙ sym (all-append of_tokens 0 cut.lexemes b.back);
-        comments = ap₂ (λ x y. x ++ y) cut.comments_are (ap (map (move_span removed added)) facts.3 ∙ sym (comments_moved removed added at p b.back e low) ∙ ap (λ n. comments_from n b.back) (sym place)) ∙ sym (all-append of_comments 0 cut.lexemes b.back);
+        tokens = ap₂ (λ x y. x ++ y) cut.tokens_are (ap (map (token_after_shift removed added)) facts.2 ∙ sym (tokens_moved removed added at p b.back e low) ∙ ap (λ n. tokens_from n b.back) (sym place)) ∙ sym (all-append of_tokens 0 cut.lexemes b.back);
+        comments = ap₂ (λ x y. x ++ y) cut.comments_are (ap (map (span_after_shift removed added)) facts.3 ∙ sym (comments_moved removed added at p b.back e low) ∙ ap (λ n. comments_from n b.back) (sym place)) ∙ sym (all-append of_comments 0 cut.lexemes b.back);
       }
 
   movable_lies : (p q : ℕ) (s : Span) → removed ≤ p → q ≤ max_text → length new ≤ max_text → Lies p q s → IsMovable removed added s
   movable_lies p q s low most short w = record { following = omega (arith, w.starts); ordered = omega (arith, w.some); small = omega (arith, w.ends, r.inside_new) }
 
-  pub movable : (p : ℕ) → length new ≤ max_text → removed ≤ p → Border 0 o.lexemes p → All (λ (t : Token). IsMovable removed added t.span) (back_tokens p old.tokens) × All (λ (c : Span). IsMovable removed added c) (back_comments p old.comments)
+  pub movable : (p : ℕ) → length new ≤ max_text → removed ≤ p → Border 0 o.lexemes p → All (λ (t : Token). IsMovable removed added t.span) (tokens_beginning_from p old.tokens) × All (λ (c : Span). IsMovable removed added c) (comments_beginning_from p old.comments)
   movable p short low b =
       let facts = border_facts p b in
       let whole : length (joined b.front) + length (joined b.back) ≡ length old.text = sym (length-append (joined b.front) (joined b.back)) ∙ ap length (sym (joined_append b.front b.back) ∙ ap joined (sym b.split) ∙ o.lexed.whole) in
       let most : p + length (joined b.back) ≤ max_text = omega (arith, b.at, whole, o.short) in
       let q : ℕ = p + length (joined b.back) in (
-        All-same (λ (t : Token). IsMovable removed added t.span) (back_tokens p old.tokens) (tokens_from p b.back) facts.2
+        All-same (λ (t : Token). IsMovable removed added t.span) (tokens_beginning_from p old.tokens) (tokens_from p b.back) facts.2
             (All-weaker (λ (t : Token). Lies p q t.span) (λ (t : Token). IsMovable removed added t.span) (λ t w. movable_lies p q t.span low most short w) (tokens_from p b.back) (lies of_tokens p b.back facts.4)),
-        All-same (λ (c : Span). IsMovable removed added c) (back_comments p old.comments) (comments_from p b.back) facts.3
+        All-same (λ (c : Span). IsMovable removed added c) (comments_beginning_from p old.comments) (comments_from p b.back) facts.3
             (All-weaker (λ (c : Span). Lies p q c) (λ (c : Span). IsMovable removed added c) (λ c w. movable_lies p q c low most short w) (comments_from p b.back) (lies of_comments p b.back facts.4)),
       )
 
@@ -187,6 +187,6 @@ module _ (old : Scanned) (o : IsScan old) (new : List ℕ) (from removed added :
   pub end_border : Border 0 o.lexemes (length old.text)
   end_border = record { front = o.lexemes; back = []; split = sym (append-nil o.lexemes); at = omega (arith, ap length o.lexed.whole) }
 
-  pub none_following : (back_tokens (length old.text) old.tokens ≡ []) × (back_comments (length old.text) old.comments ≡ [])
+  pub none_following : (tokens_beginning_from (length old.text) old.tokens ≡ []) × (comments_beginning_from (length old.text) old.comments ≡ [])
   unfolding end_border
   none_following = let facts = border_facts (length old.text) end_border in (facts.2, facts.3)

@@ -3,33 +3,33 @@ use Rattle.std.proofs.Common.{◌≡◌, ℕ, ◌+◌, ◌-◌, ◌≤◌, List,
 use Rattle.std.proofs.lemmas.List.{take-map, drop-map, take_at, drop_at, length-map, length-take-le}
 use Rattle.ob0_scan.specs.declared.lexeme.Token.{Token}
 use Rattle.ob0_scan.specs.declared.tokens.SameTokens.{SameTokens}
-use Rattle.ob0_scan.specs.Reused.{valueless, kinds, moved_token}
+use Rattle.ob0_scan.specs.Reused.{kind_without_value, kinds, token_after_shift}
 use Rattle.ob0_scan.specs.SameKinds.{HasSameTokens}
 use Rattle.ob0_scan.proofs.Alike.{kinds-append, kinds-moved}
 
 -- Returns the tokens of a changed text: the old ones before the change, the new ones, and the old
 -- ones after it, shifted.
 abbrev pub joined_tokens : (old between : List Token) (front following removed added : ℕ) → List Token
-joined_tokens old between front following removed added = take front old ++ (between ++ map (moved_token removed added) (drop following old))
+joined_tokens old between front following removed added = take front old ++ (between ++ map (token_after_shift removed added) (drop following old))
 
 pub joined_length : (old between : List Token) (front following removed added : ℕ) → front ≤ length old → length (joined_tokens old between front following removed added) ≡ front + (length between + (length old - following))
 joined_length old between front following removed added inside =
-    let moved : List Token = map (moved_token removed added) (drop following old) in
+    let moved : List Token = map (token_after_shift removed added) (drop following old) in
     let first : length (take front old) ≡ front = length-take-le front old inside in
-    let last : length moved ≡ length old - following = length-map (drop following old) (moved_token removed added) ∙ length-drop following old in
+    let last : length moved ≡ length old - following = length-map (drop following old) (token_after_shift removed added) ∙ length-drop following old in
     length-append (take front old) (between ++ moved) ∙ omega (arith, first, last, length-append between moved)
 
 front_kinds : (old others : List Token) (front : ℕ) → front ≤ length old → take front (kinds (take front old ++ others)) ≡ take front (kinds old)
 front_kinds old others front inside =
-    let kind = λ (t : Token). valueless t.kind in
+    let kind = λ (t : Token). kind_without_value t.kind in
     ap (take front) (kinds-append (take front old) others)
     ∙ take_at (kinds (take front old)) (kinds others) front (length-map (take front old) kind ∙ length-take-le front old inside)
     ∙ sym (take-map kind front old)
 
-back_kinds : (old first : List Token) (following back removed added : ℕ) → length first ≡ back → drop back (kinds (first ++ map (moved_token removed added) (drop following old))) ≡ drop following (kinds old)
+back_kinds : (old first : List Token) (following back removed added : ℕ) → length first ≡ back → drop back (kinds (first ++ map (token_after_shift removed added) (drop following old))) ≡ drop following (kinds old)
 back_kinds old first following back removed added at =
-    let kind = λ (t : Token). valueless t.kind in
-    let moved : List Token = map (moved_token removed added) (drop following old) in
+    let kind = λ (t : Token). kind_without_value t.kind in
+    let moved : List Token = map (token_after_shift removed added) (drop following old) in
     ap (drop back) (kinds-append first moved)
     ∙ drop_at (kinds first) (kinds moved) back (length-map first kind ∙ at)
     ∙ kinds-moved removed added (drop following old)
@@ -40,7 +40,7 @@ pub same_tokens : (old between : List Token) (front following removed added : �
     → s.new_suffix ≡ length (joined_tokens old between front following removed added) - (length old - following)
     → HasSameTokens s old (joined_tokens old between front following removed added)
 same_tokens old between front following removed added s ordered inside is_front is_old_back is_back =
-    let moved : List Token = map (moved_token removed added) (drop following old) in
+    let moved : List Token = map (token_after_shift removed added) (drop following old) in
     let all : List Token = joined_tokens old between front following removed added in
     let front_inside : front ≤ length old = omega (arith, ordered, inside) in
     let count : length all ≡ front + (length between + (length old - following)) = joined_length old between front following removed added front_inside in

@@ -6,50 +6,50 @@ use Rattle.ob0_scan.specs.declared.lexeme.Span.{Span}
 use Rattle.ob0_scan.specs.declared.lexeme.Token.{Token}
 use Rattle.ob0_scan.specs.declared.lexeme.TokenKind.{TokenKind}
 use Rattle.ob0_scan.specs.declared.lexeme.TokenKind.TheVariants as kind
-use Rattle.ob0_scan.specs.Scanned.{Scanned, Word, read_in, spanned}
+use Rattle.ob0_scan.specs.TextWithTokens.{TextWithTokens, Word, word_of_token, text_in_span}
 
 -- Holds if the new text has `added` bytes in place of the `removed` bytes of the old text that
 -- start at `from`. Before and after these bytes the two texts are equal.
-pub record IsReplaced (old new : List ℕ) (from removed added : ℕ) : Type 0 where
+pub record ReplacesRange (old new : List ℕ) (from removed added : ℕ) : Type 0 where
   pub inside_old : from + removed ≤ length old
   pub inside_new : from + added ≤ length new
   pub front : take from old ≡ take from new
   pub following : drop (from + removed) old ≡ drop (from + added) new
 
 -- Returns the kind of a token, ignoring the value of an integer.
-abbrev pub valueless : TokenKind → TokenKind
-valueless (kind.Integer value) = kind.Integer 0
-valueless k = k
+abbrev pub kind_without_value : TokenKind → TokenKind
+kind_without_value (kind.Integer value) = kind.Integer 0
+kind_without_value k = k
 
 -- Returns the kinds of the tokens, in order, ignoring the values of integers.
 abbrev pub kinds : List Token → List TokenKind
-kinds tokens = map (λ (t : Token). valueless t.kind) tokens
+kinds tokens = map (λ (t : Token). kind_without_value t.kind) tokens
 
 -- Returns the spelling of an identifier, or the empty text for any other kind of token.
-abbrev pub name_of : TokenKind → List ℕ → List ℕ
-name_of kind.Identifier text = text
-name_of (kind.Integer value) text = []
-name_of (kind.Reserved word) text = []
-name_of (kind.Symbol symbol) text = []
+abbrev pub name_or_empty : TokenKind → List ℕ → List ℕ
+name_or_empty kind.Identifier text = text
+name_or_empty (kind.Integer value) text = []
+name_or_empty (kind.ReservedWord word) text = []
+name_or_empty (kind.Symbol symbol) text = []
 
 -- Returns the spellings of the identifiers among a text's tokens, in order, with an empty text for
 -- each other token.
 abbrev pub names_in : List ℕ → List Token → List (List ℕ)
-names_in text tokens = map (λ (t : Token). name_of t.kind (spanned text t.span)) tokens
+names_in text tokens = map (λ (t : Token). name_or_empty t.kind (text_in_span text t.span)) tokens
 
 -- Returns the tokens of a text as the grammar sees them: their kinds and spellings.
-abbrev pub words_in : List ℕ → List Token → List Word
-words_in text tokens = map (read_in text) tokens
+abbrev pub words_of_tokens : List ℕ → List Token → List Word
+words_of_tokens text tokens = map (word_of_token text) tokens
 
 -- Returns a span that lies after the change, shifted by `added` less `removed`.
-abbrev pub move_span : ℕ → ℕ → Span → Span
-move_span removed added span =
+abbrev pub span_after_shift : ℕ → ℕ → Span → Span
+span_after_shift removed added span =
     record { start = span.start + added - removed; end = span.end + added - removed }
 
 -- Returns a token that lies after the change, shifted by `added` less `removed`.
-abbrev pub moved_token : ℕ → ℕ → Token → Token
-moved_token removed added token =
-    record { kind = token.kind; span = move_span removed added token.span }
+abbrev pub token_after_shift : ℕ → ℕ → Token → Token
+token_after_shift removed added token =
+    record { kind = token.kind; span = span_after_shift removed added token.span }
 
 -- Returns the leading tokens that end before a place.
 abbrev pub tokens_before_change : ℕ → List Token → List Token
@@ -61,21 +61,21 @@ comments_before_change place comments =
     take (prefix_len (λ c. nat_lt c.end place) comments) comments
 
 -- Returns the tokens without the leading ones that begin before a place.
-abbrev pub back_tokens : ℕ → List Token → List Token
-back_tokens place tokens = drop (prefix_len (λ t. nat_lt t.span.start place) tokens) tokens
+abbrev pub tokens_beginning_from : ℕ → List Token → List Token
+tokens_beginning_from place tokens = drop (prefix_len (λ t. nat_lt t.span.start place) tokens) tokens
 
 -- Returns the comments without the leading ones that begin before a place.
-abbrev pub back_comments : ℕ → List Span → List Span
-back_comments place comments = drop (prefix_len (λ c. nat_lt c.start place) comments) comments
+abbrev pub comments_beginning_from : ℕ → List Span → List Span
+comments_beginning_from place comments = drop (prefix_len (λ c. nat_lt c.start place) comments) comments
 
 -- Holds if no token and no comment of the scan begins at this place.
-pub record NoOldBegins (s : Scanned) (place : ℕ) : Type 0 where
+pub record NoOldBegins (s : TextWithTokens) (place : ℕ) : Type 0 where
   pub tokens : All (λ (t : Token). t.span.start ≢ place) s.tokens
   pub comments : All (λ (c : Span). c.start ≢ place) s.comments
 
 -- Holds if the span begins before the end of the changed bytes, or no old token or comment began at
 -- its place.
-abbrev pub IsNew : Scanned → ℕ → ℕ → ℕ → Span → Type 0
+abbrev pub IsNew : TextWithTokens → ℕ → ℕ → ℕ → Span → Type 0
 IsNew old from removed added span =
     from + added ≤ span.start → NoOldBegins old (span.start + removed - added)
 
@@ -83,17 +83,17 @@ IsNew old from removed added span =
 -- change. The last are old ones after the change, shifted. Between them are `read` tokens and
 -- comments. If one of these begins after the change, no old token or comment began at its place. So
 -- the last ones start at the first place at which tokens or comments of both texts begin.
-pub record Reuses (old new : Scanned) (from removed added read : ℕ) : Type 0 where
+pub record Reuses (old new : TextWithTokens) (from removed added read : ℕ) : Type 0 where
   pub place : ℕ
   pub following : from + removed ≤ place
   pub tokens_between : List Token
   pub comments_between : List Span
   pub tokens : new.tokens
       ≡ (tokens_before_change from old.tokens ++ tokens_between)
-      ++ map (moved_token removed added) (back_tokens place old.tokens)
+      ++ map (token_after_shift removed added) (tokens_beginning_from place old.tokens)
   pub comments : new.comments
       ≡ (comments_before_change from old.comments ++ comments_between)
-      ++ map (move_span removed added) (back_comments place old.comments)
+      ++ map (span_after_shift removed added) (comments_beginning_from place old.comments)
   pub read_are : read ≡ length tokens_between + length comments_between
   pub tokens_new : All (λ (t : Token). IsNew old from removed added t.span) tokens_between
   pub comments_new : All (λ (c : Span). IsNew old from removed added c) comments_between

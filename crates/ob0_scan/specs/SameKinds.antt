@@ -3,8 +3,8 @@
 use Rattle.std.specs.Prelude.{◌≡◌, ◌≤◌, List, length, take, drop}
 use Rattle.ob0_scan.specs.declared.lexeme.Token.{Token}
 use Rattle.ob0_scan.specs.declared.tokens.SameTokens.{SameTokens}
-use Rattle.ob0_scan.specs.Reused.{kinds, words_in}
-use Rattle.ob0_scan.specs.Scanned.{Scanned}
+use Rattle.ob0_scan.specs.Reused.{kinds, words_of_tokens}
+use Rattle.ob0_scan.specs.TextWithTokens.{TextWithTokens}
 
 -- Holds if two parts of the new tokens have the same kinds as before: the first `prefix` tokens,
 -- and the last ones, which start at `new_suffix` and started at `old_suffix` before. No token is in
@@ -18,8 +18,8 @@ pub record HasSameTokens (s : SameTokens) (old new : List Token) : Type 0 where
   pub back : drop s.new_suffix (kinds new) ≡ drop s.old_suffix (kinds old)
 
 -- Holds if the tokens that `s` describes also have the same spellings as before.
-pub record HasSameWords (s : SameTokens) (old new : Scanned) : Type 0 where
-  pub front : take s.prefix (words_in new.text new.tokens)
-      ≡ take s.prefix (words_in old.text old.tokens)
-  pub back : drop s.new_suffix (words_in new.text new.tokens)
-      ≡ drop s.old_suffix (words_in old.text old.tokens)
+pub record HasSameWords (s : SameTokens) (old new : TextWithTokens) : Type 0 where
+  pub front : take s.prefix (words_of_tokens new.text new.tokens)
+      ≡ take s.prefix (words_of_tokens old.text old.tokens)
+  pub back : drop s.new_suffix (words_of_tokens new.text new.tokens)
+      ≡ drop s.old_suffix (words_of_tokens old.text old.tokens)

@@ -12,8 +12,8 @@ ghost use Rattle.std.specs.List.{All, prefix_len};
 ghost use Rattle.std.specs.List.Sorted.{IsNonDecreasingBy};
 ghost use Rattle.ob0_scan.specs.declared.lexeme.Span.{Span};
 ghost use Rattle.ob0_scan.specs.declared.lexeme.Token.{Token};
-ghost use Rattle.ob0_scan.specs.Reused.{IsReplaced, move_span, moved_token, tokens_before_change, comments_before_change, back_tokens, back_comments};
-ghost use Rattle.ob0_scan.specs.Rescanning.{token_end, comment_end, last_end, token_begins, comment_begins, AreInOrder, IsMovable};
+ghost use Rattle.ob0_scan.specs.Reused.{ReplacesRange, span_after_shift, token_after_shift, tokens_before_change, comments_before_change, tokens_beginning_from, comments_beginning_from};
+ghost use Rattle.ob0_scan.specs.RescanState.{token_end, comment_end, last_end, first_token_begins_at, first_comment_begins_at, AreInOrder, IsMovable};
 
 use crate::lexeme::{Span, Token};
 use std::alloc::AllocError;
@@ -29,7 +29,7 @@ pub(crate) struct ReplacedRange {
 
 impl ReplacedRange {
     /// Converts the offset of a byte after the change from the new text to the old text.
-    pub(crate) fn old_place(self, place: usize) -> usize
+    pub(crate) fn old_offset(self, place: usize) -> usize
         requires following { self.added ≤ place }
         requires small { place + self.removed < 2 ^ 64 }
         ensures { result + self.added ≡ place + self.removed }
@@ -41,7 +41,7 @@ impl ReplacedRange {
     /// them move. If the change begins or ends inside a character, the whole new text is copied. If
     /// an allocation fails, nothing is promised about `old`.
     pub(crate) fn replace(self, old: &mut String, new: &str) -> Result<(), AllocError>
-        requires { IsReplaced (string_bytes old.old) new.now self.from self.removed self.added }
+        requires { ReplacesRange (string_bytes old.old) new.now self.from self.removed self.added }
         ensures { OnOk result (string_bytes old.new ≡ new.now) }
     {
         let (end, new_end) = (self.from + self.removed, self.from + self.added);
@@ -57,9 +57,9 @@ impl ReplacedRange {
     }
 
     /// Returns a span that lies after the change, shifted from the old text to the new text.
-    fn move_span(self, span: Span) -> Span
+    fn span_after_shift(self, span: Span) -> Span
         requires { IsMovable self.removed self.added span }
-        ensures { result ≡ move_span self.removed self.added span }
+        ensures { result ≡ span_after_shift self.removed self.added span }
     {
         Span {
             start: (span.start as usize + self.added - self.removed) as u32,
@@ -70,22 +70,22 @@ impl ReplacedRange {
 
 /// Some consecutive tokens of a text and some of its consecutive comments, each in text order.
 #[derive(Clone, Copy)]
-pub(crate) struct Pieces<'t> {
+pub(crate) struct LexemeSlices<'t> {
     pub(crate) tokens: &'t [Token],
     pub(crate) comments: &'t [Span],
 }
 
-impl<'t> Pieces<'t> {
+impl<'t> LexemeSlices<'t> {
     /// Returns the leading tokens and comments that end before a byte offset, by binary search.
-    pub(crate) fn ending_before(self, place: usize) -> Pieces<'t>
+    pub(crate) fn front_before(self, place: usize) -> LexemeSlices<'t>
         requires { AreInOrder self.tokens.now self.comments.now }
         ensures tokens { result.tokens.now ≡ tokens_before_change place self.entry.tokens.now }
         ensures comments { result.comments.now
             ≡ comments_before_change place self.entry.comments.now }
     {
-        let tokens = tokens_ending_before(self.tokens, place);
-        let comments = comments_ending_before(self.comments, place);
-        Pieces {
+        let tokens = count_tokens_ending_before(self.tokens, place);
+        let comments = count_comments_ending_before(self.comments, place);
+        LexemeSlices {
             tokens: &self.tokens[..tokens],
             comments: &self.comments[..comments],
         }
@@ -93,14 +93,14 @@ impl<'t> Pieces<'t> {
 
     /// Returns the tokens and comments without the leading ones that begin before a byte offset, by
     /// binary search.
-    pub(crate) fn beginning_from(self, place: usize) -> Pieces<'t>
+    pub(crate) fn rest_from(self, place: usize) -> LexemeSlices<'t>
         requires { AreInOrder self.tokens.now self.comments.now }
-        ensures tokens { result.tokens.now ≡ back_tokens place self.entry.tokens.now }
-        ensures comments { result.comments.now ≡ back_comments place self.entry.comments.now }
+        ensures tokens { result.tokens.now ≡ tokens_beginning_from place self.entry.tokens.now }
+        ensures comments { result.comments.now ≡ comments_beginning_from place self.entry.comments.now }
     {
-        let tokens = tokens_beginning_before(self.tokens, place);
-        let comments = comments_beginning_before(self.comments, place);
-        Pieces {
+        let tokens = count_tokens_beginning_before(self.tokens, place);
+        let comments = count_comments_beginning_before(self.comments, place);
+        LexemeSlices {
             tokens: &self.tokens[tokens..],
             comments: &self.comments[comments..],
         }
@@ -108,25 +108,25 @@ impl<'t> Pieces<'t> {
 
     /// Returns the tokens and comments without the leading ones that begin before a byte offset.
     /// The skipped ones should be few, because they are visited one by one.
-    pub(crate) fn onward_to(self, place: usize) -> Pieces<'t>
-        ensures tokens { result.tokens.now ≡ back_tokens place self.entry.tokens.now }
-        ensures comments { result.comments.now ≡ back_comments place self.entry.comments.now }
+    pub(crate) fn skip_to(self, place: usize) -> LexemeSlices<'t>
+        ensures tokens { result.tokens.now ≡ tokens_beginning_from place self.entry.tokens.now }
+        ensures comments { result.comments.now ≡ comments_beginning_from place self.entry.comments.now }
     {
-        let tokens = first_tokens_before(self.tokens, place);
-        let comments = first_comments_before(self.comments, place);
-        Pieces {
+        let tokens = count_tokens_before_linearly(self.tokens, place);
+        let comments = count_comments_before_linearly(self.comments, place);
+        LexemeSlices {
             tokens: &self.tokens[tokens..],
             comments: &self.comments[comments..],
         }
     }
 
     /// Returns true if the first token or the first comment begins at a byte offset.
-    pub(crate) fn begin_at(self, place: usize) -> bool
+    pub(crate) fn first_begins_at(self, place: usize) -> bool
         ensures { result
-            ≡ token_begins place self.entry.tokens.now
-            || comment_begins place self.entry.comments.now }
+            ≡ first_token_begins_at place self.entry.tokens.now
+            || first_comment_begins_at place self.entry.comments.now }
     {
-        token_begins(self.tokens, place) || comment_begins(self.comments, place)
+        first_token_begins_at(self.tokens, place) || first_comment_begins_at(self.comments, place)
     }
 
     /// Returns the byte offset at which the last token or comment ends, whichever is later, or 0 if
@@ -139,8 +139,8 @@ impl<'t> Pieces<'t> {
 }
 
 /// Returns true if the first token begins at a byte offset.
-fn token_begins(tokens: &[Token], place: usize) -> bool
-    ensures { result ≡ token_begins place tokens.now }
+fn first_token_begins_at(tokens: &[Token], place: usize) -> bool
+    ensures { result ≡ first_token_begins_at place tokens.now }
 {
     match tokens {
         [token, ..] => token.span.start as usize == place,
@@ -149,8 +149,8 @@ fn token_begins(tokens: &[Token], place: usize) -> bool
 }
 
 /// Returns true if the first comment begins at a byte offset.
-fn comment_begins(comments: &[Span], place: usize) -> bool
-    ensures { result ≡ comment_begins place comments.now }
+fn first_comment_begins_at(comments: &[Span], place: usize) -> bool
+    ensures { result ≡ first_comment_begins_at place comments.now }
 {
     match comments {
         [comment, ..] => comment.start as usize == place,
@@ -179,7 +179,7 @@ fn comment_end(comment: Option<&Span>) -> usize
 }
 
 /// Returns the number of leading tokens that end before a byte offset, by binary search.
-fn tokens_ending_before(tokens: &[Token], place: usize) -> usize
+fn count_tokens_ending_before(tokens: &[Token], place: usize) -> usize
     requires { IsNonDecreasingBy (λ (t : Token). t.span.end) tokens.now }
     ensures bound { result ≤ length tokens.now }
     ensures count { result ≡ prefix_len (λ (t : Token). nat_lt t.span.end place) tokens.now }
@@ -188,7 +188,7 @@ fn tokens_ending_before(tokens: &[Token], place: usize) -> usize
 }
 
 /// Returns the number of leading comments that end before a byte offset, by binary search.
-fn comments_ending_before(comments: &[Span], place: usize) -> usize
+fn count_comments_ending_before(comments: &[Span], place: usize) -> usize
     requires { IsNonDecreasingBy (λ (c : Span). c.end) comments.now }
     ensures bound { result ≤ length comments.now }
     ensures count { result ≡ prefix_len (λ (c : Span). nat_lt c.end place) comments.now }
@@ -197,7 +197,7 @@ fn comments_ending_before(comments: &[Span], place: usize) -> usize
 }
 
 /// Returns the number of leading tokens that begin before a byte offset, by binary search.
-fn tokens_beginning_before(tokens: &[Token], place: usize) -> usize
+fn count_tokens_beginning_before(tokens: &[Token], place: usize) -> usize
     requires { IsNonDecreasingBy (λ (t : Token). t.span.start) tokens.now }
     ensures bound { result ≤ length tokens.now }
     ensures count { result ≡ prefix_len (λ (t : Token). nat_lt t.span.start place) tokens.now }
@@ -206,7 +206,7 @@ fn tokens_beginning_before(tokens: &[Token], place: usize) -> usize
 }
 
 /// Returns the number of leading comments that begin before a byte offset, by binary search.
-fn comments_beginning_before(comments: &[Span], place: usize) -> usize
+fn count_comments_beginning_before(comments: &[Span], place: usize) -> usize
     requires { IsNonDecreasingBy (λ (c : Span). c.start) comments.now }
     ensures bound { result ≤ length comments.now }
     ensures count { result ≡ prefix_len (λ (c : Span). nat_lt c.start place) comments.now }
@@ -215,7 +215,7 @@ fn comments_beginning_before(comments: &[Span], place: usize) -> usize
 }
 
 /// Returns the number of leading tokens that begin before a byte offset. It visits them one by one.
-fn first_tokens_before(tokens: &[Token], place: usize) -> usize
+fn count_tokens_before_linearly(tokens: &[Token], place: usize) -> usize
     ensures bound { result ≤ length tokens.now }
     ensures count { result ≡ prefix_len (λ (t : Token). nat_lt t.span.start place) tokens.now }
 {
@@ -227,7 +227,7 @@ fn first_tokens_before(tokens: &[Token], place: usize) -> usize
 
 /// Returns the number of leading comments that begin before a byte offset. It visits them one by
 /// one.
-fn first_comments_before(comments: &[Span], place: usize) -> usize
+fn count_comments_before_linearly(comments: &[Span], place: usize) -> usize
     ensures bound { result ≤ length comments.now }
     ensures count { result ≡ prefix_len (λ (c : Span). nat_lt c.start place) comments.now }
 {
@@ -252,9 +252,9 @@ pub(crate) fn splice_tokens(
     ensures { OnOk result (tokens.new.items
         ≡ take front tokens.old.items
         ++ (between.items
-        ++ map (moved_token change.removed change.added) (drop following tokens.old.items))) }
+        ++ map (token_after_shift change.removed change.added) (drop following tokens.old.items))) }
 {
-    move_tokens(tokens, following, change);
+    shift_tokens(tokens, following, change);
     tokens.splice(front..following, between)?;
     Ok(())
 }
@@ -275,41 +275,41 @@ pub(crate) fn splice_comments(
     ensures { OnOk result (comments.new.items
         ≡ take front comments.old.items
         ++ (between.items
-        ++ map (move_span change.removed change.added) (drop following comments.old.items))) }
+        ++ map (span_after_shift change.removed change.added) (drop following comments.old.items))) }
 {
-    move_comments(comments, following, change);
+    shift_comments(comments, following, change);
     comments.splice(front..following, between)?;
     Ok(())
 }
 
 /// Shifts the spans of the tokens starting at index `first` to their places in the changed text.
-fn move_tokens(tokens: &mut Vec<Token>, first: usize, change: ReplacedRange)
+fn shift_tokens(tokens: &mut Vec<Token>, first: usize, change: ReplacedRange)
     requires inside { first ≤ length tokens.old.items }
     requires movable { All (λ (t : Token). IsMovable change.removed change.added t.span)
         (drop first tokens.old.items) }
     ensures { tokens.new.items
         ≡ take first tokens.old.items
-        ++ map (moved_token change.removed change.added) (drop first tokens.old.items) }
+        ++ map (token_after_shift change.removed change.added) (drop first tokens.old.items) }
 {
     for index in first..tokens.len() {
         let Token { kind, span } = tokens[index];
         tokens[index] = Token {
             kind,
-            span: change.move_span(span),
+            span: change.span_after_shift(span),
         };
     }
 }
 
 /// Shifts the spans of the comments starting at index `first` to their places in the changed text.
-fn move_comments(comments: &mut Vec<Span>, first: usize, change: ReplacedRange)
+fn shift_comments(comments: &mut Vec<Span>, first: usize, change: ReplacedRange)
     requires inside { first ≤ length comments.old.items }
     requires movable { All (λ (c : Span). IsMovable change.removed change.added c)
         (drop first comments.old.items) }
     ensures { comments.new.items
         ≡ take first comments.old.items
-        ++ map (move_span change.removed change.added) (drop first comments.old.items) }
+        ++ map (span_after_shift change.removed change.added) (drop first comments.old.items) }
 {
     for index in first..comments.len() {
-        comments[index] = change.move_span(comments[index]);
+        comments[index] = change.span_after_shift(comments[index]);
     }
 }

@@ -5,7 +5,7 @@ use Rattle.std.proofs.Common.{◌≡◌, ℕ, zero, suc, List, [], ◌∷◌, �
 use Rattle.ob0_tree.specs.declared.tree.Role.{Role}
 use Rattle.ob0_tree.specs.declared.tree.Role.TheVariants as role
 use Rattle.ob0_tree.specs.Tree.{Tree, block, declares, declares_procedure, end, has_body, identifiers, is_module, item, items, module_text, more, procedure}
-use Rattle.ob0_scope_table.specs.BodyReplaced.{Way, block_without, body_among, body_at, body_in, body_inside, closing_among, closing_at, closing_in, closing_inside, procedure_without, procedures_without, without}
+use Rattle.ob0_scope_table.specs.BodyReplaced.{WayToBody, block_without, body_among, body_at, body_in, body_inside, closing_name_in_procedures, closing_name_in_module, closing_name_in_block, closing_name_in_procedure, procedure_without, procedures_without, module_without_body}
 
 -- states that `whole` is `rest` with the identifiers of a body inserted; the closing name comes
 -- first after the body
@@ -40,8 +40,8 @@ in_procedure x f b rest last = simp (append_assoc)
 
 mutual
   -- Splits the identifiers of a block with this closing name, and others after it.
-  pub split_block : {N : Type 0} (way : Way) (closes : Role) (own : N) (rest : List (Role × N)) (b : Tree N block)
-      → Split (identifiers role.Declaring b ++ ((closes, own) ∷ rest)) (identifiers role.Declaring (block_without way b) ++ ((closes, own) ∷ rest)) (identifiers role.Declaring (body_in way b)) (closing_in way own b)
+  pub split_block : {N : Type 0} (way : WayToBody) (closes : Role) (own : N) (rest : List (Role × N)) (b : Tree N block)
+      → Split (identifiers role.Declaring b ++ ((closes, own) ∷ rest)) (identifiers role.Declaring (block_without way b) ++ ((closes, own) ∷ rest)) (identifiers role.Declaring (body_in way b)) (closing_name_in_block way own b)
   split_block [] closes own rest (has_body ds statements) =
       let d = identifiers role.Declaring ds in
       let s = identifiers role.Declaring statements in
@@ -61,8 +61,8 @@ mutual
       (prepend (c ++ (t ++ v)) (split_among k way closes own s rest ps))
 
   -- Splits the identifiers of procedures, and others after them.
-  pub split_among : {N : Type 0} (k : ℕ) (way : Way) (closes : Role) (own : N) (following rest : List (Role × N)) (ps : Tree N (items procedure))
-      → Split (identifiers role.Declaring ps ++ (following ++ ((closes, own) ∷ rest))) (identifiers role.Declaring (procedures_without k way ps) ++ (following ++ ((closes, own) ∷ rest))) (identifiers role.Declaring (body_among k way ps)) (closing_among k way own ps)
+  pub split_among : {N : Type 0} (k : ℕ) (way : WayToBody) (closes : Role) (own : N) (following rest : List (Role × N)) (ps : Tree N (items procedure))
+      → Split (identifiers role.Declaring ps ++ (following ++ ((closes, own) ∷ rest))) (identifiers role.Declaring (procedures_without k way ps) ++ (following ++ ((closes, own) ∷ rest))) (identifiers role.Declaring (body_among k way ps)) (closing_name_in_procedures k way own ps)
   split_among zero way closes own following rest end = record { before = following; closes = closes; after = rest; whole_is = refl; rest_is = refl }
   split_among (suc k) way closes own following rest end = record { before = following; closes = closes; after = rest; whole_is = refl; rest_is = refl }
   split_among zero way closes own following rest (more p ps) =
@@ -76,13 +76,13 @@ mutual
       (prepend (identifiers role.Declaring p) (split_among k way closes own following rest ps))
 
   -- Splits the identifiers of a procedure, and others after it.
-  pub split_inside : {N : Type 0} (way : Way) (rest : List (Role × N)) (p : Tree N (item procedure))
-      → Split (identifiers role.Declaring p ++ rest) (identifiers role.Declaring (procedure_without way p) ++ rest) (identifiers role.Declaring (body_inside way p)) (closing_inside way p)
+  pub split_inside : {N : Type 0} (way : WayToBody) (rest : List (Role × N)) (p : Tree N (item procedure))
+      → Split (identifiers role.Declaring p ++ rest) (identifiers role.Declaring (procedure_without way p) ++ rest) (identifiers role.Declaring (body_inside way p)) (closing_name_in_procedure way p)
   split_inside way rest (declares_procedure x fs b closing) =
       let f = identifiers role.Declaring fs in
       split_is (in_procedure (role.Declaring, x) f (identifiers role.Declaring b) rest (role.ClosingName, closing)) (in_procedure (role.Declaring, x) f (identifiers role.Declaring (block_without way b)) rest (role.ClosingName, closing))
       (prepend ((role.Declaring, x) ∷ f) (split_block way role.ClosingName closing rest b))
 
 -- Splits the identifiers of a module.
-pub split_module : {N : Type 0} (way : Way) (t : Tree N module_text) → Split (identifiers role.Declaring t) (identifiers role.Declaring (without way t)) (identifiers role.Declaring (body_at way t)) (closing_at way t)
+pub split_module : {N : Type 0} (way : WayToBody) (t : Tree N module_text) → Split (identifiers role.Declaring t) (identifiers role.Declaring (module_without_body way t)) (identifiers role.Declaring (body_at way t)) (closing_name_in_module way t)
 split_module way (is_module x b closing) = prepend ((role.ModuleName, x) ∷ []) (split_block way role.ModuleName closing [] b)

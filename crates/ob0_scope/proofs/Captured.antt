@@ -3,62 +3,62 @@ use Rattle.std.proofs.Common.{◌≡◌, ◌↔◌, ℕ, Bool, true, false, not,
 use Rattle.std.specs.List.{list_any}
 use Rattle.std.specs.Option.{option_or}
 use Rattle.ob0_tree.specs.Tree.{Tree, module_text}
-use Rattle.ob0_scope.specs.declared.capturing.FirstCapture as reported
-use Rattle.ob0_scope.specs.declared.capturing.FirstCapture.TheVariants as reports
+use Rattle.ob0_scope.specs.declared.name_conflicts.FirstConflict as reported
+use Rattle.ob0_scope.specs.declared.name_conflicts.FirstConflict.TheVariants as reports
 use Rattle.ob0_language_names.specs.Names.{Name, same_name}
-use Rattle.ob0_language_names.specs.Occurrences.{Free, at_declaration, at_occurrence, bindings, blocks_in, declares_ordinal, first_captured, first_difference, is_duplicate, names_another}
+use Rattle.ob0_language_names.specs.Occurrences.{Free, at_declaration, at_occurrence, bindings, blocks_in, declares_ordinal, first_name_conflict, first_difference, is_duplicate, another_has_name}
 use Rattle.ob0_language_names.specs.Parts.{module_block}
-use Rattle.ob0_scope.specs.Renames.{namesake, namesake_in, other_named, place_of}
+use Rattle.ob0_scope.specs.Renames.{namesake, namesake_in, other_with_name, conflict_of}
 use Rattle.ob0_language_names.specs.Scopes.{Scope, renamed}
-use Rattle.ob0_scope.proofs.FirstCaptures.{captured_where_not_free-holds}
+use Rattle.ob0_scope.proofs.FirstCaptures.{free_means_no_conflict-holds}
 
-other_is : (own : Scope Name) (d : ℕ) (new : Name) → is_some (other_named own d new) ≡ names_another own d new
+other_is : (own : Scope Name) (d : ℕ) (new : Name) → is_some (other_with_name own d new) ≡ another_has_name own d new
 other_is [] d new = refl
-other_is (b ∷ own) d new = one (same_name b.0 new && not (b.1 == d)) (other_named own d new) (names_another own d new) (other_is own d new)
+other_is (b ∷ own) d new = one (same_name b.0 new && not (b.1 == d)) (other_with_name own d new) (another_has_name own d new) (other_is own d new)
   where
     one : (c : Bool) (found : Option ℕ) (rest : Bool) → is_some found ≡ rest → is_some (if c then Some b.1 else found) ≡ (c || rest)
     one true found rest e = refl
     one false found rest e = e
 
-namesake_is : (blocks : List (Scope Name)) (d : ℕ) (new : Name) → is_some (namesake_in blocks d new) ≡ list_any (λ own. declares_ordinal own d && names_another own d new) blocks
+namesake_is : (blocks : List (Scope Name)) (d : ℕ) (new : Name) → is_some (namesake_in blocks d new) ≡ list_any (λ own. declares_ordinal own d && another_has_name own d new) blocks
 namesake_is [] d new = refl
 namesake_is (own ∷ blocks) d new =
-    both (if declares_ordinal own d then other_named own d new else None) (namesake_in blocks d new)
+    both (if declares_ordinal own d then other_with_name own d new else None) (namesake_in blocks d new)
     ∙ (λ i. (here (declares_ordinal own d) ∙ ap (λ b. declares_ordinal own d && b) (other_is own d new)) i || namesake_is blocks d new i)
   where
     both : (o p : Option ℕ) → is_some (option_or o p) ≡ (is_some o || is_some p)
     both None p = refl
     both (Some k) p = refl
 
-    here : (c : Bool) → is_some (if c then other_named own d new else None) ≡ (c && is_some (other_named own d new))
+    here : (c : Bool) → is_some (if c then other_with_name own d new else None) ≡ (c && is_some (other_with_name own d new))
     here true = refl
     here false = refl
 
 duplicate_is : (m : Tree Name module_text) (d : ℕ) (new : Name) (o : Option ℕ) → o ≡ namesake m d new → is_duplicate m d new ≡ is_some o
 duplicate_is m d new o e = sym (namesake_is (blocks_in 7 [] (module_block m)) d new) ∙ ap is_some (sym e)
 
-pub captured_there : (m : Tree Name module_text) (d : ℕ) (new : Name) (other : ℕ) → Some other ≡ namesake m d new → Some at_declaration ≡ first_captured m d new
+pub captured_there : (m : Tree Name module_text) (d : ℕ) (new : Name) (other : ℕ) → Some other ≡ namesake m d new → Some at_declaration ≡ first_name_conflict m d new
 captured_there m d new other e =
     sym (ap (λ b. if b then Some at_declaration else option_map at_occurrence (first_difference (bindings (renamed m d new)) (bindings m))) (duplicate_is m d new (Some other) e))
 
-pub captured_later : (m : Tree Name module_text) (d : ℕ) (new : Name) (found : Option reported.FirstCapture) → None ≡ namesake m d new
-    → found ≡ option_map reports.Occurrence (first_difference (bindings (renamed m d new)) (bindings m)) → option_map place_of found ≡ first_captured m d new
+pub captured_later : (m : Tree Name module_text) (d : ℕ) (new : Name) (found : Option reported.FirstConflict) → None ≡ namesake m d new
+    → found ≡ option_map reports.Occurrence (first_difference (bindings (renamed m d new)) (bindings m)) → option_map conflict_of found ≡ first_name_conflict m d new
 captured_later m d new found e f =
-    ap (option_map place_of) f
+    ap (option_map conflict_of) f
     ∙ (placed (first_difference (bindings (renamed m d new)) (bindings m))
     ∙ sym (ap (λ b. if b then Some at_declaration else option_map at_occurrence (first_difference (bindings (renamed m d new)) (bindings m))) (duplicate_is m d new None e)))
   where
-    placed : (o : Option ℕ) → option_map place_of (option_map reports.Occurrence o) ≡ option_map at_occurrence o
+    placed : (o : Option ℕ) → option_map conflict_of (option_map reports.Occurrence o) ≡ option_map at_occurrence o
     placed None = refl
     placed (Some k) = refl
 
-pub free_where_none : (m : Tree Name module_text) (d : ℕ) (new : Name) (found : Option reported.FirstCapture) → option_map place_of found ≡ first_captured m d new → found ≡ None ↔ Free m d new
+pub free_where_none : (m : Tree Name module_text) (d : ℕ) (new : Name) (found : Option reported.FirstConflict) → option_map conflict_of found ≡ first_name_conflict m d new → found ≡ None ↔ Free m d new
 free_where_none m d new found e = (
-  λ none. (captured_where_not_free-holds m d new).0 (sym e ∙ ap (option_map place_of) none),
-  λ free. nothing found (e ∙ (captured_where_not_free-holds m d new).1 free),
+  λ none. (free_means_no_conflict-holds m d new).0 (sym e ∙ ap (option_map conflict_of) none),
+  λ free. nothing found (e ∙ (free_means_no_conflict-holds m d new).1 free),
 )
   where
-    nothing : (o : Option reported.FirstCapture) → option_map place_of o ≡ None → o ≡ None
+    nothing : (o : Option reported.FirstConflict) → option_map conflict_of o ≡ None → o ≡ None
     nothing None h = refl
     nothing (Some c) h = absurd (cc)
 

@@ -6,27 +6,27 @@ use Rattle.std.proofs.Math.Seq.{get_or-append_right}
 use Rattle.std.proofs.lemmas.List.{get_or-drop, length-replicate}
 use Rattle.ob0_tree.specs.declared.tree.Role.{Role}
 use Rattle.ob0_tree.specs.declared.tree.Role.TheVariants as role
-use Rattle.ob0_tree.specs.Order.{Ascending, names_only}
+use Rattle.ob0_tree.specs.Order.{AreAscending, names_without_roles}
 use Rattle.ob0_tree.proofs.Occurring.{looked_up_only, looked_up_only-append}
-use Rattle.ob0_tree.specs.FirstIdentifier.{first_of}
+use Rattle.ob0_tree.specs.FirstIdentifier.{first_token_of}
 use Rattle.ob0_tree.proofs.AscendingNumbers.{AllBelow, AllFrom, ascend_second, ascending_below, ascending_from, before_one, below_more, from_first, from_less, leaves_append}
 use Rattle.ob0_tree.proofs.MappedIdentifiers.{beside_role}
-use Rattle.ob0_scope_table.specs.Resolution.{declaring_only, ordinal_in}
-use Rattle.ob0_scope_table.proofs.Plain.{declaring_only-append}
+use Rattle.ob0_scope_table.specs.Resolution.{declaring_names, ordinal_in}
+use Rattle.ob0_scope_table.proofs.Plain.{declaring_names-append}
 use Rattle.ob0_scope_numbering.proofs.Tables.{none_at}
-use Rattle.ob0_scope.specs.Carried.{after_body, before_body, carried, carried_table, shifted}
-use Rattle.ob0_scope.specs.declared.carrying.BodyRange.{BodyRange}
+use Rattle.ob0_scope.specs.Carried.{tokens_after_body, tokens_before_body, carried_tokens, carried_ordinals, shifted_token}
+use Rattle.ob0_scope.specs.declared.body_range.BodyRange.{BodyRange}
 
 -- ---- identifiers in three parts
 
 -- states the bounds of the identifiers before a body, in it, and from its block's closing name
 -- onwards
 pub record Parted (before own after : List (Role × ℕ)) (first closing high : ℕ) : Type 0 where
-  pub before_below : AllBelow first (names_only before)
-  pub own_from : AllFrom first (names_only own)
-  pub own_below : AllBelow closing (names_only own)
-  pub after_from : AllFrom closing (names_only after)
-  pub after_below : AllBelow high (names_only after)
+  pub before_below : AllBelow first (names_without_roles before)
+  pub own_from : AllFrom first (names_without_roles own)
+  pub own_below : AllBelow closing (names_without_roles own)
+  pub after_from : AllFrom closing (names_without_roles after)
+  pub after_below : AllBelow high (names_without_roles after)
   pub less : first < closing
   pub few : closing < high
 
@@ -37,16 +37,16 @@ some_first {x = x} e = ap (λ (o : Option ℕ). number o) e
     number None = x
     number (Some z) = z
 
-pub parted : (before own after : List (Role × ℕ)) (closes : Role) (first closing high : ℕ) → first_of own ≡ Some first → Ascending 0 (names_only (before ++ (own ++ ((closes, closing) ∷ after)))) high
+pub parted : (before own after : List (Role × ℕ)) (closes : Role) (first closing high : ℕ) → first_token_of own ≡ Some first → AreAscending 0 (names_without_roles (before ++ (own ++ ((closes, closing) ∷ after)))) high
     → Parted before own ((closes, closing) ∷ after) first closing high
 parted before [] after closes first closing high e h = absurd (cc)
 parted before (x ∷ own) after closes first closing high e h =
-    let b = names_only before in
-    let o = names_only own in
-    let a = names_only after in
+    let b = names_without_roles before in
+    let o = names_without_roles own in
+    let a = names_without_roles after in
     let here : x.1 ≡ first = some_first e in
-    let split : names_only (before ++ ((x ∷ own) ++ ((closes, closing) ∷ after))) ≡ b ++ (x.1 ∷ (o ++ (closing ∷ a))) = leaves_append before ((x ∷ own) ++ ((closes, closing) ∷ after)) ∙ ap (λ z. b ++ (x.1 ∷ z)) (leaves_append own ((closes, closing) ∷ after)) in
-    let rising = subst (λ l. Ascending 0 l high) split h in
+    let split : names_without_roles (before ++ ((x ∷ own) ++ ((closes, closing) ∷ after))) ≡ b ++ (x.1 ∷ (o ++ (closing ∷ a))) = leaves_append before ((x ∷ own) ++ ((closes, closing) ∷ after)) ∙ ap (λ z. b ++ (x.1 ∷ z)) (leaves_append own ((closes, closing) ∷ after)) in
+    let rising = subst (λ l. AreAscending 0 l high) split h in
     let rest = ascend_second 0 b (x.1 ∷ (o ++ (closing ∷ a))) high rising in
     let last = ascend_second (x.1 + 1) o (closing ∷ a) high rest.1 in
     let bounded = ascending_below (closing + 1) a high last.1 in
@@ -61,10 +61,10 @@ parted before (x ∷ own) after closes first closing high e h =
     }
 
 -- Two equal lists that are split at the same limit have the same parts.
-pub same_parts : (n : ℕ) (us cs vs ds : List (Role × ℕ)) → AllBelow n (names_only us) → AllBelow n (names_only vs) → AllFrom n (names_only cs) → AllFrom n (names_only ds) → us ++ cs ≡ vs ++ ds → (us ≡ vs) × (cs ≡ ds)
+pub same_parts : (n : ℕ) (us cs vs ds : List (Role × ℕ)) → AllBelow n (names_without_roles us) → AllBelow n (names_without_roles vs) → AllFrom n (names_without_roles cs) → AllFrom n (names_without_roles ds) → us ++ cs ≡ vs ++ ds → (us ≡ vs) × (cs ≡ ds)
 same_parts n [] cs [] ds a b c d e = (refl, e)
-same_parts n [] cs (y ∷ vs) ds a b c d e = let from = subst (λ l. AllFrom n (names_only l)) e c in absurd (omega (arith, from.0, b.0))
-same_parts n (x ∷ us) cs [] ds a b c d e = let from = subst (λ l. AllFrom n (names_only l)) (sym e) d in absurd (omega (arith, from.0, a.0))
+same_parts n [] cs (y ∷ vs) ds a b c d e = let from = subst (λ l. AllFrom n (names_without_roles l)) e c in absurd (omega (arith, from.0, b.0))
+same_parts n (x ∷ us) cs [] ds a b c d e = let from = subst (λ l. AllFrom n (names_without_roles l)) (sym e) d in absurd (omega (arith, from.0, a.0))
 same_parts n (x ∷ us) cs (y ∷ vs) ds a b c d e =
     let rest = same_parts n us cs vs ds a.1 b.1 c d (ap (drop 1) e) in
     let here : x ≡ y = ap (λ l. get_or l 0 x) e in
@@ -76,10 +76,10 @@ same_parts n (x ∷ us) cs (y ∷ vs) ds a b c d e =
 pub record Picks (pick : List (Role × ℕ) → List ℕ) : Type 0 where
   pub joined : (xs ys : List (Role × ℕ)) → pick (xs ++ ys) ≡ pick xs ++ pick ys
   pub renamed : (f : ℕ → ℕ) (xs : List (Role × ℕ)) → pick (map (beside_role f) xs) ≡ map f (pick xs)
-  pub below : (n : ℕ) (xs : List (Role × ℕ)) → AllBelow n (names_only xs) → AllBelow n (pick xs)
-  pub from : (n : ℕ) (xs : List (Role × ℕ)) → AllFrom n (names_only xs) → AllFrom n (pick xs)
+  pub below : (n : ℕ) (xs : List (Role × ℕ)) → AllBelow n (names_without_roles xs) → AllBelow n (pick xs)
+  pub from : (n : ℕ) (xs : List (Role × ℕ)) → AllFrom n (names_without_roles xs) → AllFrom n (pick xs)
 
-declaring_renamed : (f : ℕ → ℕ) (xs : List (Role × ℕ)) → declaring_only (map (beside_role f) xs) ≡ map f (declaring_only xs)
+declaring_renamed : (f : ℕ → ℕ) (xs : List (Role × ℕ)) → declaring_names (map (beside_role f) xs) ≡ map f (declaring_names xs)
 declaring_renamed f [] = refl
 declaring_renamed f ((role.Declaring, n) ∷ xs) = λ i. f n ∷ declaring_renamed f xs i
 declaring_renamed f ((role.LookedUp, n) ∷ xs) = declaring_renamed f xs
@@ -87,7 +87,7 @@ declaring_renamed f ((role.ClosingName, n) ∷ xs) = declaring_renamed f xs
 declaring_renamed f ((role.FieldName, n) ∷ xs) = declaring_renamed f xs
 declaring_renamed f ((role.ModuleName, n) ∷ xs) = declaring_renamed f xs
 
-declaring_below : (n : ℕ) (xs : List (Role × ℕ)) → AllBelow n (names_only xs) → AllBelow n (declaring_only xs)
+declaring_below : (n : ℕ) (xs : List (Role × ℕ)) → AllBelow n (names_without_roles xs) → AllBelow n (declaring_names xs)
 declaring_below n [] h = tt
 declaring_below n ((role.Declaring, x) ∷ xs) h = (h.0, declaring_below n xs h.1)
 declaring_below n ((role.LookedUp, x) ∷ xs) h = declaring_below n xs h.1
@@ -95,7 +95,7 @@ declaring_below n ((role.ClosingName, x) ∷ xs) h = declaring_below n xs h.1
 declaring_below n ((role.FieldName, x) ∷ xs) h = declaring_below n xs h.1
 declaring_below n ((role.ModuleName, x) ∷ xs) h = declaring_below n xs h.1
 
-declaring_from : (n : ℕ) (xs : List (Role × ℕ)) → AllFrom n (names_only xs) → AllFrom n (declaring_only xs)
+declaring_from : (n : ℕ) (xs : List (Role × ℕ)) → AllFrom n (names_without_roles xs) → AllFrom n (declaring_names xs)
 declaring_from n [] h = tt
 declaring_from n ((role.Declaring, x) ∷ xs) h = (h.0, declaring_from n xs h.1)
 declaring_from n ((role.LookedUp, x) ∷ xs) h = declaring_from n xs h.1
@@ -111,7 +111,7 @@ looked_up_renamed f ((role.ClosingName, n) ∷ xs) = looked_up_renamed f xs
 looked_up_renamed f ((role.FieldName, n) ∷ xs) = looked_up_renamed f xs
 looked_up_renamed f ((role.ModuleName, n) ∷ xs) = looked_up_renamed f xs
 
-looked_up_below : (n : ℕ) (xs : List (Role × ℕ)) → AllBelow n (names_only xs) → AllBelow n (looked_up_only xs)
+looked_up_below : (n : ℕ) (xs : List (Role × ℕ)) → AllBelow n (names_without_roles xs) → AllBelow n (looked_up_only xs)
 looked_up_below n [] h = tt
 looked_up_below n ((role.LookedUp, x) ∷ xs) h = (h.0, looked_up_below n xs h.1)
 looked_up_below n ((role.Declaring, x) ∷ xs) h = looked_up_below n xs h.1
@@ -119,7 +119,7 @@ looked_up_below n ((role.ClosingName, x) ∷ xs) h = looked_up_below n xs h.1
 looked_up_below n ((role.FieldName, x) ∷ xs) h = looked_up_below n xs h.1
 looked_up_below n ((role.ModuleName, x) ∷ xs) h = looked_up_below n xs h.1
 
-looked_up_from : (n : ℕ) (xs : List (Role × ℕ)) → AllFrom n (names_only xs) → AllFrom n (looked_up_only xs)
+looked_up_from : (n : ℕ) (xs : List (Role × ℕ)) → AllFrom n (names_without_roles xs) → AllFrom n (looked_up_only xs)
 looked_up_from n [] h = tt
 looked_up_from n ((role.LookedUp, x) ∷ xs) h = (h.0, looked_up_from n xs h.1)
 looked_up_from n ((role.Declaring, x) ∷ xs) h = looked_up_from n xs h.1
@@ -127,8 +127,8 @@ looked_up_from n ((role.ClosingName, x) ∷ xs) h = looked_up_from n xs h.1
 looked_up_from n ((role.FieldName, x) ∷ xs) h = looked_up_from n xs h.1
 looked_up_from n ((role.ModuleName, x) ∷ xs) h = looked_up_from n xs h.1
 
-pub picks_declaring : Picks declaring_only
-picks_declaring = record { joined = declaring_only-append; renamed = declaring_renamed; below = declaring_below; from = declaring_from }
+pub picks_declaring : Picks declaring_names
+picks_declaring = record { joined = declaring_names-append; renamed = declaring_renamed; below = declaring_below; from = declaring_from }
 
 pub picks_looked_up : Picks looked_up_only
 picks_looked_up = record { joined = looked_up_only-append; renamed = looked_up_renamed; below = looked_up_below; from = looked_up_from }
@@ -160,58 +160,58 @@ module _ (range : BodyRange) where
   abbrev pub far : ℕ → ℕ
   far i = i - range.old_closing + range.closing
 
-  before_append : (xs ys : List ℕ) → before_body range (xs ++ ys) ≡ before_body range xs ++ before_body range ys
+  before_append : (xs ys : List ℕ) → tokens_before_body range (xs ++ ys) ≡ tokens_before_body range xs ++ tokens_before_body range ys
   before_append [] ys = refl
   before_append (x ∷ xs) ys = one (before_append xs ys) (nat_lt x range.first)
     where
-      one : before_body range (xs ++ ys) ≡ before_body range xs ++ before_body range ys → (b : Bool) → (if b then x ∷ before_body range (xs ++ ys) else before_body range (xs ++ ys)) ≡ (if b then x ∷ before_body range xs else before_body range xs) ++ before_body range ys
+      one : tokens_before_body range (xs ++ ys) ≡ tokens_before_body range xs ++ tokens_before_body range ys → (b : Bool) → (if b then x ∷ tokens_before_body range (xs ++ ys) else tokens_before_body range (xs ++ ys)) ≡ (if b then x ∷ tokens_before_body range xs else tokens_before_body range xs) ++ tokens_before_body range ys
       one rest true = ap (λ z. x ∷ z) rest
       one rest false = rest
 
-  before_all : (xs : List ℕ) → AllBelow range.first xs → before_body range xs ≡ xs
+  before_all : (xs : List ℕ) → AllBelow range.first xs → tokens_before_body range xs ≡ xs
   before_all [] h = refl
-  before_all (x ∷ xs) h = ap (λ b. if b then x ∷ before_body range xs else before_body range xs) (lt-ltb x range.first h.0) ∙ ap (λ z. x ∷ z) (before_all xs h.1)
+  before_all (x ∷ xs) h = ap (λ b. if b then x ∷ tokens_before_body range xs else tokens_before_body range xs) (lt-ltb x range.first h.0) ∙ ap (λ z. x ∷ z) (before_all xs h.1)
 
-  before_none : (xs : List ℕ) → AllFrom range.first xs → before_body range xs ≡ []
+  before_none : (xs : List ℕ) → AllFrom range.first xs → tokens_before_body range xs ≡ []
   before_none [] h = refl
-  before_none (x ∷ xs) h = ap (λ b. if b then x ∷ before_body range xs else before_body range xs) (le-ltb x range.first h.0) ∙ before_none xs h.1
+  before_none (x ∷ xs) h = ap (λ b. if b then x ∷ tokens_before_body range xs else tokens_before_body range xs) (le-ltb x range.first h.0) ∙ before_none xs h.1
 
-  after_append : (xs ys : List ℕ) → after_body range (xs ++ ys) ≡ after_body range xs ++ after_body range ys
+  after_append : (xs ys : List ℕ) → tokens_after_body range (xs ++ ys) ≡ tokens_after_body range xs ++ tokens_after_body range ys
   after_append [] ys = refl
   after_append (x ∷ xs) ys = one (after_append xs ys) (nat_lt x range.old_closing)
     where
-      one : after_body range (xs ++ ys) ≡ after_body range xs ++ after_body range ys → (b : Bool) → (if b then after_body range (xs ++ ys) else shifted range x ∷ after_body range (xs ++ ys)) ≡ (if b then after_body range xs else shifted range x ∷ after_body range xs) ++ after_body range ys
+      one : tokens_after_body range (xs ++ ys) ≡ tokens_after_body range xs ++ tokens_after_body range ys → (b : Bool) → (if b then tokens_after_body range (xs ++ ys) else shifted_token range x ∷ tokens_after_body range (xs ++ ys)) ≡ (if b then tokens_after_body range xs else shifted_token range x ∷ tokens_after_body range xs) ++ tokens_after_body range ys
       one rest true = rest
-      one rest false = ap (λ z. shifted range x ∷ z) rest
+      one rest false = ap (λ z. shifted_token range x ∷ z) rest
 
-  after_none : (xs : List ℕ) → AllBelow range.old_closing xs → after_body range xs ≡ []
+  after_none : (xs : List ℕ) → AllBelow range.old_closing xs → tokens_after_body range xs ≡ []
   after_none [] h = refl
-  after_none (x ∷ xs) h = ap (λ b. if b then after_body range xs else shifted range x ∷ after_body range xs) (lt-ltb x range.old_closing h.0) ∙ after_none xs h.1
+  after_none (x ∷ xs) h = ap (λ b. if b then tokens_after_body range xs else shifted_token range x ∷ tokens_after_body range xs) (lt-ltb x range.old_closing h.0) ∙ after_none xs h.1
 
-  after_all : (high : ℕ) (xs : List ℕ) → high + range.closing ≤ 2 ^ 64 - 1 → AllFrom range.old_closing xs → AllBelow high xs → after_body range xs ≡ map far xs
+  after_all : (high : ℕ) (xs : List ℕ) → high + range.closing ≤ 2 ^ 64 - 1 → AllFrom range.old_closing xs → AllBelow high xs → tokens_after_body range xs ≡ map far xs
   after_all high [] few h k = refl
   after_all high (x ∷ xs) few h k =
-      let here : shifted range x ≡ far x = min-eq_left (let small : x - range.old_closing + range.closing ≤ 2 ^ 64 - 1 = omega (arith, few, k.0) in small) in
-      ap (λ b. if b then after_body range xs else shifted range x ∷ after_body range xs) (le-ltb x range.old_closing h.0) ∙ (λ i. here i ∷ after_all high xs few h.1 k.1 i)
+      let here : shifted_token range x ≡ far x = min-eq_left (let small : x - range.old_closing + range.closing ≤ 2 ^ 64 - 1 = omega (arith, few, k.0) in small) in
+      ap (λ b. if b then tokens_after_body range xs else shifted_token range x ∷ tokens_after_body range xs) (le-ltb x range.old_closing h.0) ∙ (λ i. here i ∷ after_all high xs few h.1 k.1 i)
 
   -- Keeping a selection of the old identifiers, with a selection of the new body's, gives the
   -- selection of all new identifiers.
   pub carried_picked : (pick : List (Role × ℕ) → List ℕ) (before own after others : List (Role × ℕ)) (high : ℕ) → Picks pick → Parted before own after range.first range.old_closing high → high + range.closing ≤ 2 ^ 64 - 1
-      → carried range (pick (before ++ (own ++ after))) (pick others) ≡ pick (before ++ (others ++ map (beside_role far) after))
+      → carried_tokens range (pick (before ++ (own ++ after))) (pick others) ≡ pick (before ++ (others ++ map (beside_role far) after))
   carried_picked pick before own after others high p parts few =
       let all : pick (before ++ (own ++ after)) ≡ pick before ++ (pick own ++ pick after) = p.joined before (own ++ after) ∙ ap (λ z. pick before ++ z) (p.joined own after) in
       let less = parts.less in
       let own_is = before_none (pick own) (p.from range.first own parts.own_from) in
       let after_is = before_none (pick after) (from_less range.first range.old_closing (pick after) (omega (arith, less)) (p.from range.old_closing after parts.after_from)) in
-      let first : before_body range (pick before ++ (pick own ++ pick after)) ≡ pick before =
+      let first : tokens_before_body range (pick before ++ (pick own ++ pick after)) ≡ pick before =
       before_append (pick before) (pick own ++ pick after)
       ∙ ((λ i. before_all (pick before) (p.below range.first before parts.before_below) i ++ (before_append (pick own) (pick after) ∙ (λ i. own_is i ++ after_is i)) i) ∙ append-nil (pick before)) in
       let before_is = after_none (pick before) (below_more range.first range.old_closing (pick before) (omega (arith, less)) (p.below range.first before parts.before_below)) in
       let body_is = after_none (pick own) (p.below range.old_closing own parts.own_below) in
       let last_is = after_all high (pick after) few (p.from range.old_closing after parts.after_from) (p.below high after parts.after_below) in
-      let last : after_body range (pick before ++ (pick own ++ pick after)) ≡ map far (pick after) =
+      let last : tokens_after_body range (pick before ++ (pick own ++ pick after)) ≡ map far (pick after) =
       after_append (pick before) (pick own ++ pick after) ∙ (λ i. before_is i ++ (after_append (pick own) (pick after) ∙ (λ i. body_is i ++ last_is i)) i) in
-      ap (λ tokens. carried range tokens (pick others)) all
+      ap (λ tokens. carried_tokens range tokens (pick others)) all
       ∙ ((λ i. first i ++ (pick others ++ last i))
       ∙ sym (p.joined before (others ++ map (beside_role far) after) ∙ ap (λ z. pick before ++ z) (p.joined others (map (beside_role far) after) ∙ ap (λ z. pick others ++ z) (p.renamed far after))))
 
@@ -230,26 +230,26 @@ module _ (range : BodyRange) where
     filler_long : length filler ≡ range.closing - length front
     filler_long = length-replicate (range.closing - length front) (let nothing : Option ℕ = None in nothing)
 
-    table_is : carried_table range table ≡ (front ++ filler) ++ drop range.old_closing table
+    table_is : carried_ordinals range table ≡ (front ++ filler) ++ drop range.old_closing table
     table_is = ap (λ z. (z ++ filler) ++ drop range.old_closing table) (take_all range.closing front (omega (arith, front_short, less)))
 
     filled_long : length (front ++ filler) ≡ range.closing
     filled_long = omega (arith, length-append front filler, filler_long, front_short, less)
 
-    pub table_before : (i : ℕ) → i < range.first → ordinal_in (carried_table range table) i ≡ ordinal_in table i
+    pub table_before : (i : ℕ) → i < range.first → ordinal_in (carried_ordinals range table) i ≡ ordinal_in table i
     table_before i h =
         ap (λ (t : List (Option ℕ)). ordinal_in t i) table_is
         ∙ (get_or-append (front ++ filler) (drop range.old_closing table) None i (omega (arith, h, filled_long, less))
         ∙ reads_first range.first (range.closing - length front) table i h)
 
-    pub table_within : (i : ℕ) → range.first ≤ i → i < range.closing → ordinal_in (carried_table range table) i ≡ None
+    pub table_within : (i : ℕ) → range.first ≤ i → i < range.closing → ordinal_in (carried_ordinals range table) i ≡ None
     table_within i h k =
         ap (λ (t : List (Option ℕ)). ordinal_in t i) table_is
         ∙ (get_or-append (front ++ filler) (drop range.old_closing table) None i (omega (arith, k, filled_long))
         ∙ (get_or-append_right front filler i None (omega (arith, h, front_short))
         ∙ none_at (range.closing - length front) (i - length front)))
 
-    pub table_after : (i : ℕ) → range.closing ≤ i → ordinal_in (carried_table range table) i ≡ ordinal_in table (range.old_closing + (i - range.closing))
+    pub table_after : (i : ℕ) → range.closing ≤ i → ordinal_in (carried_ordinals range table) i ≡ ordinal_in table (range.old_closing + (i - range.closing))
     table_after i h =
         ap (λ (t : List (Option ℕ)). ordinal_in t i) table_is
         ∙ (get_or-append_right (front ++ filler) (drop range.old_closing table) i None (omega (arith, h, filled_long))

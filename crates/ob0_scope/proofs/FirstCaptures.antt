@@ -2,10 +2,10 @@
 use Rattle.std.proofs.Common.{List, None, Option, Some, [], ap, arith, eq-eqb, eqb-true, false, if◌then◌else◌, length, option_map, refl, suc, sym, true, ℕ, ◌∙◌, ◌∷◌, ◌≡◌}
 use Rattle.ob0_tree.specs.Tree.{Tree, module_text}
 use Rattle.ob0_language_names.specs.Occurrences.{Free, at_declaration, at_occurrence, bindings, first_difference, is_duplicate, same_binding}
-use Rattle.ob0_language_names.specs.RenamingLaws.{CapturedWhereNotFree}
-use Rattle.ob0_language_names.specs.Scopes.{as_label, renamed, same_ordinal}
+use Rattle.ob0_language_names.specs.RenamingLaws.{FreeMeansNoConflict}
+use Rattle.ob0_language_names.specs.Scopes.{label_from_ordinal, renamed, same_ordinal}
 use Rattle.ob0_language_names.proofs.OccurrenceNames.{as_many-module}
-use Rattle.ob0_language_names.specs.Names.{Label, Name, as_names, as_written, declared}
+use Rattle.ob0_language_names.specs.Names.{Label, Name, naming_by_spelling, as_written, declared}
 use Rattle.std.proofs.lemmas.Slice.Eq.{bytes_eq-Decides}
 
 pub same_binding-equal : (a b : Label) → same_binding a b ≡ true → a ≡ b
@@ -39,15 +39,15 @@ no_difference-refl (a ∷ as₁) =
 
 pub as_many-bindings : (m : Tree Name module_text) (d : ℕ) (new : Name) → length (bindings (renamed m d new)) ≡ length (bindings m)
 as_many-bindings m d new =
-    as_many-module as_names (as_label as_names) (renamed m d new)
-    ∙ (as_many-module as_names (λ ordinal x. if same_ordinal ordinal d then new else x) m ∙ sym (as_many-module as_names (as_label as_names) m))
+    as_many-module naming_by_spelling (label_from_ordinal naming_by_spelling) (renamed m d new)
+    ∙ (as_many-module naming_by_spelling (λ ordinal x. if same_ordinal ordinal d then new else x) m ∙ sym (as_many-module naming_by_spelling (label_from_ordinal naming_by_spelling) m))
 
 no_occurrence : (o : Option ℕ) → option_map at_occurrence o ≡ None → o ≡ None
 no_occurrence None h = refl
 no_occurrence (Some k) h = absurd (cc)
 
-pub captured_where_not_free-holds : CapturedWhereNotFree
-captured_where_not_free-holds m d new = (
+pub free_means_no_conflict-holds : FreeMeansNoConflict
+free_means_no_conflict-holds m d new = (
   (elim (is_duplicate m d new) as (λ v. is_duplicate m d new ≡ v → (if v then Some at_declaration else option_map at_occurrence (first_difference (bindings (renamed m d new)) (bindings m))) ≡ None → Free m d new) [
     | true ↦ λ e h. absurd (cc)
     | false ↦ λ e h. (e, no_difference (bindings (renamed m d new)) (bindings m) (as_many-bindings m d new) (no_occurrence (first_difference (bindings (renamed m d new)) (bindings m)) h))

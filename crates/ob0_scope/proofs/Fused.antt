@@ -2,12 +2,12 @@
 -- labels.
 use Rattle.std.proofs.Common.{◌≡◌, ℕ, suc, ◌∷◌, Some, None, refl}
 use Rattle.ob0_tree.specs.Tree.{Sort, Tree, mapped, block, constant, constants, formals, further_name, further_section, item, items, maybe, module_text, names, procedure, section, type_name, type_names, variable, variables, adds, array_type, assigns, begins, branches, calls, compares, declares, declares_constant, declares_constants, declares_procedure, declares_type, declares_types, declares_variable, declares_variables, designator, else_branch, elsif_branch, empty, end, field, has_body, index, integer, is_module, listed, more, multiplies, named_type, negation, no_arguments, no_fields, no_formals, none, one, parenthesised, product, record_type, relates, repeat_loop, runs, some_arguments, some_fields, some_formals, sum, then_argument, then_fields, then_name, then_section, then_statement, value_section, variable_section, while_loop}
-use Rattle.ob0_language_names.specs.Mapping.{with_names}
+use Rattle.ob0_language_names.specs.Mapping.{map_names}
 use Rattle.ob0_language_names.specs.Names.{Naming}
-use Rattle.ob0_language_names.specs.Parts.{formal_names, formal_sections, names_listed, procedure_name, section_names}
-use Rattle.ob0_language_names.specs.Scopes.{Labels, Scope, after_names, after_procedure, body_scope, declare_names, first_procedure, first_type, first_variable, label_of, predeclared_scope, procedures_scope, relabel_block, relabel_constant_section, relabel_constants, relabel_formals, relabel_further, relabel_names, relabel_procedure, relabel_procedures, relabel_section, relabel_sections, relabel_type_section, relabel_types, relabel_uses, relabel_variable_section, relabel_variables, relabelled, types_scope, variables_scope}
+use Rattle.ob0_language_names.specs.Parts.{formal_names, formal_sections, names_in_list, procedure_name, section_names}
+use Rattle.ob0_language_names.specs.Scopes.{Labelling, Scope, ordinal_after_names, ordinal_after_procedure, body_scope, declare_names, first_procedure_ordinal, first_type_ordinal, first_variable_ordinal, label_of, predeclared_scope, procedures_scope, relabel_block, relabel_constant_section, relabel_constants, relabel_formals, relabel_further_names, relabel_names, relabel_procedure, relabel_procedures, relabel_section, relabel_sections, relabel_type_section, relabel_types, relabel_uses, relabel_variable_section, relabel_variables, relabel_module, types_scope, variables_scope}
 
-fused-uses : {N M K : Type 0} {s : Sort} (f : M → K) (look keep : N → M) (t : Tree N s) → with_names (λ x. f (look x)) (λ x. f (keep x)) t ≡ mapped f (λ n. n) (with_names look keep t)
+fused-uses : {N M K : Type 0} {s : Sort} (f : M → K) (look keep : N → M) (t : Tree N s) → map_names (λ x. f (look x)) (λ x. f (keep x)) t ≡ mapped f (λ n. n) (map_names look keep t)
 fused-uses f look keep none = refl
 fused-uses f look keep (one t) = λ i. one (fused-uses f look keep t i)
 fused-uses f look keep end = refl
@@ -62,14 +62,14 @@ fused-uses f look keep (begins s) = λ i. begins (fused-uses f look keep s i)
 fused-uses f look keep (has_body ds b) = λ i. has_body (fused-uses f look keep ds i) (fused-uses f look keep b i)
 fused-uses f look keep (is_module name b closing) = λ i. is_module (f (keep name)) (fused-uses f look keep b i) (f (keep closing))
 
-module _ {N M K : Type 0} (naming : Naming N) (f : M → K) (label : Labels N M) where
-  abbrev then_f : Labels N K
+module _ {N M K : Type 0} (naming : Naming N) (f : M → K) (label : Labelling N M) where
+  abbrev then_f : Labelling N K
   then_f ordinal x = f (label ordinal x)
 
   uses-mapped : {s : Sort} (scope : Scope N) (t : Tree N s) → relabel_uses naming then_f scope t ≡ mapped f (λ n. n) (relabel_uses naming label scope t)
   uses-mapped scope t = fused-uses f (label_of naming label scope) (label None) t
 
-  further-mapped : (k : ℕ) (ns : Tree N (items further_name)) → relabel_further then_f k ns ≡ mapped f (λ n. n) (relabel_further label k ns)
+  further-mapped : (k : ℕ) (ns : Tree N (items further_name)) → relabel_further_names then_f k ns ≡ mapped f (λ n. n) (relabel_further_names label k ns)
   further-mapped k end = refl
   further-mapped k (more (then_name x) rest) = λ i. more (then_name (f (label (Some k) x))) (further-mapped (suc k) rest i)
 
@@ -87,7 +87,7 @@ module _ {N M K : Type 0} (naming : Naming N) (f : M → K) (label : Labels N M)
   variables-mapped : (scope : Scope N) (k : ℕ) (gs : Tree N (items variable)) → relabel_variables naming then_f scope k gs ≡ mapped f (λ n. n) (relabel_variables naming label scope k gs)
   variables-mapped scope k end = refl
   variables-mapped scope k (more (declares_variable ns t) gs) = λ i.
-      more (declares_variable (names-mapped k ns i) (uses-mapped scope t i)) (variables-mapped (declare_names k (names_listed ns) scope) (after_names k (names_listed ns)) gs i)
+      more (declares_variable (names-mapped k ns i) (uses-mapped scope t i)) (variables-mapped (declare_names k (names_in_list ns) scope) (ordinal_after_names k (names_in_list ns)) gs i)
 
   section-mapped : (scope : Scope N) (k : ℕ) (s : Tree N section) → relabel_section naming then_f scope k s ≡ mapped f (λ n. n) (relabel_section naming label scope k s)
   section-mapped scope k (value_section ns t) = λ i. value_section (names-mapped k ns i) (uses-mapped scope t i)
@@ -96,13 +96,13 @@ module _ {N M K : Type 0} (naming : Naming N) (f : M → K) (label : Labels N M)
   sections-mapped : (scope : Scope N) (k : ℕ) (fs : Tree N (items further_section)) → relabel_sections naming then_f scope k fs ≡ mapped f (λ n. n) (relabel_sections naming label scope k fs)
   sections-mapped scope k end = refl
   sections-mapped scope k (more (then_section s) fs) = λ i.
-      more (then_section (section-mapped scope k s i)) (sections-mapped (declare_names k (section_names s) scope) (after_names k (section_names s)) fs i)
+      more (then_section (section-mapped scope k s i)) (sections-mapped (declare_names k (section_names s) scope) (ordinal_after_names k (section_names s)) fs i)
 
   formals-mapped : (scope : Scope N) (k : ℕ) (fs : Tree N (maybe formals)) → relabel_formals naming then_f scope k fs ≡ mapped f (λ n. n) (relabel_formals naming label scope k fs)
   formals-mapped scope k none = refl
   formals-mapped scope k (one no_formals) = refl
   formals-mapped scope k (one (some_formals s fs)) = λ i.
-      one (some_formals (section-mapped scope k s i) (sections-mapped (declare_names k (section_names s) scope) (after_names k (section_names s)) fs i))
+      one (some_formals (section-mapped scope k s i) (sections-mapped (declare_names k (section_names s) scope) (ordinal_after_names k (section_names s)) fs i))
 
   constant_section-mapped : (scope : Scope N) (k : ℕ) (cs : Tree N (maybe constants)) → relabel_constant_section naming then_f scope k cs ≡ mapped f (λ n. n) (relabel_constant_section naming label scope k cs)
   constant_section-mapped scope k none = refl
@@ -121,24 +121,24 @@ module _ {N M K : Type 0} (naming : Naming N) (f : M → K) (label : Labels N M)
     block-mapped scope k (has_body (declares cs ts vs ps) statements) =
         let b : Tree N block = has_body (declares cs ts vs ps) statements in λ i.
         has_body
-        (declares (constant_section-mapped scope k cs i) (type_section-mapped (types_scope k b scope) (first_type k b) ts i)
-        (variable_section-mapped (variables_scope k b scope) (first_variable k b) vs i) (procedures-mapped (procedures_scope k b scope) (first_procedure k b) ps i))
+        (declares (constant_section-mapped scope k cs i) (type_section-mapped (types_scope k b scope) (first_type_ordinal k b) ts i)
+        (variable_section-mapped (variables_scope k b scope) (first_variable_ordinal k b) vs i) (procedures-mapped (procedures_scope k b scope) (first_procedure_ordinal k b) ps i))
         (uses-mapped (body_scope k b scope) statements i)
 
     procedures-mapped : (scope : Scope N) (k : ℕ) (ps : Tree N (items procedure)) → relabel_procedures naming then_f scope k ps ≡ mapped f (λ n. n) (relabel_procedures naming label scope k ps)
     procedures-mapped scope k end = refl
     procedures-mapped scope k (more p rest) = λ i.
-        more (procedure-mapped scope k p i) (procedures-mapped ((procedure_name p, k) ∷ scope) (after_procedure (suc k) p) rest i)
+        more (procedure-mapped scope k p i) (procedures-mapped ((procedure_name p, k) ∷ scope) (ordinal_after_procedure (suc k) p) rest i)
 
     procedure-mapped : (scope : Scope N) (k : ℕ) (p : Tree N (item procedure)) → relabel_procedure naming then_f scope k p ≡ mapped f (λ n. n) (relabel_procedure naming label scope k p)
     procedure-mapped scope k (declares_procedure x fs b closing) = λ i.
         declares_procedure (f (label (Some k) x)) (formals-mapped scope (suc k) fs i)
-        (block-mapped (declare_names (suc k) (formal_names (formal_sections fs)) ((x, k) ∷ scope)) (after_names (suc k) (formal_names (formal_sections fs))) b i)
+        (block-mapped (declare_names (suc k) (formal_names (formal_sections fs)) ((x, k) ∷ scope)) (ordinal_after_names (suc k) (formal_names (formal_sections fs))) b i)
         (f (label (Some k) closing))
 
   -- Mapping the labels of a tree is the same as mapping the tree.
-  pub relabelled-mapped : (m : Tree N module_text) → relabelled naming then_f m ≡ mapped f (λ n. n) (relabelled naming label m)
-  relabelled-mapped (is_module x b closing) = λ i. is_module (f (label None x)) (block-mapped (predeclared_scope naming) 7 b i) (f (label None closing))
+  pub relabel_module-mapped : (m : Tree N module_text) → relabel_module naming then_f m ≡ mapped f (λ n. n) (relabel_module naming label m)
+  relabel_module-mapped (is_module x b closing) = λ i. is_module (f (label None x)) (block-mapped (predeclared_scope naming) 7 b i) (f (label None closing))
 
 pub mapped-mapped : {N M K : Type 0} {s : Sort} (f : M → K) (g : N → M) (h : ℕ → ℕ) (t : Tree N s) → mapped f (λ n. n) (mapped g h t) ≡ mapped (λ x. f (g x)) h t
 mapped-mapped f g h none = refl

@@ -12,39 +12,39 @@ use Rattle.std.proofs.lemmas.List.Folds.{list_any-append}
 use Rattle.std.specs.List.{list_any}
 use Rattle.ob0_scan.specs.declared.fault.Fault.{Fault}
 use Rattle.ob0_scan.specs.declared.tokens.SameTokens.{SameTokens}
-use Rattle.ob0_scan.specs.Scanned.{Scanned}
+use Rattle.ob0_scan.specs.TextWithTokens.{TextWithTokens}
 use Rattle.ob0_tree.specs.declared.tree.Role.{Role}
 use Rattle.ob0_tree.specs.declared.tree.Role.TheVariants as role
-use Rattle.ob0_tree.specs.Order.{Ascending, leaves, names_only}
-use Rattle.ob0_tree.specs.Parsed.{Parsed, named_tree_of, tree_of}
-use Rattle.ob0_tree.specs.Places.{named, text_at, value_at}
+use Rattle.ob0_tree.specs.Order.{AreAscending, leaves, names_without_roles}
+use Rattle.ob0_tree.specs.ParsedModule.{ParsedModule, named_tree_of, tree_of}
+use Rattle.ob0_tree.specs.Places.{tree_with_names, text_at, value_at}
 use Rattle.ob0_tree.specs.Tree.{identifiers, mapped, occurrences}
-use Rattle.ob0_tree.specs.Visited.{visited_all}
+use Rattle.ob0_tree.specs.Visited.{state_after_identifiers}
 use Rattle.ob0_tree.proofs.Leaves.{leaves_ascend}
 use Rattle.ob0_tree.proofs.Occurring.{looked_up-occurrences, looked_up_only}
-use Rattle.ob0_language_names.specs.Names.{as_names}
-use Rattle.ob0_language_names.specs.Scopes.{relabelled}
-use Rattle.ob0_tree.specs.FirstIdentifier.{first_of}
+use Rattle.ob0_language_names.specs.Names.{naming_by_spelling}
+use Rattle.ob0_language_names.specs.Scopes.{relabel_module}
+use Rattle.ob0_tree.specs.FirstIdentifier.{first_token_of}
 use Rattle.ob0_tree.proofs.AscendingNumbers.{AllBelow, AllFrom, below_more, from_less, leaves_append}
 use Rattle.ob0_tree.proofs.MappedIdentifiers.{beside_role, identifiers-mapped, leaves_mapped}
-use Rattle.ob0_scope_table.specs.BodyReplaced.{IsBodyReplaced, Way, body_at, closing_at, moved, way_to, without}
-use Rattle.ob0_scope_table.specs.DeclaredTwice.{twice_in}
-use Rattle.ob0_scope_table.specs.OneBody.{is_out}
-use Rattle.ob0_scope_table.specs.Resolution.{IsBinding, IsResolution, bound_at, declaring_only, ordinal_in, undeclared_at, with_ordinal}
+use Rattle.ob0_scope_table.specs.BodyReplaced.{IsBodyReplaced, WayToBody, body_at, closing_name_in_module, moved_token_index, way_in_module, module_without_body}
+use Rattle.ob0_scope_table.specs.DeclaredTwice.{declaration_faults}
+use Rattle.ob0_scope_table.specs.OneBody.{is_outside}
+use Rattle.ob0_scope_table.specs.Resolution.{IsBindingTable, IsResolution, binding_at, declaring_names, ordinal_in, undeclared_faults_by_table, ordinal_and_spelling}
 use Rattle.ob0_scope_table.specs.declared.resolved.Bindings.{Bindings}
 use Rattle.ob0_scope_table.proofs.BodyReplaced.{names_outside, without_mapped}
 use Rattle.ob0_scope_table.proofs.Moved.{moved_above, moved_below}
 use Rattle.ob0_scope_table.proofs.Plain.{declares_nothing}
-use Rattle.ob0_scope_numbering.specs.Marking.{started, visit_module}
+use Rattle.ob0_scope_numbering.specs.MarkWalk.{initial_walk, visit_module}
 use Rattle.ob0_scope_numbering.specs.Marks.{OrdinalMark, with_marks}
-use Rattle.ob0_scope_numbering.specs.Renumbering.{module_renumbered, started_over}
-use Rattle.ob0_scope_numbering.specs.Written.{as_in}
+use Rattle.ob0_scope_numbering.specs.BodyWalk.{renumber_module, initial_walk_over}
+use Rattle.ob0_scope_numbering.specs.Written.{original_spellings}
 use Rattle.ob0_scope_numbering.proofs.BodyTables.{HasMarksAt, body_renumbered}
 use Rattle.ob0_scope_table.proofs.FewTokens.{few_tokens}
 use Rattle.ob0_scope_numbering.proofs.Passing.{HasMarks, at_start, module_passed, tokens_of}
 use Rattle.ob0_scope_numbering.proofs.Tables.{marks_in_table}
-use Rattle.ob0_scope.specs.Carried.{IsNewBody, carried, carried_table, no_names, old_place, with_name}
-use Rattle.ob0_scope.specs.declared.carrying.BodyRange.{BodyRange}
+use Rattle.ob0_scope.specs.Carried.{IsNewBody, carried_tokens, carried_ordinals, no_names, old_closing_token, with_name}
+use Rattle.ob0_scope.specs.declared.body_range.BodyRange.{BodyRange}
 use Rattle.ob0_scope.proofs.BodyExact.{module_exact}
 use Rattle.ob0_scope.proofs.BodySplit.{split_module}
 use Rattle.ob0_scope.proofs.CarriedLists.{Parted, carried_picked, far, parted, picks_declaring, picks_looked_up, same_parts, some_first, table_after, table_before, table_within}
@@ -53,7 +53,7 @@ use Rattle.ob0_scope.proofs.WithoutRelabelled.{without_relabelled}
 
 -- ---- the names of a body
 
-later_names : (xs : List (Role × ℕ)) (f : ℕ) (us : List ℕ) → visited_all with_name xs (record { first = Some f; uses = us }) ≡ record { first = Some f; uses = us ++ looked_up_only xs }
+later_names : (xs : List (Role × ℕ)) (f : ℕ) (us : List ℕ) → state_after_identifiers with_name xs (record { first = Some f; uses = us }) ≡ record { first = Some f; uses = us ++ looked_up_only xs }
 later_names [] f us = ap (λ l. record { first = Some f; uses = l }) (sym (append-nil us))
 later_names ((role.LookedUp, i) ∷ xs) f us = later_names xs f (us ++ (i ∷ [])) ∙ ap (λ l. record { first = Some f; uses = l }) (append_assoc us (i ∷ []) (looked_up_only xs))
 later_names ((role.Declaring, i) ∷ xs) f us = later_names xs f us
@@ -61,7 +61,7 @@ later_names ((role.ClosingName, i) ∷ xs) f us = later_names xs f us
 later_names ((role.FieldName, i) ∷ xs) f us = later_names xs f us
 later_names ((role.ModuleName, i) ∷ xs) f us = later_names xs f us
 
-pub names_walked : (xs : List (Role × ℕ)) → visited_all with_name xs no_names ≡ record { first = first_of xs; uses = looked_up_only xs }
+pub names_walked : (xs : List (Role × ℕ)) → state_after_identifiers with_name xs no_names ≡ record { first = first_token_of xs; uses = looked_up_only xs }
 names_walked [] = refl
 names_walked ((role.LookedUp, i) ∷ xs) = later_names xs i (i ∷ [])
 names_walked ((role.Declaring, i) ∷ xs) = later_names xs i []
@@ -71,29 +71,29 @@ names_walked ((role.ModuleName, i) ∷ xs) = later_names xs i []
 
 -- ---- the new indexes of tokens
 
-stays : (s : SameTokens) (xs : List (Role × ℕ)) → AllBelow s.prefix (names_only xs) → map (beside_role (moved s)) xs ≡ xs
+stays : (s : SameTokens) (xs : List (Role × ℕ)) → AllBelow s.prefix (names_without_roles xs) → map (beside_role (moved_token_index s)) xs ≡ xs
 stays s [] h = refl
 stays s (x ∷ xs) h = λ i. (x.0, moved_below s x.1 h.0 i) ∷ stays s xs h.1 i
 
-goes_far : (s : SameTokens) (range : BodyRange) (xs : List (Role × ℕ)) → s.prefix ≤ s.old_suffix → s.old_suffix < range.old_closing → range.closing ≡ s.new_suffix + (range.old_closing - s.old_suffix) → AllFrom range.old_closing (names_only xs)
-    → map (beside_role (moved s)) xs ≡ map (beside_role (far range)) xs
+goes_far : (s : SameTokens) (range : BodyRange) (xs : List (Role × ℕ)) → s.prefix ≤ s.old_suffix → s.old_suffix < range.old_closing → range.closing ≡ s.new_suffix + (range.old_closing - s.old_suffix) → AllFrom range.old_closing (names_without_roles xs)
+    → map (beside_role (moved_token_index s)) xs ≡ map (beside_role (far range)) xs
 goes_far s range [] le less e h = refl
 goes_far s range (x ∷ xs) le less e h =
-    let here : moved s x.1 ≡ far range x.1 = moved_above s x.1 le (omega (arith, less, h.0)) ∙ omega (arith, le, less, e, h.0) in
+    let here : moved_token_index s x.1 ≡ far range x.1 = moved_above s x.1 le (omega (arith, less, h.0)) ∙ omega (arith, le, less, e, h.0) in
     λ i. (x.0, here i) ∷ goes_far s range xs le less e h.1 i
 
-far_from : (range : BodyRange) (xs : List (Role × ℕ)) → AllFrom range.closing (names_only (map (beside_role (far range)) xs))
+far_from : (range : BodyRange) (xs : List (Role × ℕ)) → AllFrom range.closing (names_without_roles (map (beside_role (far range)) xs))
 far_from range [] = tt
 far_from range (x ∷ xs) = (omega arith, far_from range xs)
 
-names_renamed : (f : ℕ → ℕ) (xs : List (Role × ℕ)) → names_only (map (beside_role f) xs) ≡ map f (names_only xs)
+names_renamed : (f : ℕ → ℕ) (xs : List (Role × ℕ)) → names_without_roles (map (beside_role f) xs) ≡ map f (names_without_roles xs)
 names_renamed f [] = refl
 names_renamed f (x ∷ xs) = λ i. f x.1 ∷ names_renamed f xs i
 
 -- ---- the identifiers of both modules
 
 -- states which identifiers are before the body, in the old body, in the new body, and after it
-record Known (old new : Parsed) (way : Way) (range : BodyRange) : Type 0 where
+record Known (old new : ParsedModule) (way : WayToBody) (range : BodyRange) : Type 0 where
   before : List (Role × ℕ)
   own : List (Role × ℕ)
   others : List (Role × ℕ)
@@ -101,19 +101,19 @@ record Known (old new : Parsed) (way : Way) (range : BodyRange) : Type 0 where
   high : ℕ
   olds : identifiers role.Declaring (tree_of old) ≡ before ++ (own ++ after)
   news : identifiers role.Declaring (tree_of new) ≡ before ++ (others ++ map (beside_role (far range)) after)
-  old_rest : identifiers role.Declaring (without way (tree_of old)) ≡ before ++ after
-  new_rest : identifiers role.Declaring (without way (tree_of new)) ≡ before ++ map (beside_role (far range)) after
+  old_rest : identifiers role.Declaring (module_without_body way (tree_of old)) ≡ before ++ after
+  new_rest : identifiers role.Declaring (module_without_body way (tree_of new)) ≡ before ++ map (beside_role (far range)) after
   others_are : others ≡ identifiers role.Declaring (body_at way (tree_of new))
   old_parts : Parted before own after range.first range.old_closing high
   new_parts : Parted before others (map (beside_role (far range)) after) range.first range.closing (length new.source.tokens)
   few : high + range.closing ≤ 2 ^ 64 - 1
 
-module _ (old new : Parsed) (way : Way) (s : SameTokens) (r : IsBodyReplaced old new way s) where
+module _ (old new : ParsedModule) (way : WayToBody) (s : SameTokens) (r : IsBodyReplaced old new way s) where
   abbrev old_closing : ℕ
-  old_closing = closing_at way (tree_of old)
+  old_closing = closing_name_in_module way (tree_of old)
 
   abbrev new_closing : ℕ
-  new_closing = closing_at way (tree_of new)
+  new_closing = closing_name_in_module way (tree_of new)
 
   abbrev exact : BodyRange
   exact = record { first = r.first; old_closing = old_closing; closing = new_closing }
@@ -124,8 +124,8 @@ module _ (old new : Parsed) (way : Way) (s : SameTokens) (r : IsBodyReplaced old
       let sn = split_module way (tree_of new) in
       let own = identifiers role.Declaring (body_at way (tree_of old)) in
       let others = identifiers role.Declaring (body_at way (tree_of new)) in
-      let po = parted so.before own so.after so.closes r.first old_closing (length old.source.tokens) r.old_first (subst (λ l. Ascending 0 (names_only l) (length old.source.tokens)) so.whole_is (leaves_ascend old r.old_parsed)) in
-      let pn = parted sn.before others sn.after sn.closes r.first new_closing (length new.source.tokens) r.new_first (subst (λ l. Ascending 0 (names_only l) (length new.source.tokens)) sn.whole_is (leaves_ascend new r.new_parsed)) in
+      let po = parted so.before own so.after so.closes r.first old_closing (length old.source.tokens) r.old_first (subst (λ l. AreAscending 0 (names_without_roles l) (length old.source.tokens)) so.whole_is (leaves_ascend old r.old_parsed)) in
+      let pn = parted sn.before others sn.after sn.closes r.first new_closing (length new.source.tokens) r.new_first (subst (λ l. AreAscending 0 (names_without_roles l) (length new.source.tokens)) sn.whole_is (leaves_ascend new r.new_parsed)) in
       let old_tail : List (Role × ℕ) = (so.closes, old_closing) ∷ so.after in
       let new_tail : List (Role × ℕ) = (sn.closes, new_closing) ∷ sn.after in
       let old_range = r.old_range in
@@ -136,12 +136,12 @@ module _ (old new : Parsed) (way : Way) (s : SameTokens) (r : IsBodyReplaced old
       let same : sn.before ++ new_tail ≡ so.before ++ map (beside_role (far exact)) old_tail =
       sym sn.rest_is
       ∙ (ap (identifiers role.Declaring) r.outside
-      ∙ (identifiers-mapped (moved s) (moved s) role.Declaring (without way (tree_of old))
-      ∙ (ap (map (beside_role (moved s))) so.rest_is
-      ∙ (map-append (beside_role (moved s)) so.before old_tail
-      ∙ (λ i. stays s so.before (below_more r.first s.prefix (names_only so.before) (omega (arith, front)) po.before_below) i ++ goes_far s exact old_tail old_range back closing po.after_from i))))) in
-      let parts = same_parts r.first sn.before new_tail so.before (map (beside_role (far exact)) old_tail) pn.before_below po.before_below (from_less r.first new_closing (names_only new_tail) (omega (arith, less)) pn.after_from)
-      (from_less r.first new_closing (names_only (map (beside_role (far exact)) old_tail)) (omega (arith, less)) (far_from exact old_tail)) same in
+      ∙ (identifiers-mapped (moved_token_index s) (moved_token_index s) role.Declaring (module_without_body way (tree_of old))
+      ∙ (ap (map (beside_role (moved_token_index s))) so.rest_is
+      ∙ (map-append (beside_role (moved_token_index s)) so.before old_tail
+      ∙ (λ i. stays s so.before (below_more r.first s.prefix (names_without_roles so.before) (omega (arith, front)) po.before_below) i ++ goes_far s exact old_tail old_range back closing po.after_from i))))) in
+      let parts = same_parts r.first sn.before new_tail so.before (map (beside_role (far exact)) old_tail) pn.before_below po.before_below (from_less r.first new_closing (names_without_roles new_tail) (omega (arith, less)) pn.after_from)
+      (from_less r.first new_closing (names_without_roles (map (beside_role (far exact)) old_tail)) (omega (arith, less)) (far_from exact old_tail)) same in
       let old_tokens = few_tokens old.source r.old_scan in
       let new_tokens = few_tokens new.source r.new_scan in
       let inside = pn.few in
@@ -165,10 +165,10 @@ module _ (old new : Parsed) (way : Way) (s : SameTokens) (r : IsBodyReplaced old
   old_inside =
       let so = split_module way (tree_of old) in
       (parted so.before (identifiers role.Declaring (body_at way (tree_of old))) so.after so.closes r.first old_closing (length old.source.tokens) r.old_first
-      (subst (λ l. Ascending 0 (names_only l) (length old.source.tokens)) so.whole_is (leaves_ascend old r.old_parsed))).few
+      (subst (λ l. AreAscending 0 (names_without_roles l) (length old.source.tokens)) so.whole_is (leaves_ascend old r.old_parsed))).few
 
   -- The old index of the closing name follows from the new one.
-  place_is : old_place s new_closing ≡ old_closing
+  place_is : old_closing_token s new_closing ≡ old_closing
   place_is =
       let back = r.back in
       let few = few_tokens old.source r.old_scan in
@@ -177,9 +177,9 @@ module _ (old new : Parsed) (way : Way) (s : SameTokens) (r : IsBodyReplaced old
       let there : new_closing - s.new_suffix + s.old_suffix ≡ old_closing = omega (arith, closing, back) in
       min-eq_left (let small : new_closing - s.new_suffix + s.old_suffix ≤ 2 ^ 64 - 1 = omega (arith, there, few, inside) in small) ∙ there
 
-known_in : (old new : Parsed) (way : Way) (s : SameTokens) (range : BodyRange) (r : IsBodyReplaced old new way s) → range.first ≡ r.first → range.closing ≡ closing_at way (tree_of new) → range.old_closing ≡ old_place s range.closing → Known old new way range
+known_in : (old new : ParsedModule) (way : WayToBody) (s : SameTokens) (range : BodyRange) (r : IsBodyReplaced old new way s) → range.first ≡ r.first → range.closing ≡ closing_name_in_module way (tree_of new) → range.old_closing ≡ old_closing_token s range.closing → Known old new way range
 known_in old new way s range r first closing place =
-    let there = place ∙ (ap (old_place s) closing ∙ place_is old new way s r) in
+    let there = place ∙ (ap (old_closing_token s) closing ∙ place_is old new way s r) in
     let is : exact old new way s r ≡ range = λ i. record { first = sym first i; old_closing = sym there i; closing = sym closing i } in
     subst (Known old new way) is (known old new way s r)
 
@@ -198,23 +198,23 @@ both_each : (f g : ℕ → Option ℕ) (h : ℕ → ℕ) (xs ys : List ℕ) → 
 both_each f g h [] ys e = (tt, each_of f g h ys e)
 both_each f g h (x ∷ xs) ys e = let rest = both_each f g h xs ys (ap (drop 1) e) in ((ap (λ l. get_or l 0 None) e, rest.0), rest.1)
 
-ordinals_of : (source : Scanned) (ordinals : List (Option ℕ)) (xs : List ℕ) → map (λ (p : Option ℕ × List ℕ). p.0) (map (bound_at source ordinals) xs) ≡ map (ordinal_in ordinals) xs
-ordinals_of source ordinals [] = refl
-ordinals_of source ordinals (x ∷ xs) = ap (λ l. ordinal_in ordinals x ∷ l) (ordinals_of source ordinals xs)
+ordinals_at : (source : TextWithTokens) (ordinals : List (Option ℕ)) (xs : List ℕ) → map (λ (p : Option ℕ × List ℕ). p.0) (map (binding_at source ordinals) xs) ≡ map (ordinal_in ordinals) xs
+ordinals_at source ordinals [] = refl
+ordinals_at source ordinals (x ∷ xs) = ap (λ l. ordinal_in ordinals x ∷ l) (ordinals_at source ordinals xs)
 
 -- The bindings of names outside the body are unchanged.
-same_outside : (old new : Parsed) (way : Way) (s : SameTokens) (before now : List (Option ℕ)) → IsBodyReplaced old new way s → IsBinding old before → IsBinding new now
-    → map (ordinal_in now) (leaves (without way (tree_of new))) ≡ map (ordinal_in before) (leaves (without way (tree_of old)))
+same_outside : (old new : ParsedModule) (way : WayToBody) (s : SameTokens) (before now : List (Option ℕ)) → IsBodyReplaced old new way s → IsBindingTable old before → IsBindingTable new now
+    → map (ordinal_in now) (leaves (module_without_body way (tree_of new))) ≡ map (ordinal_in before) (leaves (module_without_body way (tree_of old)))
 same_outside old new way s before now r was is =
-    let outside : (m : Parsed) (ordinals : List (Option ℕ)) → IsBinding m ordinals → relabelled as_names with_ordinal (named m.source (without way (tree_of m))) ≡ mapped (bound_at m.source ordinals) (value_at m.source) (without way (tree_of m)) =
+    let outside : (m : ParsedModule) (ordinals : List (Option ℕ)) → IsBindingTable m ordinals → relabel_module naming_by_spelling ordinal_and_spelling (tree_with_names m.source (module_without_body way (tree_of m))) ≡ mapped (binding_at m.source ordinals) (value_at m.source) (module_without_body way (tree_of m)) =
     λ m ordinals bound.
-    ap (relabelled as_names with_ordinal) (sym (without_mapped (text_at m.source) (value_at m.source) way (tree_of m)))
-    ∙ (sym (without_relabelled as_names with_ordinal way (named_tree_of m))
-    ∙ (ap (without way) bound ∙ without_mapped (bound_at m.source ordinals) (value_at m.source) way (tree_of m))) in
-    let listed : (m : Parsed) (ordinals : List (Option ℕ)) → map (λ (p : Option ℕ × List ℕ). p.0) (leaves (mapped (bound_at m.source ordinals) (value_at m.source) (without way (tree_of m)))) ≡ map (ordinal_in ordinals) (leaves (without way (tree_of m))) =
-    λ m ordinals. ap (map (λ (p : Option ℕ × List ℕ). p.0)) (leaves_mapped (bound_at m.source ordinals) (value_at m.source) (without way (tree_of m))) ∙ ordinals_of m.source ordinals (leaves (without way (tree_of m))) in
+    ap (relabel_module naming_by_spelling ordinal_and_spelling) (sym (without_mapped (text_at m.source) (value_at m.source) way (tree_of m)))
+    ∙ (sym (without_relabelled naming_by_spelling ordinal_and_spelling way (named_tree_of m))
+    ∙ (ap (module_without_body way) bound ∙ without_mapped (binding_at m.source ordinals) (value_at m.source) way (tree_of m))) in
+    let listed : (m : ParsedModule) (ordinals : List (Option ℕ)) → map (λ (p : Option ℕ × List ℕ). p.0) (leaves (mapped (binding_at m.source ordinals) (value_at m.source) (module_without_body way (tree_of m)))) ≡ map (ordinal_in ordinals) (leaves (module_without_body way (tree_of m))) =
+    λ m ordinals. ap (map (λ (p : Option ℕ × List ℕ). p.0)) (leaves_mapped (binding_at m.source ordinals) (value_at m.source) (module_without_body way (tree_of m))) ∙ ordinals_at m.source ordinals (leaves (module_without_body way (tree_of m))) in
     sym (listed new now)
-    ∙ (ap (λ t. map (λ (p : Option ℕ × List ℕ). p.0) (leaves t)) (sym (outside new now is) ∙ (ap (relabelled as_names with_ordinal) (names_outside old new way s r) ∙ outside old before was))
+    ∙ (ap (λ t. map (λ (p : Option ℕ × List ℕ). p.0) (leaves t)) (sym (outside new now is) ∙ (ap (relabel_module naming_by_spelling ordinal_and_spelling) (names_outside old new way s r) ∙ outside old before was))
     ∙ listed old before)
 
 -- ---- the marks
@@ -232,7 +232,7 @@ marks_at : (out : ℕ → Bool) (f g : ℕ → Option ℕ) (ms : List OrdinalMar
 marks_at out f g [] has agree = tt
 marks_at out f g (m ∷ ms) has agree = ((λ e. agree.0 e ∙ has.0), marks_at out f g ms has.1 agree.1)
 
-not_out : (low high i : ℕ) → low ≤ i → i < high → is_out low high i ≡ true → ⊥
+not_out : (low high i : ℕ) → low ≤ i → i < high → is_outside low high i ≡ true → ⊥
 not_out low high i le less e = one (nat_lt i low) (nat_le high i) refl refl e
   where
     one : (b c : Bool) → nat_lt i low ≡ b → nat_le high i ≡ c → (b || c) ≡ true → ⊥
@@ -242,17 +242,17 @@ not_out low high i le less e = one (nat_lt i low) (nat_le high i) refl refl e
 
 module _ (range : BodyRange) (table : List (Option ℕ)) (now : ℕ → Option ℕ) (less : range.first < range.closing) where
   abbrev kept : ℕ → Option ℕ
-  kept = ordinal_in (carried_table range table)
+  kept = ordinal_in (carried_ordinals range table)
 
-  agree_before : (xs : List ℕ) → AllBelow range.first xs → Each (λ i. now i ≡ ordinal_in table i) xs → AgreeAt (is_out range.first range.closing) kept now xs
+  agree_before : (xs : List ℕ) → AllBelow range.first xs → Each (λ i. now i ≡ ordinal_in table i) xs → AgreeAt (is_outside range.first range.closing) kept now xs
   agree_before [] h k = tt
   agree_before (x ∷ xs) h k = ((λ e. table_before range table (omega (arith, less)) x h.0 ∙ sym k.0), agree_before xs h.1 k.1)
 
-  agree_within : (xs : List ℕ) → AllFrom range.first xs → AllBelow range.closing xs → AgreeAt (is_out range.first range.closing) kept now xs
+  agree_within : (xs : List ℕ) → AllFrom range.first xs → AllBelow range.closing xs → AgreeAt (is_outside range.first range.closing) kept now xs
   agree_within [] h k = tt
   agree_within (x ∷ xs) h k = ((λ e. absurd (not_out range.first range.closing x h.0 k.0 e)), agree_within xs h.1 k.1)
 
-  agree_after : (xs : List ℕ) → AllFrom range.old_closing xs → Each (λ i. now (far range i) ≡ ordinal_in table i) xs → AgreeAt (is_out range.first range.closing) kept now (map (far range) xs)
+  agree_after : (xs : List ℕ) → AllFrom range.old_closing xs → Each (λ i. now (far range i) ≡ ordinal_in table i) xs → AgreeAt (is_outside range.first range.closing) kept now (map (far range) xs)
   agree_after [] h k = tt
   agree_after (x ∷ xs) h k =
       let back : range.old_closing + (far range x - range.closing) ≡ x = omega (arith, h.0) in
@@ -290,65 +290,65 @@ absent_back f j (x ∷ xs) e = one (x == j) refl ∙ absent_back f j xs h.1
 absent_all : (j : ℕ) (a b c : List ℕ) → list_any (λ i. i == j) a ≡ false → list_any (λ i. i == j) b ≡ false → list_any (λ i. i == j) c ≡ false → list_any (λ i. i == j) (a ++ (b ++ c)) ≡ false
 absent_all j a b c e f g = list_any-append (λ i. i == j) a (b ++ c) ∙ (λ k. e k || (list_any-append (λ i. i == j) b c ∙ (λ l. f l || g l)) k)
 
-three : (a b c : List (Role × ℕ)) → names_only (a ++ (b ++ c)) ≡ names_only a ++ (names_only b ++ names_only c)
-three a b c = leaves_append a (b ++ c) ∙ ap (λ z. names_only a ++ z) (leaves_append b c)
+three : (a b c : List (Role × ℕ)) → names_without_roles (a ++ (b ++ c)) ≡ names_without_roles a ++ (names_without_roles b ++ names_without_roles c)
+three a b c = leaves_append a (b ++ c) ∙ ap (λ z. names_without_roles a ++ z) (leaves_append b c)
 
-module _ (old new : Parsed) (way : Way) (range : BodyRange) (known : Known old new way range) (table : List (Option ℕ)) (alone : (token : ℕ) → list_any (λ i. i == token) (leaves (tree_of old)) ≡ false → ordinal_in table token ≡ None) where
+module _ (old new : ParsedModule) (way : WayToBody) (range : BodyRange) (known : Known old new way range) (table : List (Option ℕ)) (alone : (token : ℕ) → list_any (λ i. i == token) (leaves (tree_of old)) ≡ false → ordinal_in table token ≡ None) where
   abbrev before_names : List ℕ
-  before_names = names_only known.before
+  before_names = names_without_roles known.before
 
-  abbrev after_names : List ℕ
-  after_names = names_only known.after
+  abbrev ordinal_after_names : List ℕ
+  ordinal_after_names = names_without_roles known.after
 
-  old_names : leaves (tree_of old) ≡ before_names ++ (names_only known.own ++ after_names)
-  old_names = ap names_only known.olds ∙ three known.before known.own known.after
+  old_names : leaves (tree_of old) ≡ before_names ++ (names_without_roles known.own ++ ordinal_after_names)
+  old_names = ap names_without_roles known.olds ∙ three known.before known.own known.after
 
-  new_names : leaves (tree_of new) ≡ before_names ++ (names_only known.others ++ map (far range) after_names)
-  new_names = ap names_only known.news ∙ (three known.before known.others (map (beside_role (far range)) known.after) ∙ ap (λ z. before_names ++ (names_only known.others ++ z)) (names_renamed (far range) known.after))
+  new_names : leaves (tree_of new) ≡ before_names ++ (names_without_roles known.others ++ map (far range) ordinal_after_names)
+  new_names = ap names_without_roles known.news ∙ (three known.before known.others (map (beside_role (far range)) known.after) ∙ ap (λ z. before_names ++ (names_without_roles known.others ++ z)) (names_renamed (far range) known.after))
 
   first_less : range.first ≤ range.closing
   first_less = let less = known.new_parts.less in omega (arith, less)
 
-  kept_alone : (token : ℕ) → list_any (λ i. i == token) (leaves (tree_of new)) ≡ false → ordinal_in (carried_table range table) token ≡ None
+  kept_alone : (token : ℕ) → list_any (λ i. i == token) (leaves (tree_of new)) ≡ false → ordinal_in (carried_ordinals range table) token ≡ None
   kept_alone token e = one (ltb token range.first) (ltb token range.closing) refl refl
     where
-      absent : list_any (λ i. i == token) (before_names ++ (names_only known.others ++ map (far range) after_names)) ≡ false
+      absent : list_any (λ i. i == token) (before_names ++ (names_without_roles known.others ++ map (far range) ordinal_after_names)) ≡ false
       absent = ap (list_any (λ i. i == token)) (sym new_names) ∙ e
 
-      apart : (list_any (λ i. i == token) before_names ≡ false) × (list_any (λ i. i == token) (names_only known.others ++ map (far range) after_names) ≡ false)
-      apart = or_parts (list_any (λ i. i == token) before_names) (list_any (λ i. i == token) (names_only known.others ++ map (far range) after_names)) (sym (list_any-append (λ i. i == token) before_names (names_only known.others ++ map (far range) after_names)) ∙ absent)
+      apart : (list_any (λ i. i == token) before_names ≡ false) × (list_any (λ i. i == token) (names_without_roles known.others ++ map (far range) ordinal_after_names) ≡ false)
+      apart = or_parts (list_any (λ i. i == token) before_names) (list_any (λ i. i == token) (names_without_roles known.others ++ map (far range) ordinal_after_names)) (sym (list_any-append (λ i. i == token) before_names (names_without_roles known.others ++ map (far range) ordinal_after_names)) ∙ absent)
 
-      last : list_any (λ i. i == token) (map (far range) after_names) ≡ false
-      last = (or_parts (list_any (λ i. i == token) (names_only known.others)) (list_any (λ i. i == token) (map (far range) after_names)) (sym (list_any-append (λ i. i == token) (names_only known.others) (map (far range) after_names)) ∙ apart.1)).1
+      last : list_any (λ i. i == token) (map (far range) ordinal_after_names) ≡ false
+      last = (or_parts (list_any (λ i. i == token) (names_without_roles known.others)) (list_any (λ i. i == token) (map (far range) ordinal_after_names)) (sym (list_any-append (λ i. i == token) (names_without_roles known.others) (map (far range) ordinal_after_names)) ∙ apart.1)).1
 
-      first_case : token < range.first → ordinal_in (carried_table range table) token ≡ None
+      first_case : token < range.first → ordinal_in (carried_ordinals range table) token ≡ None
       first_case h =
           let less = known.old_parts.less in
           table_before range table first_less token h
-          ∙ alone token (ap (list_any (λ i. i == token)) old_names ∙ absent_all token before_names (names_only known.own) after_names apart.0
-          (absent_from token range.first (names_only known.own) h known.old_parts.own_from) (absent_from token range.old_closing after_names (omega (arith, h, less)) known.old_parts.after_from))
+          ∙ alone token (ap (list_any (λ i. i == token)) old_names ∙ absent_all token before_names (names_without_roles known.own) ordinal_after_names apart.0
+          (absent_from token range.first (names_without_roles known.own) h known.old_parts.own_from) (absent_from token range.old_closing ordinal_after_names (omega (arith, h, less)) known.old_parts.after_from))
 
-      last_case : range.closing ≤ token → ordinal_in (carried_table range table) token ≡ None
+      last_case : range.closing ≤ token → ordinal_in (carried_ordinals range table) token ≡ None
       last_case h =
           let less = known.old_parts.less in
           let j = range.old_closing + (token - range.closing) in
           let there : far range j ≡ token = omega (arith, h) in
           table_after range table first_less token h
-          ∙ alone j (ap (list_any (λ i. i == j)) old_names ∙ absent_all j before_names (names_only known.own) after_names
-          (absent_below j range.first before_names (omega (arith, less)) known.old_parts.before_below) (absent_below j range.old_closing (names_only known.own) (omega arith) known.old_parts.own_below)
-          (absent_back (far range) j after_names (subst (λ t. list_any (λ i. i == t) (map (far range) after_names) ≡ false) (sym there) last)))
+          ∙ alone j (ap (list_any (λ i. i == j)) old_names ∙ absent_all j before_names (names_without_roles known.own) ordinal_after_names
+          (absent_below j range.first before_names (omega (arith, less)) known.old_parts.before_below) (absent_below j range.old_closing (names_without_roles known.own) (omega arith) known.old_parts.own_below)
+          (absent_back (far range) j ordinal_after_names (subst (λ t. list_any (λ i. i == t) (map (far range) ordinal_after_names) ≡ false) (sym there) last)))
 
-      one : (b c : Bool) → ltb token range.first ≡ b → ltb token range.closing ≡ c → ordinal_in (carried_table range table) token ≡ None
+      one : (b c : Bool) → ltb token range.first ≡ b → ltb token range.closing ≡ c → ordinal_in (carried_ordinals range table) token ≡ None
       one true c f g = first_case (ltb-true token range.first f)
       one false true f g = table_within range table first_less token (ltb-false token range.first f) (ltb-true token range.closing g)
       one false false f g = last_case (ltb-false token range.closing g)
 
 -- ---- the complete result
 
-pub new_body_bound : (m : Parsed) (b : Bindings) (range : BodyRange) (own : List ℕ) (ordinals : List (Option ℕ)) (declarations uses : List ℕ) (once faults : List Fault) → IsNewBody m b range own
-    → length m.source.tokens ≤ length (carried_table range b.ordinals.items) → declarations ≡ carried range b.declarations.items []
-    → ordinals ≡ (module_renumbered declarations range.first (tree_of m) (started_over (as_in m.source) (carried_table range b.ordinals.items))).marks → uses ≡ carried range b.occurrences.items own
-    → once ≡ twice_in m → faults ≡ once ++ undeclared_at m.source ordinals uses
+pub new_body_bound : (m : ParsedModule) (b : Bindings) (range : BodyRange) (own : List ℕ) (ordinals : List (Option ℕ)) (declarations uses : List ℕ) (once faults : List Fault) → IsNewBody m b range own
+    → length m.source.tokens ≤ length (carried_ordinals range b.ordinals.items) → declarations ≡ carried_tokens range b.declarations.items []
+    → ordinals ≡ (renumber_module declarations range.first (tree_of m) (initial_walk_over (original_spellings m.source) (carried_ordinals range b.ordinals.items))).marks → uses ≡ carried_tokens range b.occurrences.items own
+    → once ≡ declaration_faults m → faults ≡ once ++ undeclared_faults_by_table m.source ordinals uses
     → IsResolution (record { module_read = m; ordinals = ordinals; declarations = declarations; uses = uses; faults = faults })
 new_body_bound m b range own ordinals declarations uses once faults n long declared numbered used twice all =
     let was = n.was in
@@ -357,43 +357,43 @@ new_body_bound m b range own ordinals declarations uses once faults n long decla
     let s = n.same in
     let r = was.replaced in
     let res = was.resolved in
-    let w = as_in m.source in
-    let there : way_to s.prefix (tree_of m) ≡ way = r.new_way in
-    let first : range.first ≡ r.first = some_first (sym n.first ∙ (ap (λ y. first_of (identifiers role.Declaring (body_at y (tree_of m)))) there ∙ r.new_first)) in
+    let w = original_spellings m.source in
+    let there : way_in_module s.prefix (tree_of m) ≡ way = r.new_way in
+    let first : range.first ≡ r.first = some_first (sym n.first ∙ (ap (λ y. first_token_of (identifiers role.Declaring (body_at y (tree_of m)))) there ∙ r.new_first)) in
     let front = r.front in
     let lies = module_exact s.prefix s.new_suffix range.first range.closing (omega (arith, first, front)) (tree_of m) (length m.source.tokens) r.new_in_body (leaves_ascend m r.new_parsed) n.first n.closing in
-    let known = known_in old m way s range r first (n.closing ∙ ap (λ y. closing_at y (tree_of m)) there) n.old_closing in
+    let known = known_in old m way s range r first (n.closing ∙ ap (λ y. closing_name_in_module y (tree_of m)) there) n.old_closing in
     let table = b.ordinals.items in
-    let kept_table = carried_table range table in
-    let marks = (visit_module (tree_of m) (started w)).marks in
+    let kept_table = carried_ordinals range table in
+    let marks = (visit_module (tree_of m) (initial_walk w)).marks in
     let full = with_marks (replicate (length m.source.tokens) None) marks in
-    let has : HasMarks (ordinal_in full) marks = marks_in_table m w (visit_module (tree_of m) (started w)) full r.new_parsed refl refl in
-    let paired = module_passed (ordinal_in full) with_ordinal w (tree_of m) (started w) (at_start w) in
-    let binding : IsBinding m full = (paired.agree has).1 in
-    let before = names_only known.before in
-    let after = names_only known.after in
+    let has : HasMarks (ordinal_in full) marks = marks_in_table m w (visit_module (tree_of m) (initial_walk w)) full r.new_parsed refl refl in
+    let paired = module_passed (ordinal_in full) ordinal_and_spelling w (tree_of m) (initial_walk w) (at_start w) in
+    let binding : IsBindingTable m full = (paired.agree has).1 in
+    let before = names_without_roles known.before in
+    let after = names_without_roles known.after in
     let same : map (ordinal_in full) (before ++ map (far range) after) ≡ map (ordinal_in table) (before ++ after) =
-    ap (map (ordinal_in full)) (sym (ap names_only known.new_rest ∙ (leaves_append known.before (map (beside_role (far range)) known.after) ∙ ap (λ z. before ++ z) (names_renamed (far range) known.after))))
-    ∙ (same_outside old m way s table full r res.binding binding ∙ ap (map (ordinal_in table)) (ap names_only known.old_rest ∙ leaves_append known.before known.after)) in
+    ap (map (ordinal_in full)) (sym (ap names_without_roles known.new_rest ∙ (leaves_append known.before (map (beside_role (far range)) known.after) ∙ ap (λ z. before ++ z) (names_renamed (far range) known.after))))
+    ∙ (same_outside old m way s table full r res.binding binding ∙ ap (map (ordinal_in table)) (ap names_without_roles known.old_rest ∙ leaves_append known.before known.after)) in
     let each = both_each (ordinal_in full) (ordinal_in table) (far range) before after same in
     let less = known.new_parts.less in
-    let out = is_out range.first range.closing in
-    let agree : AgreeAt out (ordinal_in kept_table) (ordinal_in full) (before ++ (names_only known.others ++ map (far range) after)) =
-    agree_both out (ordinal_in kept_table) (ordinal_in full) before (names_only known.others ++ map (far range) after) (agree_before range table (ordinal_in full) less before known.new_parts.before_below each.0)
-    (agree_both out (ordinal_in kept_table) (ordinal_in full) (names_only known.others) (map (far range) after) (agree_within range table (ordinal_in full) less (names_only known.others) known.new_parts.own_from known.new_parts.own_below)
+    let out = is_outside range.first range.closing in
+    let agree : AgreeAt out (ordinal_in kept_table) (ordinal_in full) (before ++ (names_without_roles known.others ++ map (far range) after)) =
+    agree_both out (ordinal_in kept_table) (ordinal_in full) before (names_without_roles known.others ++ map (far range) after) (agree_before range table (ordinal_in full) less before known.new_parts.before_below each.0)
+    (agree_both out (ordinal_in kept_table) (ordinal_in full) (names_without_roles known.others) (map (far range) after) (agree_within range table (ordinal_in full) less (names_without_roles known.others) known.new_parts.own_from known.new_parts.own_below)
     (agree_after range table (ordinal_in full) less after known.old_parts.after_from each.1)) in
-    let tokens : tokens_of marks ≡ before ++ (names_only known.others ++ map (far range) after) = paired.tokens ∙ new_names old m way range known table res.names_alone in
+    let tokens : tokens_of marks ≡ before ++ (names_without_roles known.others ++ map (far range) after) = paired.tokens ∙ new_names old m way range known table res.names_alone in
     let outside = marks_at out (ordinal_in kept_table) (ordinal_in full) marks has (subst (AgreeAt out (ordinal_in kept_table) (ordinal_in full)) (sym tokens) agree) in
-    let nothing : declaring_only known.others ≡ [] = ap declaring_only known.others_are ∙ (declares_nothing tt (body_at way (tree_of m))).plain in
-    let declaring : declarations ≡ declaring_only (identifiers role.Declaring (tree_of m)) =
+    let nothing : declaring_names known.others ≡ [] = ap declaring_names known.others_are ∙ (declares_nothing tt (body_at way (tree_of m))).plain in
+    let declaring : declarations ≡ declaring_names (identifiers role.Declaring (tree_of m)) =
     declared
-    ∙ ((λ i. carried range ((res.declaring ∙ ap declaring_only known.olds) i) (sym nothing i))
-    ∙ (carried_picked range declaring_only known.before known.own known.after known.others known.high picks_declaring known.old_parts known.few ∙ ap declaring_only (sym known.news))) in
+    ∙ ((λ i. carried_tokens range ((res.declaring ∙ ap declaring_names known.olds) i) (sym nothing i))
+    ∙ (carried_picked range declaring_names known.before known.own known.after known.others known.high picks_declaring known.old_parts known.few ∙ ap declaring_names (sym known.news))) in
     let own_is : own ≡ looked_up_only known.others = n.uses ∙ (ap (λ y. occurrences (body_at y (tree_of m))) there ∙ (sym (looked_up-occurrences role.Declaring (λ n xs. refl) (body_at way (tree_of m))) ∙ ap looked_up_only (sym known.others_are))) in
     let old_uses : b.occurrences.items ≡ looked_up_only (known.before ++ (known.own ++ known.after)) = res.occurring ∙ (sym (looked_up-occurrences role.Declaring (λ n xs. refl) (tree_of old)) ∙ ap looked_up_only known.olds) in
     let occurring : uses ≡ occurrences (tree_of m) =
     used
-    ∙ ((λ i. carried range (old_uses i) (own_is i))
+    ∙ ((λ i. carried_tokens range (old_uses i) (own_is i))
     ∙ (carried_picked range looked_up_only known.before known.own known.after known.others known.high picks_looked_up known.old_parts known.few
     ∙ (ap looked_up_only (sym known.news) ∙ looked_up-occurrences role.Declaring (λ n xs. refl) (tree_of m)))) in
     let renumbered = body_renumbered m range.first range.closing kept_table declarations r.new_parsed r.new_scan lies outside declaring long in

@@ -8,15 +8,15 @@ use Rattle.std.proofs.lemmas.Cmp.{nat_list_eq_equiv}
 use Rattle.std.proofs.lemmas.List.Folds.{list_any-append}
 use Rattle.std.proofs.lemmas.Slice.Eq.{bytes_eq-Decides}
 use Rattle.ob0_tree.specs.Tree.{Sort, Tree, mapped, occurrences, block, constant, constants, formals, further_name, further_section, item, items, maybe, module_text, names, procedure, section, type_name, type_names, variable, variables, adds, array_type, assigns, begins, branches, calls, compares, declares, declares_constant, declares_constants, declares_procedure, declares_type, declares_types, declares_variable, declares_variables, designator, else_branch, elsif_branch, empty, end, field, has_body, index, integer, is_module, listed, more, multiplies, named_type, negation, no_arguments, no_fields, no_formals, none, one, parenthesised, product, record_type, relates, repeat_loop, runs, some_arguments, some_fields, some_formals, sum, then_argument, then_fields, then_name, then_section, then_statement, value_section, variable_section, while_loop}
-use Rattle.ob0_language_names.specs.Mapping.{with_names}
-use Rattle.ob0_language_names.specs.Names.{Label, Name, as_names, as_written, declared, same_name}
-use Rattle.ob0_language_names.specs.Occurrences.{Free, bindings, blocks_in, blocks_in_procedure, blocks_in_procedures, declares_ordinal, names_another}
-use Rattle.ob0_language_names.specs.Parts.{constant_names, formal_names, formal_sections, further_names, named_types, names_listed, procedure_name, section_constants, section_names, section_types, section_variables, variable_names}
-use Rattle.ob0_language_names.specs.Scopes.{Labels, Scope, after_names, after_procedure, as_label, body_scope, declare_names, declare_procedure_names, first_procedure, first_type, first_variable, label_names, label_of, ordinal_of, predeclared_scope, procedures_scope, relabel_block, relabel_constant_section, relabel_constants, relabel_formals, relabel_names, relabel_procedure, relabel_procedures, relabel_section, relabel_sections, relabel_type_section, relabel_types, relabel_uses, relabel_variable_section, relabel_variables, renamed, same_ordinal, types_scope, variables_scope}
+use Rattle.ob0_language_names.specs.Mapping.{map_names}
+use Rattle.ob0_language_names.specs.Names.{Label, Name, naming_by_spelling, as_written, declared, same_name}
+use Rattle.ob0_language_names.specs.Occurrences.{Free, bindings, blocks_in, blocks_in_procedure, blocks_in_procedures, declares_ordinal, another_has_name}
+use Rattle.ob0_language_names.specs.Parts.{constant_names, formal_names, formal_sections, further_names, declared_type_names, names_in_list, procedure_name, section_constants, section_names, section_types, section_variables, variable_names}
+use Rattle.ob0_language_names.specs.Scopes.{Labelling, Scope, ordinal_after_names, ordinal_after_procedure, label_from_ordinal, body_scope, declare_names, declare_procedure_names, first_procedure_ordinal, first_type_ordinal, first_variable_ordinal, label_names, label_of, ordinal_of, predeclared_scope, procedures_scope, relabel_block, relabel_constant_section, relabel_constants, relabel_formals, relabel_names, relabel_procedure, relabel_procedures, relabel_section, relabel_sections, relabel_type_section, relabel_types, relabel_uses, relabel_variable_section, relabel_variables, renamed, same_ordinal, types_scope, variables_scope}
 use Rattle.ob0_language_names.proofs.DistinctNames.{new_name}
 use Rattle.ob0_language_names.proofs.Relabelled.{constants-section, formals-section, names-relabel, section_names-relabel, types-section, variables-section}
 use Rattle.ob0_language_names.proofs.RenamedDeclarations.{constants-labels, sections-labels, types-labels, variables-labels}
-use Rattle.ob0_language_names.proofs.Renaming.{after_listed, after_procedure-relabel, after_section, after_sections, first_procedure-relabel, first_type-relabel, first_variable-relabel, names-twice}
+use Rattle.ob0_language_names.proofs.Renaming.{after_listed, ordinal_after_procedure-relabel, after_section, after_sections, first_procedure_ordinal-relabel, first_type_ordinal-relabel, first_variable_ordinal-relabel, names-twice}
 
 same-turned : (x y : Name) → same_name x y ≡ same_name y x
 same-turned x y = nat_list_eq_equiv.symm x y
@@ -41,7 +41,7 @@ and-false false c e = refl
 -- token.
 module _ (f : ℕ → Name) (g : ℕ → ℕ) (look' keep' : Name → Name) (look keep look₂ keep₂ : Name → Label)
     (looks : (i : ℕ) → look (look' (f i)) ≡ look₂ (f i)) (keeps : (i : ℕ) → keep (keep' (f i)) ≡ keep₂ (f i)) where
-  twice : {s : Sort} (t : Tree ℕ s) → with_names look keep (with_names look' keep' (mapped f g t)) ≡ with_names look₂ keep₂ (mapped f g t)
+  twice : {s : Sort} (t : Tree ℕ s) → map_names look keep (map_names look' keep' (mapped f g t)) ≡ map_names look₂ keep₂ (mapped f g t)
   twice none = refl
   twice (one t) = λ i. one (twice t i)
   twice end = refl
@@ -99,15 +99,15 @@ module _ (f : ℕ → Name) (g : ℕ → ℕ) (look' keep' : Name → Name) (loo
 -- f gives the name of each token, which is never the new name of the declaration d. `here` is a
 -- scope of the text, and `there` a scope of the text in which d has the new name.
 module _ (d : ℕ) (new : Name) (f : ℕ → Name) (g : ℕ → ℕ) (fresh : (i : ℕ) → same_name (f i) new ≡ false) where
-  abbrev ren : Labels Name Name
+  abbrev ren : Labelling Name Name
   ren = new_name d new
 
-  abbrev label : Labels Name Label
-  label = as_label as_names
+  abbrev label : Labelling Name Label
+  label = label_from_ordinal naming_by_spelling
 
   -- holds if the replacement of each name has the same binding as the name
   abbrev Agrees : Scope Name → Scope Name → Type 0
-  Agrees there here = (y : Name) → same_name y new ≡ false → ordinal_of as_names there (ren (ordinal_of as_names here y) y) ≡ ordinal_of as_names here y
+  Agrees there here = (y : Name) → same_name y new ≡ false → ordinal_of naming_by_spelling there (ren (ordinal_of naming_by_spelling here y) y) ≡ ordinal_of naming_by_spelling here y
 
   abbrev AllNew : List Name → Type 0
   AllNew [] = Unit {0}
@@ -120,8 +120,8 @@ module _ (d : ℕ) (new : Name) (f : ℕ → Name) (g : ℕ → ℕ) (fresh : (i
   -- Declaring one more name in each scope keeps them in agreement.
 
   step : (there : Scope Name) (x y : Name) (o : Option ℕ) (j k : ℕ) (s e c : Bool) → same_name y x ≡ s → (k == d) ≡ e → same_ordinal o d ≡ c
-      → same_name x new ≡ false → same_name y new ≡ false → j ≡ k → ordinal_of as_names there (if c then new else y) ≡ o
-      → ordinal_of as_names ((if e then new else x, j) ∷ there) (if elim s [ true ↦ e | false ↦ c ] then new else y) ≡ elim s [ true ↦ Some k | false ↦ o ]
+      → same_name x new ≡ false → same_name y new ≡ false → j ≡ k → ordinal_of naming_by_spelling there (if c then new else y) ≡ o
+      → ordinal_of naming_by_spelling ((if e then new else x, j) ∷ there) (if elim s [ true ↦ e | false ↦ c ] then new else y) ≡ elim s [ true ↦ Some k | false ↦ o ]
   step there x y o j k true true c sy ke ce fx fy jk is = bound_here (same_name new new) j _ ((bytes_eq-Decides new new).1 refl) ∙ ap Some jk
   step there x y o j k true false c sy ke ce fx fy jk is = bound_here (same_name y x) j _ sy ∙ ap Some jk
   step there x y o j k false true true sy ke ce fx fy jk is =
@@ -136,8 +136,8 @@ module _ (d : ℕ) (new : Name) (f : ℕ → Name) (g : ℕ → ℕ) (fresh : (i
 
   agrees_one : (there here : Scope Name) (x : Name) (j k : ℕ) → same_name x new ≡ false → j ≡ k → Agrees there here → Agrees ((ren (Some k) x, j) ∷ there) ((x, k) ∷ here)
   agrees_one there here x j k fx jk agrees y fy =
-      let o = ordinal_of as_names here y in
-      ap (λ b. ordinal_of as_names ((ren (Some k) x, j) ∷ there) (if b then new else y)) (ordinal-step (same_name y x) k o)
+      let o = ordinal_of naming_by_spelling here y in
+      ap (λ b. ordinal_of naming_by_spelling ((ren (Some k) x, j) ∷ there) (if b then new else y)) (ordinal-step (same_name y x) k o)
       ∙ step there x y o j k (same_name y x) (k == d) (same_ordinal o d) refl refl refl fx fy jk (agrees y fy)
 
   agrees_names : (xs : List Name) → AllNew xs → (there here : Scope Name) (j k : ℕ) → j ≡ k → Agrees there here → Agrees (declare_names j (label_names ren k xs) there) (declare_names k xs here)
@@ -156,21 +156,21 @@ module _ (d : ℕ) (new : Name) (f : ℕ → Name) (g : ℕ → ℕ) (fresh : (i
   new_further end = tt
   new_further (more (then_name x) ns) = (fresh x, new_further ns)
 
-  new_listed : (ns : Tree ℕ names) → AllNew (names_listed (mapped f g ns))
+  new_listed : (ns : Tree ℕ names) → AllNew (names_in_list (mapped f g ns))
   new_listed (listed x ns) = (fresh x, new_further ns)
 
   new_constants : (cs : Tree ℕ (items constant)) → AllNew (constant_names (mapped f g cs))
   new_constants end = tt
   new_constants (more (declares_constant x e) cs) = (fresh x, new_constants cs)
 
-  new_types : (ts : Tree ℕ (items type_name)) → AllNew (named_types (mapped f g ts))
+  new_types : (ts : Tree ℕ (items type_name)) → AllNew (declared_type_names (mapped f g ts))
   new_types end = tt
   new_types (more (declares_type x t) ts) = (fresh x, new_types ts)
 
   new_variables : (vs : Tree ℕ (items variable)) → AllNew (variable_names (mapped f g vs))
   new_variables end = tt
   new_variables (more (declares_variable ns t) vs) =
-      all_new-append (names_listed (mapped f g ns)) (variable_names (mapped f g vs)) (new_listed ns) (new_variables vs)
+      all_new-append (names_in_list (mapped f g ns)) (variable_names (mapped f g vs)) (new_listed ns) (new_variables vs)
 
   new_section : (s : Tree ℕ section) → AllNew (section_names (mapped f g s))
   new_section (value_section ns t) = new_listed ns
@@ -185,7 +185,7 @@ module _ (d : ℕ) (new : Name) (f : ℕ → Name) (g : ℕ → ℕ) (fresh : (i
   new_constant_section none = tt
   new_constant_section (one (declares_constants cs)) = new_constants cs
 
-  new_type_section : (ts : Tree ℕ (maybe type_names)) → AllNew (named_types (section_types (mapped f g ts)))
+  new_type_section : (ts : Tree ℕ (maybe type_names)) → AllNew (declared_type_names (section_types (mapped f g ts)))
   new_type_section none = tt
   new_type_section (one (declares_types ts)) = new_types ts
 
@@ -201,46 +201,46 @@ module _ (d : ℕ) (new : Name) (f : ℕ → Name) (g : ℕ → ℕ) (fresh : (i
   -- The scopes of a block agree if the scopes before it do.
 
   agrees_types : (there here : Scope Name) (j k : ℕ) → j ≡ k → Agrees there here → (b : Tree ℕ block)
-      → Agrees (types_scope j (relabel_block as_names ren here k (mapped f g b)) there) (types_scope k (mapped f g b) here)
+      → Agrees (types_scope j (relabel_block naming_by_spelling ren here k (mapped f g b)) there) (types_scope k (mapped f g b) here)
   agrees_types there here j k jk agrees (has_body (declares cs ts vs ps) statements) =
-      agrees_listed j k jk _ _ (ap constant_names (constants-section as_names ren here k (mapped f g cs)) ∙ constants-labels as_names ren here k (section_constants (mapped f g cs)))
+      agrees_listed j k jk _ _ (ap constant_names (constants-section naming_by_spelling ren here k (mapped f g cs)) ∙ constants-labels naming_by_spelling ren here k (section_constants (mapped f g cs)))
       (new_constant_section cs) there here agrees
 
   agrees_variables : (there here : Scope Name) (j k : ℕ) → j ≡ k → Agrees there here → (b : Tree ℕ block)
-      → Agrees (variables_scope j (relabel_block as_names ren here k (mapped f g b)) there) (variables_scope k (mapped f g b) here)
+      → Agrees (variables_scope j (relabel_block naming_by_spelling ren here k (mapped f g b)) there) (variables_scope k (mapped f g b) here)
   agrees_variables there here j k jk agrees (has_body (declares cs ts vs ps) statements) =
       let b : Tree Name block = mapped f g (has_body (declares cs ts vs ps) statements) in
-      let b' : Tree Name block = relabel_block as_names ren here k b in
-      agrees_listed (first_type j b') (first_type k b) (first_type-relabel as_names ren here j k b jk) _ _
-      (ap named_types (types-section as_names ren (types_scope k b here) (first_type k b) (mapped f g ts)) ∙ types-labels as_names ren (types_scope k b here) (first_type k b) (section_types (mapped f g ts)))
+      let b' : Tree Name block = relabel_block naming_by_spelling ren here k b in
+      agrees_listed (first_type_ordinal j b') (first_type_ordinal k b) (first_type_ordinal-relabel naming_by_spelling ren here j k b jk) _ _
+      (ap declared_type_names (types-section naming_by_spelling ren (types_scope k b here) (first_type_ordinal k b) (mapped f g ts)) ∙ types-labels naming_by_spelling ren (types_scope k b here) (first_type_ordinal k b) (section_types (mapped f g ts)))
       (new_type_section ts) (types_scope j b' there) (types_scope k b here)
       (agrees_types there here j k jk agrees (has_body (declares cs ts vs ps) statements))
 
   agrees_procedures : (there here : Scope Name) (j k : ℕ) → j ≡ k → Agrees there here → (b : Tree ℕ block)
-      → Agrees (procedures_scope j (relabel_block as_names ren here k (mapped f g b)) there) (procedures_scope k (mapped f g b) here)
+      → Agrees (procedures_scope j (relabel_block naming_by_spelling ren here k (mapped f g b)) there) (procedures_scope k (mapped f g b) here)
   agrees_procedures there here j k jk agrees (has_body (declares cs ts vs ps) statements) =
       let b : Tree Name block = mapped f g (has_body (declares cs ts vs ps) statements) in
-      let b' : Tree Name block = relabel_block as_names ren here k b in
-      agrees_listed (first_variable j b') (first_variable k b) (first_variable-relabel as_names ren here j k b jk) _ _
-      (ap variable_names (variables-section as_names ren (variables_scope k b here) (first_variable k b) (mapped f g vs))
-      ∙ variables-labels as_names ren (variables_scope k b here) (first_variable k b) (section_variables (mapped f g vs)))
+      let b' : Tree Name block = relabel_block naming_by_spelling ren here k b in
+      agrees_listed (first_variable_ordinal j b') (first_variable_ordinal k b) (first_variable_ordinal-relabel naming_by_spelling ren here j k b jk) _ _
+      (ap variable_names (variables-section naming_by_spelling ren (variables_scope k b here) (first_variable_ordinal k b) (mapped f g vs))
+      ∙ variables-labels naming_by_spelling ren (variables_scope k b here) (first_variable_ordinal k b) (section_variables (mapped f g vs)))
       (new_variable_section vs) (variables_scope j b' there) (variables_scope k b here)
       (agrees_variables there here j k jk agrees (has_body (declares cs ts vs ps) statements))
 
   agrees_procedure_names : (visible there here : Scope Name) (j k : ℕ) → j ≡ k → Agrees there here → (ps : Tree ℕ (items procedure))
-      → Agrees (declare_procedure_names j (relabel_procedures as_names ren visible k (mapped f g ps)) there) (declare_procedure_names k (mapped f g ps) here)
+      → Agrees (declare_procedure_names j (relabel_procedures naming_by_spelling ren visible k (mapped f g ps)) there) (declare_procedure_names k (mapped f g ps) here)
   agrees_procedure_names visible there here j k jk agrees end = agrees
   agrees_procedure_names visible there here j k jk agrees (more (declares_procedure x fs b closing) ps) =
       let p : Tree Name (item procedure) = mapped f g (declares_procedure x fs b closing) in
-      agrees_procedure_names ((f x, k) ∷ visible) ((ren (Some k) (f x), j) ∷ there) ((f x, k) ∷ here) (after_procedure (suc j) (relabel_procedure as_names ren visible k p)) (after_procedure (suc k) p)
-      (after_procedure-relabel as_names ren visible j k p jk) (agrees_one there here (f x) j k (fresh x) jk agrees) ps
+      agrees_procedure_names ((f x, k) ∷ visible) ((ren (Some k) (f x), j) ∷ there) ((f x, k) ∷ here) (ordinal_after_procedure (suc j) (relabel_procedure naming_by_spelling ren visible k p)) (ordinal_after_procedure (suc k) p)
+      (ordinal_after_procedure-relabel naming_by_spelling ren visible j k p jk) (agrees_one there here (f x) j k (fresh x) jk agrees) ps
 
   agrees_body : (there here : Scope Name) (j k : ℕ) → j ≡ k → Agrees there here → (b : Tree ℕ block)
-      → Agrees (body_scope j (relabel_block as_names ren here k (mapped f g b)) there) (body_scope k (mapped f g b) here)
+      → Agrees (body_scope j (relabel_block naming_by_spelling ren here k (mapped f g b)) there) (body_scope k (mapped f g b) here)
   agrees_body there here j k jk agrees (has_body (declares cs ts vs ps) statements) =
       let b : Tree Name block = mapped f g (has_body (declares cs ts vs ps) statements) in
-      let b' : Tree Name block = relabel_block as_names ren here k b in
-      agrees_procedure_names (procedures_scope k b here) (procedures_scope j b' there) (procedures_scope k b here) (first_procedure j b') (first_procedure k b) (first_procedure-relabel as_names ren here j k b jk)
+      let b' : Tree Name block = relabel_block naming_by_spelling ren here k b in
+      agrees_procedure_names (procedures_scope k b here) (procedures_scope j b' there) (procedures_scope k b here) (first_procedure_ordinal j b') (first_procedure_ordinal k b) (first_procedure_ordinal-relabel naming_by_spelling ren here j k b jk)
       (agrees_procedures there here j k jk agrees (has_body (declares cs ts vs ps) statements)) ps
 
   -- Each relabelled part has the same numbers.
@@ -250,115 +250,115 @@ module _ (d : ℕ) (new : Name) (f : ℕ → Name) (g : ℕ → ℕ) (fresh : (i
   label-kept (Some k) x = refl
 
   uses_same : (there here : Scope Name) → Agrees there here → {s : Sort} (t : Tree ℕ s)
-      → relabel_uses as_names label there (relabel_uses as_names ren here (mapped f g t)) ≡ relabel_uses as_names label here (mapped f g t)
+      → relabel_uses naming_by_spelling label there (relabel_uses naming_by_spelling ren here (mapped f g t)) ≡ relabel_uses naming_by_spelling label here (mapped f g t)
   uses_same there here agrees t =
-      twice f g (label_of as_names ren here) (ren None) (label_of as_names label there) (label None) (label_of as_names label here) (label None)
-      (λ i. ap (λ o. label o (ren (ordinal_of as_names here (f i)) (f i))) (agrees (f i) (fresh i)) ∙ label-kept (ordinal_of as_names here (f i)) (f i)) (λ i. refl) t
+      twice f g (label_of naming_by_spelling ren here) (ren None) (label_of naming_by_spelling label there) (label None) (label_of naming_by_spelling label here) (label None)
+      (λ i. ap (λ o. label o (ren (ordinal_of naming_by_spelling here (f i)) (f i))) (agrees (f i) (fresh i)) ∙ label-kept (ordinal_of naming_by_spelling here (f i)) (f i)) (λ i. refl) t
 
   constants_same : (there here : Scope Name) (j k : ℕ) → j ≡ k → Agrees there here → (cs : Tree ℕ (items constant))
-      → relabel_constants as_names label there j (relabel_constants as_names ren here k (mapped f g cs)) ≡ relabel_constants as_names label here k (mapped f g cs)
+      → relabel_constants naming_by_spelling label there j (relabel_constants naming_by_spelling ren here k (mapped f g cs)) ≡ relabel_constants naming_by_spelling label here k (mapped f g cs)
   constants_same there here j k jk agrees end = refl
   constants_same there here j k jk agrees (more (declares_constant x e) cs) = λ i.
       more (declares_constant (declared (jk i)) (uses_same there here agrees e i))
       (constants_same ((ren (Some k) (f x), j) ∷ there) ((f x, k) ∷ here) (suc j) (suc k) (ap suc jk) (agrees_one there here (f x) j k (fresh x) jk agrees) cs i)
 
   types_same : (there here : Scope Name) (j k : ℕ) → j ≡ k → Agrees there here → (ts : Tree ℕ (items type_name))
-      → relabel_types as_names label there j (relabel_types as_names ren here k (mapped f g ts)) ≡ relabel_types as_names label here k (mapped f g ts)
+      → relabel_types naming_by_spelling label there j (relabel_types naming_by_spelling ren here k (mapped f g ts)) ≡ relabel_types naming_by_spelling label here k (mapped f g ts)
   types_same there here j k jk agrees end = refl
   types_same there here j k jk agrees (more (declares_type x t) ts) = λ i.
       more (declares_type (declared (jk i)) (uses_same there here agrees t i))
       (types_same ((ren (Some k) (f x), j) ∷ there) ((f x, k) ∷ here) (suc j) (suc k) (ap suc jk) (agrees_one there here (f x) j k (fresh x) jk agrees) ts i)
 
   variables_same : (there here : Scope Name) (j k : ℕ) → j ≡ k → Agrees there here → (vs : Tree ℕ (items variable))
-      → relabel_variables as_names label there j (relabel_variables as_names ren here k (mapped f g vs)) ≡ relabel_variables as_names label here k (mapped f g vs)
+      → relabel_variables naming_by_spelling label there j (relabel_variables naming_by_spelling ren here k (mapped f g vs)) ≡ relabel_variables naming_by_spelling label here k (mapped f g vs)
   variables_same there here j k jk agrees end = refl
   variables_same there here j k jk agrees (more (declares_variable ns t) vs) =
       let ns' : Tree Name names = mapped f g ns in λ i.
-      more (declares_variable (names-twice as_names ren j k jk ns' i) (uses_same there here agrees t i))
-      (variables_same (declare_names j (names_listed (relabel_names ren k ns')) there) (declare_names k (names_listed ns') here) (after_names j (names_listed (relabel_names ren k ns'))) (after_names k (names_listed ns'))
+      more (declares_variable (names-twice naming_by_spelling ren j k jk ns' i) (uses_same there here agrees t i))
+      (variables_same (declare_names j (names_in_list (relabel_names ren k ns')) there) (declare_names k (names_in_list ns') here) (ordinal_after_names j (names_in_list (relabel_names ren k ns'))) (ordinal_after_names k (names_in_list ns'))
       (after_listed ren j k jk ns') (agrees_listed j k jk _ _ (names-relabel ren k ns') (new_listed ns) there here agrees) vs i)
 
   section_same : (there here : Scope Name) (j k : ℕ) → j ≡ k → Agrees there here → (s : Tree ℕ section)
-      → relabel_section as_names label there j (relabel_section as_names ren here k (mapped f g s)) ≡ relabel_section as_names label here k (mapped f g s)
-  section_same there here j k jk agrees (value_section ns t) = λ i. value_section (names-twice as_names ren j k jk (mapped f g ns) i) (uses_same there here agrees t i)
-  section_same there here j k jk agrees (variable_section ns t) = λ i. variable_section (names-twice as_names ren j k jk (mapped f g ns) i) (uses_same there here agrees t i)
+      → relabel_section naming_by_spelling label there j (relabel_section naming_by_spelling ren here k (mapped f g s)) ≡ relabel_section naming_by_spelling label here k (mapped f g s)
+  section_same there here j k jk agrees (value_section ns t) = λ i. value_section (names-twice naming_by_spelling ren j k jk (mapped f g ns) i) (uses_same there here agrees t i)
+  section_same there here j k jk agrees (variable_section ns t) = λ i. variable_section (names-twice naming_by_spelling ren j k jk (mapped f g ns) i) (uses_same there here agrees t i)
 
   sections_same : (there here : Scope Name) (j k : ℕ) → j ≡ k → Agrees there here → (fs : Tree ℕ (items further_section))
-      → relabel_sections as_names label there j (relabel_sections as_names ren here k (mapped f g fs)) ≡ relabel_sections as_names label here k (mapped f g fs)
+      → relabel_sections naming_by_spelling label there j (relabel_sections naming_by_spelling ren here k (mapped f g fs)) ≡ relabel_sections naming_by_spelling label here k (mapped f g fs)
   sections_same there here j k jk agrees end = refl
   sections_same there here j k jk agrees (more (then_section s) fs) =
       let s' : Tree Name section = mapped f g s in λ i.
       more (then_section (section_same there here j k jk agrees s i))
-      (sections_same (declare_names j (section_names (relabel_section as_names ren here k s')) there) (declare_names k (section_names s') here)
-      (after_names j (section_names (relabel_section as_names ren here k s'))) (after_names k (section_names s')) (after_section as_names ren here j k jk s')
-      (agrees_listed j k jk _ _ (section_names-relabel as_names ren here k s') (new_section s) there here agrees) fs i)
+      (sections_same (declare_names j (section_names (relabel_section naming_by_spelling ren here k s')) there) (declare_names k (section_names s') here)
+      (ordinal_after_names j (section_names (relabel_section naming_by_spelling ren here k s'))) (ordinal_after_names k (section_names s')) (after_section naming_by_spelling ren here j k jk s')
+      (agrees_listed j k jk _ _ (section_names-relabel naming_by_spelling ren here k s') (new_section s) there here agrees) fs i)
 
   formals_same : (there here : Scope Name) (j k : ℕ) → j ≡ k → Agrees there here → (fs : Tree ℕ (maybe formals))
-      → relabel_formals as_names label there j (relabel_formals as_names ren here k (mapped f g fs)) ≡ relabel_formals as_names label here k (mapped f g fs)
+      → relabel_formals naming_by_spelling label there j (relabel_formals naming_by_spelling ren here k (mapped f g fs)) ≡ relabel_formals naming_by_spelling label here k (mapped f g fs)
   formals_same there here j k jk agrees none = refl
   formals_same there here j k jk agrees (one no_formals) = refl
   formals_same there here j k jk agrees (one (some_formals s fs)) =
       let s' : Tree Name section = mapped f g s in λ i.
       one (some_formals (section_same there here j k jk agrees s i)
-      (sections_same (declare_names j (section_names (relabel_section as_names ren here k s')) there) (declare_names k (section_names s') here)
-      (after_names j (section_names (relabel_section as_names ren here k s'))) (after_names k (section_names s')) (after_section as_names ren here j k jk s')
-      (agrees_listed j k jk _ _ (section_names-relabel as_names ren here k s') (new_section s) there here agrees) fs i))
+      (sections_same (declare_names j (section_names (relabel_section naming_by_spelling ren here k s')) there) (declare_names k (section_names s') here)
+      (ordinal_after_names j (section_names (relabel_section naming_by_spelling ren here k s'))) (ordinal_after_names k (section_names s')) (after_section naming_by_spelling ren here j k jk s')
+      (agrees_listed j k jk _ _ (section_names-relabel naming_by_spelling ren here k s') (new_section s) there here agrees) fs i))
 
   constant_section_same : (there here : Scope Name) (j k : ℕ) → j ≡ k → Agrees there here → (cs : Tree ℕ (maybe constants))
-      → relabel_constant_section as_names label there j (relabel_constant_section as_names ren here k (mapped f g cs)) ≡ relabel_constant_section as_names label here k (mapped f g cs)
+      → relabel_constant_section naming_by_spelling label there j (relabel_constant_section naming_by_spelling ren here k (mapped f g cs)) ≡ relabel_constant_section naming_by_spelling label here k (mapped f g cs)
   constant_section_same there here j k jk agrees none = refl
   constant_section_same there here j k jk agrees (one (declares_constants cs)) = λ i. one (declares_constants (constants_same there here j k jk agrees cs i))
 
   type_section_same : (there here : Scope Name) (j k : ℕ) → j ≡ k → Agrees there here → (ts : Tree ℕ (maybe type_names))
-      → relabel_type_section as_names label there j (relabel_type_section as_names ren here k (mapped f g ts)) ≡ relabel_type_section as_names label here k (mapped f g ts)
+      → relabel_type_section naming_by_spelling label there j (relabel_type_section naming_by_spelling ren here k (mapped f g ts)) ≡ relabel_type_section naming_by_spelling label here k (mapped f g ts)
   type_section_same there here j k jk agrees none = refl
   type_section_same there here j k jk agrees (one (declares_types ts)) = λ i. one (declares_types (types_same there here j k jk agrees ts i))
 
   variable_section_same : (there here : Scope Name) (j k : ℕ) → j ≡ k → Agrees there here → (vs : Tree ℕ (maybe variables))
-      → relabel_variable_section as_names label there j (relabel_variable_section as_names ren here k (mapped f g vs)) ≡ relabel_variable_section as_names label here k (mapped f g vs)
+      → relabel_variable_section naming_by_spelling label there j (relabel_variable_section naming_by_spelling ren here k (mapped f g vs)) ≡ relabel_variable_section naming_by_spelling label here k (mapped f g vs)
   variable_section_same there here j k jk agrees none = refl
   variable_section_same there here j k jk agrees (one (declares_variables vs)) = λ i. one (declares_variables (variables_same there here j k jk agrees vs i))
 
   agrees_procedure : (there here : Scope Name) (j k : ℕ) → j ≡ k → Agrees there here → (p : Tree ℕ (item procedure))
-      → Agrees ((procedure_name (relabel_procedure as_names ren here k (mapped f g p)), j) ∷ there) ((procedure_name (mapped f g p), k) ∷ here)
+      → Agrees ((procedure_name (relabel_procedure naming_by_spelling ren here k (mapped f g p)), j) ∷ there) ((procedure_name (mapped f g p), k) ∷ here)
   agrees_procedure there here j k jk agrees (declares_procedure x fs b closing) = agrees_one there here (f x) j k (fresh x) jk agrees
 
   mutual
     block_same : (there here : Scope Name) (j k : ℕ) → j ≡ k → Agrees there here → (b : Tree ℕ block)
-        → relabel_block as_names label there j (relabel_block as_names ren here k (mapped f g b)) ≡ relabel_block as_names label here k (mapped f g b)
+        → relabel_block naming_by_spelling label there j (relabel_block naming_by_spelling ren here k (mapped f g b)) ≡ relabel_block naming_by_spelling label here k (mapped f g b)
     block_same there here j k jk agrees (has_body (declares cs ts vs ps) statements) =
         let b₀ : Tree ℕ block = has_body (declares cs ts vs ps) statements in
         let b : Tree Name block = mapped f g b₀ in
-        let b' : Tree Name block = relabel_block as_names ren here k b in λ i.
+        let b' : Tree Name block = relabel_block naming_by_spelling ren here k b in λ i.
         has_body
         (declares (constant_section_same there here j k jk agrees cs i)
-        (type_section_same (types_scope j b' there) (types_scope k b here) (first_type j b') (first_type k b) (first_type-relabel as_names ren here j k b jk) (agrees_types there here j k jk agrees b₀) ts i)
-        (variable_section_same (variables_scope j b' there) (variables_scope k b here) (first_variable j b') (first_variable k b) (first_variable-relabel as_names ren here j k b jk) (agrees_variables there here j k jk agrees b₀) vs i)
-        (procedures_same (procedures_scope j b' there) (procedures_scope k b here) (first_procedure j b') (first_procedure k b) (first_procedure-relabel as_names ren here j k b jk) (agrees_procedures there here j k jk agrees b₀) ps i))
+        (type_section_same (types_scope j b' there) (types_scope k b here) (first_type_ordinal j b') (first_type_ordinal k b) (first_type_ordinal-relabel naming_by_spelling ren here j k b jk) (agrees_types there here j k jk agrees b₀) ts i)
+        (variable_section_same (variables_scope j b' there) (variables_scope k b here) (first_variable_ordinal j b') (first_variable_ordinal k b) (first_variable_ordinal-relabel naming_by_spelling ren here j k b jk) (agrees_variables there here j k jk agrees b₀) vs i)
+        (procedures_same (procedures_scope j b' there) (procedures_scope k b here) (first_procedure_ordinal j b') (first_procedure_ordinal k b) (first_procedure_ordinal-relabel naming_by_spelling ren here j k b jk) (agrees_procedures there here j k jk agrees b₀) ps i))
         (uses_same (body_scope j b' there) (body_scope k b here) (agrees_body there here j k jk agrees b₀) statements i)
 
     procedures_same : (there here : Scope Name) (j k : ℕ) → j ≡ k → Agrees there here → (ps : Tree ℕ (items procedure))
-        → relabel_procedures as_names label there j (relabel_procedures as_names ren here k (mapped f g ps)) ≡ relabel_procedures as_names label here k (mapped f g ps)
+        → relabel_procedures naming_by_spelling label there j (relabel_procedures naming_by_spelling ren here k (mapped f g ps)) ≡ relabel_procedures naming_by_spelling label here k (mapped f g ps)
     procedures_same there here j k jk agrees end = refl
     procedures_same there here j k jk agrees (more p₀ ps) =
         let p : Tree Name (item procedure) = mapped f g p₀ in
-        let p' : Tree Name (item procedure) = relabel_procedure as_names ren here k p in λ i.
+        let p' : Tree Name (item procedure) = relabel_procedure naming_by_spelling ren here k p in λ i.
         more (procedure_same there here j k jk agrees p₀ i)
-        (procedures_same ((procedure_name p', j) ∷ there) ((procedure_name p, k) ∷ here) (after_procedure (suc j) p') (after_procedure (suc k) p)
-        (after_procedure-relabel as_names ren here j k p jk) (agrees_procedure there here j k jk agrees p₀) ps i)
+        (procedures_same ((procedure_name p', j) ∷ there) ((procedure_name p, k) ∷ here) (ordinal_after_procedure (suc j) p') (ordinal_after_procedure (suc k) p)
+        (ordinal_after_procedure-relabel naming_by_spelling ren here j k p jk) (agrees_procedure there here j k jk agrees p₀) ps i)
 
     procedure_same : (there here : Scope Name) (j k : ℕ) → j ≡ k → Agrees there here → (p : Tree ℕ (item procedure))
-        → relabel_procedure as_names label there j (relabel_procedure as_names ren here k (mapped f g p)) ≡ relabel_procedure as_names label here k (mapped f g p)
+        → relabel_procedure naming_by_spelling label there j (relabel_procedure naming_by_spelling ren here k (mapped f g p)) ≡ relabel_procedure naming_by_spelling label here k (mapped f g p)
     procedure_same there here j k jk agrees (declares_procedure x fs b closing) =
         let fs₁ : Tree Name (maybe formals) = mapped f g fs in
         let own : List Name = formal_names (formal_sections fs₁) in
-        let fs' : Tree Name (maybe formals) = relabel_formals as_names ren here (suc k) fs₁ in
+        let fs' : Tree Name (maybe formals) = relabel_formals naming_by_spelling ren here (suc k) fs₁ in
         let own' : List Name = formal_names (formal_sections fs') in
-        let labelled : own' ≡ label_names ren (suc k) own = ap formal_names (formals-section as_names ren here (suc k) fs₁) ∙ sections-labels as_names ren here (suc k) (formal_sections fs₁) in
-        let after : after_names (suc j) own' ≡ after_names (suc k) own =
-        ap (λ l. after_names (suc j) (formal_names l)) (formals-section as_names ren here (suc k) fs₁) ∙ after_sections as_names ren here (suc j) (suc k) (formal_sections fs₁) (ap suc jk) in λ i.
+        let labelled : own' ≡ label_names ren (suc k) own = ap formal_names (formals-section naming_by_spelling ren here (suc k) fs₁) ∙ sections-labels naming_by_spelling ren here (suc k) (formal_sections fs₁) in
+        let after : ordinal_after_names (suc j) own' ≡ ordinal_after_names (suc k) own =
+        ap (λ l. ordinal_after_names (suc j) (formal_names l)) (formals-section naming_by_spelling ren here (suc k) fs₁) ∙ after_sections naming_by_spelling ren here (suc j) (suc k) (formal_sections fs₁) (ap suc jk) in λ i.
         declares_procedure (declared (jk i)) (formals_same there here (suc j) (suc k) (ap suc jk) agrees fs i)
-        (block_same (declare_names (suc j) own' ((ren (Some k) (f x), j) ∷ there)) (declare_names (suc k) own ((f x, k) ∷ here)) (after_names (suc j) own') (after_names (suc k) own) after
+        (block_same (declare_names (suc j) own' ((ren (Some k) (f x), j) ∷ there)) (declare_names (suc k) own ((f x, k) ∷ here)) (ordinal_after_names (suc j) own') (ordinal_after_names (suc k) own) after
         (agrees_listed (suc j) (suc k) (ap suc jk) _ _ labelled (new_formals fs) ((ren (Some k) (f x), j) ∷ there) ((f x, k) ∷ here) (agrees_one there here (f x) j k (fresh x) jk agrees)) b i)
         (declared (jk i))
 
@@ -368,26 +368,26 @@ module _ (d : ℕ) (new : Name) (f : ℕ → Name) (g : ℕ → ℕ) (fresh : (i
   Others [] = Unit {0}
   Others (b ∷ scope) = ((b.1 == d) ≡ false) × Others scope
 
-  bound_to_others : (scope : Scope Name) → Others scope → (y : Name) → same_ordinal (ordinal_of as_names scope y) d ≡ false
+  bound_to_others : (scope : Scope Name) → Others scope → (y : Name) → same_ordinal (ordinal_of naming_by_spelling scope y) d ≡ false
   bound_to_others [] others y = refl
   bound_to_others (b ∷ scope) others y = first (same_name y b.0) (bound_to_others scope others.1 y)
     where
-      first : (s : Bool) → same_ordinal (ordinal_of as_names scope y) d ≡ false → same_ordinal (elim s [ true ↦ Some b.1 | false ↦ ordinal_of as_names scope y ]) d ≡ false
+      first : (s : Bool) → same_ordinal (ordinal_of naming_by_spelling scope y) d ≡ false → same_ordinal (elim s [ true ↦ Some b.1 | false ↦ ordinal_of naming_by_spelling scope y ]) d ≡ false
       first true rest = others.0
       first false rest = rest
 
-  other_scope : 7 ≤ d → Others (predeclared_scope as_names)
+  other_scope : 7 ≤ d → Others (predeclared_scope naming_by_spelling)
   other_scope h =
       let other : (n : ℕ) → n ≤ 6 → (n == d) ≡ false = λ n m. ne_eqb n d (λ e. omega (arith, e, h, m)) in
       (other 6 (omega arith), (other 5 (omega arith), (other 4 (omega arith), (other 3 (omega arith), (other 2 (omega arith), (other 1 (omega arith), (other 0 (omega arith), tt)))))))
 
-  agrees_predeclared : 7 ≤ d → Agrees (predeclared_scope as_names) (predeclared_scope as_names)
+  agrees_predeclared : 7 ≤ d → Agrees (predeclared_scope naming_by_spelling) (predeclared_scope naming_by_spelling)
   agrees_predeclared h y fy =
-      ap (λ b. ordinal_of as_names (predeclared_scope as_names) (if b then new else y)) (bound_to_others (predeclared_scope as_names) (other_scope h) y)
+      ap (λ b. ordinal_of naming_by_spelling (predeclared_scope naming_by_spelling) (if b then new else y)) (bound_to_others (predeclared_scope naming_by_spelling) (other_scope h) y)
 
   bindings_same : 7 ≤ d → (m : Tree ℕ module_text) → bindings (renamed (mapped f g m) d new) ≡ bindings (mapped f g m)
   bindings_same h (is_module x b closing) =
-      let scope : Scope Name = predeclared_scope as_names in
+      let scope : Scope Name = predeclared_scope naming_by_spelling in
       ap occurrences (λ i. is_module (as_written (f x)) (block_same scope scope 7 7 refl (agrees_predeclared h) b i) (as_written (f closing)))
 
   -- holds if no other declaration has the name
@@ -396,7 +396,7 @@ module _ (d : ℕ) (new : Name) (f : ℕ → Name) (g : ℕ → ℕ) (fresh : (i
   NewScope [] = Unit {0}
   NewScope (b ∷ scope) = (same_name b.0 new ≡ false) × NewScope scope
 
-  none_named : (own : Scope Name) → NewScope own → names_another own d new ≡ false
+  none_named : (own : Scope Name) → NewScope own → another_has_name own d new ≡ false
   none_named [] all = refl
   none_named (b ∷ own) all = λ i. (all.0 i && not (b.1 == d)) || none_named own all.1 i
 
@@ -407,29 +407,29 @@ module _ (d : ℕ) (new : Name) (f : ℕ → Name) (g : ℕ → ℕ) (fresh : (i
   new_procedures : (k : ℕ) (ps : Tree ℕ (items procedure)) (scope : Scope Name) → NewScope scope → NewScope (declare_procedure_names k (mapped f g ps) scope)
   new_procedures k end scope others = others
   new_procedures k (more (declares_procedure x fs b closing) ps) scope others =
-      new_procedures (after_procedure (suc k) (mapped f g (declares_procedure x fs b closing))) ps ((f x, k) ∷ scope) (fresh x, others)
+      new_procedures (ordinal_after_procedure (suc k) (mapped f g (declares_procedure x fs b closing))) ps ((f x, k) ∷ scope) (fresh x, others)
 
   abbrev clashes : Scope Name → Bool
-  clashes own = declares_ordinal own d && names_another own d new
+  clashes own = declares_ordinal own d && another_has_name own d new
 
   mutual
     no_clash-block : (k : ℕ) (own : Scope Name) → NewScope own → (b : Tree ℕ block) → list_any clashes (blocks_in k own (mapped f g b)) ≡ false
     no_clash-block k own others (has_body (declares cs ts vs ps) statements) =
         let b : Tree Name block = mapped f g (has_body (declares cs ts vs ps) statements) in
         let mine : NewScope (body_scope k b own) =
-        new_procedures (first_procedure k b) ps (procedures_scope k b own)
-        (new_names (first_variable k b) (variable_names (section_variables (mapped f g vs))) (variables_scope k b own) (new_variable_section vs)
-        (new_names (first_type k b) (named_types (section_types (mapped f g ts))) (types_scope k b own) (new_type_section ts)
+        new_procedures (first_procedure_ordinal k b) ps (procedures_scope k b own)
+        (new_names (first_variable_ordinal k b) (variable_names (section_variables (mapped f g vs))) (variables_scope k b own) (new_variable_section vs)
+        (new_names (first_type_ordinal k b) (declared_type_names (section_types (mapped f g ts))) (types_scope k b own) (new_type_section ts)
         (new_names k (constant_names (section_constants (mapped f g cs))) own (new_constant_section cs) others))) in λ i.
-        and-false (declares_ordinal (body_scope k b own) d) _ (none_named (body_scope k b own) mine) i || no_clash-procedures (first_procedure k b) ps i
+        and-false (declares_ordinal (body_scope k b own) d) _ (none_named (body_scope k b own) mine) i || no_clash-procedures (first_procedure_ordinal k b) ps i
 
     no_clash-procedures : (k : ℕ) (ps : Tree ℕ (items procedure)) → list_any clashes (blocks_in_procedures k (mapped f g ps)) ≡ false
     no_clash-procedures k end = refl
     no_clash-procedures k (more (declares_procedure x fs b closing) ps) =
         let p : Tree Name (item procedure) = mapped f g (declares_procedure x fs b closing) in
-        list_any-append clashes (blocks_in_procedure (suc k) p) (blocks_in_procedures (after_procedure (suc k) p) (mapped f g ps))
-        ∙ (λ i. no_clash-block (after_names (suc k) (formal_names (formal_sections (mapped f g fs)))) (declare_names (suc k) (formal_names (formal_sections (mapped f g fs))) []) (new_names (suc k) (formal_names (formal_sections (mapped f g fs))) [] (new_formals fs) tt) b i
-        || no_clash-procedures (after_procedure (suc k) p) ps i)
+        list_any-append clashes (blocks_in_procedure (suc k) p) (blocks_in_procedures (ordinal_after_procedure (suc k) p) (mapped f g ps))
+        ∙ (λ i. no_clash-block (ordinal_after_names (suc k) (formal_names (formal_sections (mapped f g fs)))) (declare_names (suc k) (formal_names (formal_sections (mapped f g fs))) []) (new_names (suc k) (formal_names (formal_sections (mapped f g fs))) [] (new_formals fs) tt) b i
+        || no_clash-procedures (ordinal_after_procedure (suc k) p) ps i)
 
   -- A name that no token has is free.
   pub new_is_free : 7 ≤ d → (m : Tree ℕ module_text) → Free (mapped f g m) d new

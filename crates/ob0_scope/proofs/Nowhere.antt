@@ -3,18 +3,18 @@
 use Rattle.std.proofs.Common.{◌≡◌, ◌↔◌, ◌≤◌, ◌<◌, ◌+◌, ◌⊎◌, inl, inr, ◌∙◌, ◌∷◌, [], Option, None, false, ℕ, ◌==◌, length, refl, sym, ap, subst, arith}
 use Rattle.std.proofs.lemmas.Bool.{cases_lt}
 use Rattle.std.proofs.lemmas.Option.{slice_get_past}
-use Rattle.ob0_scan.specs.Scanned.{Scanned}
-use Rattle.ob0_tree.specs.Parsed.{Parsed, named_tree_of, tree_of}
-use Rattle.ob0_tree.specs.Places.{text_at, text_in, value_at}
+use Rattle.ob0_scan.specs.TextWithTokens.{TextWithTokens}
+use Rattle.ob0_tree.specs.ParsedModule.{ParsedModule, named_tree_of, tree_of}
+use Rattle.ob0_tree.specs.Places.{text_at, token_text_or_empty, value_at}
 use Rattle.ob0_language_names.specs.Names.{Name, same_name}
-use Rattle.ob0_language_names.specs.Occurrences.{Free, first_captured}
-use Rattle.ob0_scope.specs.declared.capturing.FirstCapture as reported
-use Rattle.ob0_scope.specs.Renames.{IsNowhere, namesake}
+use Rattle.ob0_language_names.specs.Occurrences.{Free, first_name_conflict}
+use Rattle.ob0_scope.specs.declared.name_conflicts.FirstConflict as reported
+use Rattle.ob0_scope.specs.Renames.{OccursNowhere, namesake}
 use Rattle.ob0_scope.proofs.Captured.{free_where_none, no_namesake}
-use Rattle.ob0_scope.proofs.FirstCaptures.{captured_where_not_free-holds}
+use Rattle.ob0_scope.proofs.FirstCaptures.{free_means_no_conflict-holds}
 use Rattle.ob0_scope.proofs.NewNames.{new_is_free}
 
-pub one_more : (source : Scanned) (x : Name) (n : ℕ) → ((i : ℕ) → i < n → same_name (text_at source i) x ≡ false) → same_name (text_at source n) x ≡ false
+pub one_more : (source : TextWithTokens) (x : Name) (n : ℕ) → ((i : ℕ) → i < n → same_name (text_at source i) x ≡ false) → same_name (text_at source n) x ≡ false
     → (i : ℕ) → i < n + 1 → same_name (text_at source i) x ≡ false
 one_more source x n before here i h = last (cases_lt i n)
   where
@@ -26,24 +26,24 @@ nameless : (x : Name) → (length x == 0) ≡ false → same_name [] x ≡ false
 nameless [] h = absurd (cc)
 nameless (c ∷ x) h = refl
 
-pub nowhere : (source : Scanned) (x : Name) (n : ℕ) → (length x == 0) ≡ false → length source.tokens ≤ n → ((i : ℕ) → i < n → same_name (text_at source i) x ≡ false) → IsNowhere source x
+pub nowhere : (source : TextWithTokens) (x : Name) (n : ℕ) → (length x == 0) ≡ false → length source.tokens ≤ n → ((i : ℕ) → i < n → same_name (text_at source i) x ≡ false) → OccursNowhere source x
 nowhere source x n named all before i = each (cases_lt i n)
   where
     each : (i < n) ⊎ (n ≤ i) → same_name (text_at source i) x ≡ false
     each (inl less) = before i less
-    each (inr more) = ap (λ t. same_name (text_in source.text t) x) (slice_get_past source.tokens i (omega (arith, all, more))) ∙ nameless x named
+    each (inr more) = ap (λ t. same_name (token_text_or_empty source.text t) x) (slice_get_past source.tokens i (omega (arith, all, more))) ∙ nameless x named
 
 -- A name that no token has is free.
-nowhere_is_free : (m : Parsed) (source : Scanned) (d : ℕ) (new : Name) → 7 ≤ d → source ≡ m.source → IsNowhere source new → Free (named_tree_of m) d new
+nowhere_is_free : (m : ParsedModule) (source : TextWithTokens) (d : ℕ) (new : Name) → 7 ≤ d → source ≡ m.source → OccursNowhere source new → Free (named_tree_of m) d new
 nowhere_is_free m source d new h is all =
-    new_is_free d new (text_at m.source) (value_at m.source) (subst (λ (s : Scanned). IsNowhere s new) is all) h (tree_of m)
+    new_is_free d new (text_at m.source) (value_at m.source) (subst (λ (s : TextWithTokens). OccursNowhere s new) is all) h (tree_of m)
 
-pub nowhere_captured : (m : Parsed) (source : Scanned) (d : ℕ) (new : Name) → 7 ≤ d → source ≡ m.source → IsNowhere source new → None ≡ first_captured (named_tree_of m) d new
-nowhere_captured m source d new h is all = sym ((captured_where_not_free-holds (named_tree_of m) d new).1 (nowhere_is_free m source d new h is all))
+pub nowhere_captured : (m : ParsedModule) (source : TextWithTokens) (d : ℕ) (new : Name) → 7 ≤ d → source ≡ m.source → OccursNowhere source new → None ≡ first_name_conflict (named_tree_of m) d new
+nowhere_captured m source d new h is all = sym ((free_means_no_conflict-holds (named_tree_of m) d new).1 (nowhere_is_free m source d new h is all))
 
-pub nowhere_namesake : (m : Parsed) (source : Scanned) (d : ℕ) (new : Name) → 7 ≤ d → source ≡ m.source → IsNowhere source new → None ≡ namesake (named_tree_of m) d new
+pub nowhere_namesake : (m : ParsedModule) (source : TextWithTokens) (d : ℕ) (new : Name) → 7 ≤ d → source ≡ m.source → OccursNowhere source new → None ≡ namesake (named_tree_of m) d new
 nowhere_namesake m source d new h is all = no_namesake (named_tree_of m) d new (nowhere_is_free m source d new h is all).0
 
-pub free_nowhere : (m : Parsed) (source : Scanned) (d : ℕ) (new : Name) → 7 ≤ d → source ≡ m.source → IsNowhere source new
-    → (let nothing : Option reported.FirstCapture = None in nothing) ≡ None ↔ Free (named_tree_of m) d new
+pub free_nowhere : (m : ParsedModule) (source : TextWithTokens) (d : ℕ) (new : Name) → 7 ≤ d → source ≡ m.source → OccursNowhere source new
+    → (let nothing : Option reported.FirstConflict = None in nothing) ≡ None ↔ Free (named_tree_of m) d new
 free_nowhere m source d new h is all = free_where_none (named_tree_of m) d new None (nowhere_captured m source d new h is all)

@@ -2,36 +2,36 @@
 -- ordinals and by token.
 use Rattle.std.proofs.Common.{◌≡◌, ℕ, ◌+◌, Bool, true, false, not, cond, ◌&&◌, ◌||◌, Option, Some, None, List, [], ◌∷◌, ◌++◌, map, length, refl, sym, ap, ◌∙◌, subst, option_map, option_and_then, slice_get, append_assoc, arith, length-append}
 use Rattle.std.specs.List.{filter, find, position_from, zip}
-use Rattle.ob0_scan.specs.Scanned.{Scanned}
+use Rattle.ob0_scan.specs.TextWithTokens.{TextWithTokens}
 use Rattle.ob0_scan.specs.declared.lexeme.Span.{Span}
 use Rattle.ob0_scan.specs.declared.lexeme.Token.{Token}
 use Rattle.ob0_scan.specs.declared.lexeme.TokenKind.{TokenKind}
 use Rattle.ob0_scan.specs.declared.lexeme.TokenKind.TheVariants as kind
 use Rattle.ob0_tree.proofs.Leaves.{leaves_parsed, leaves_spelled, lexeme_names}
 use Rattle.ob0_tree.proofs.Mapped.{spell_mapped}
-use Rattle.ob0_tree.specs.Lexeme.{EndOfText, Terminal, Mark, Name, Number, relabelled}
-use Rattle.ob0_tree.specs.Order.{identifier_at, identifiers_from, leaves, names_only}
-use Rattle.ob0_tree.specs.Parsed.{tree_of}
+use Rattle.ob0_tree.specs.Lexeme.{EndOfText, Terminal, Mark, Name, Number, mapped_terminal}
+use Rattle.ob0_tree.specs.Order.{identifier_index, identifier_indexes_from, leaves, names_without_roles}
+use Rattle.ob0_tree.specs.ParsedModule.{tree_of}
 use Rattle.ob0_tree.specs.Places.{text_at, value_at}
 use Rattle.ob0_tree.specs.Tree.{Sort, Tree, identifiers, mapped, spell}
 use Rattle.ob0_tree.specs.declared.tree.Role.{Role}
 use Rattle.ob0_tree.specs.declared.tree.Role.TheVariants as role
 use Rattle.ob0_tree.proofs.MappedIdentifiers.{leaves_mapped}
-use Rattle.ob0_language_names.specs.Names.{Label, as_names, declared, same_label}
+use Rattle.ob0_language_names.specs.Names.{Label, naming_by_spelling, declared, same_label}
 use Rattle.ob0_language_names.specs.Occurrences.{label_ordinal}
 use Rattle.ob0_scope_table.specs.Resolution.{IsResolution, Resolution, label_at, ordinal_in, span_at}
-use Rattle.ob0_scope_table.specs.Spans.{span_in}
-use Rattle.ob0_language_names.specs.Scopes.{as_label, same_ordinal}
+use Rattle.ob0_scope_table.specs.Spans.{span_or_empty}
+use Rattle.ob0_language_names.specs.Scopes.{label_from_ordinal, same_ordinal}
 use Rattle.ob0_scope.specs.declared.naming.Named as named
-use Rattle.ob0_scope.specs.Listing.{is_identifier, is_name_on}
+use Rattle.ob0_scope.specs.Listing.{is_identifier, is_identifier_on}
 use Rattle.ob0_scope_table.specs.Spans.{is_on}
-use Rattle.ob0_scope.specs.NamesAtPlaces.{BoundIdentifier, is_declaring, name_on, named_by, refers, bound_identifiers, tokens_bound}
+use Rattle.ob0_scope.specs.NamesAtPlaces.{BoundIdentifier, is_declaring, name_on, bound_name_of, is_bound_to, bound_identifiers, tokens_bound_to}
 
 -- returns an identifier with the label of its token
 abbrev bound_by : (ℕ → Label) → Role × ℕ → BoundIdentifier
 bound_by label x = (x, label x.1)
 
-zipped : (label : ℕ → Label) (xs : List (Role × ℕ)) → zip xs (map label (names_only xs)) ≡ map (bound_by label) xs
+zipped : (label : ℕ → Label) (xs : List (Role × ℕ)) → zip xs (map label (names_without_roles xs)) ≡ map (bound_by label) xs
 zipped label [] = refl
 zipped label (x ∷ xs) = λ i. bound_by label x ∷ zipped label xs i
 
@@ -44,10 +44,10 @@ bound_by_table r is =
 
 -- references
 
-bound_to : (source : Scanned) (ordinals : List (Option ℕ)) (d i : ℕ) → same_label (label_at source ordinals i) (declared d) ≡ same_ordinal (ordinal_in ordinals i) d
+bound_to : (source : TextWithTokens) (ordinals : List (Option ℕ)) (d i : ℕ) → same_label (label_at source ordinals i) (declared d) ≡ same_ordinal (ordinal_in ordinals i) d
 bound_to source ordinals d i = one (ordinal_in ordinals i)
   where
-    one : (o : Option ℕ) → same_label (as_label as_names o (text_at source i)) (declared d) ≡ same_ordinal o d
+    one : (o : Option ℕ) → same_label (label_from_ordinal naming_by_spelling o (text_at source i)) (declared d) ≡ same_ordinal o d
     one None = refl
     one (Some k) = refl
 
@@ -60,11 +60,11 @@ abbrev pub tokens_listed : List (Option ℕ) → Bool → ℕ → List (Role × 
 tokens_listed ordinals include d xs = map (λ x. x.1) (filter (is_listed ordinals include d) xs)
 
 -- Filtering the identifiers and filtering the labelled identifiers give the same tokens.
-listed : (source : Scanned) (ordinals : List (Option ℕ)) (include : Bool) (d : ℕ) (xs : List (Role × ℕ))
-    → tokens_listed ordinals include d xs ≡ map (λ (s : BoundIdentifier). s.0.1) (filter (refers include d) (map (bound_by (label_at source ordinals)) xs))
+listed : (source : TextWithTokens) (ordinals : List (Option ℕ)) (include : Bool) (d : ℕ) (xs : List (Role × ℕ))
+    → tokens_listed ordinals include d xs ≡ map (λ (s : BoundIdentifier). s.0.1) (filter (is_bound_to include d) (map (bound_by (label_at source ordinals)) xs))
 listed source ordinals include d [] = refl
 listed source ordinals include d (x ∷ xs) =
-    let found = filter (refers include d) (map (bound_by (label_at source ordinals)) xs) in
+    let found = filter (is_bound_to include d) (map (bound_by (label_at source ordinals)) xs) in
     one (is_listed ordinals include d x) (filter (is_listed ordinals include d) xs) found (listed source ordinals include d xs)
     ∙ ap (λ b. map (λ (s : BoundIdentifier). s.0.1) (cond (b && (include || not (is_declaring x.0))) (bound_by (label_at source ordinals) x ∷ found) found)) (sym (bound_to source ordinals d x.1))
   where
@@ -74,11 +74,11 @@ listed source ordinals include d (x ∷ xs) =
     one false later found e = e
 
 pub bound_listed : (r : Resolution) (d : ℕ) (include : Bool) → IsResolution r
-    → tokens_listed r.ordinals include d (identifiers role.Declaring (tree_of r.module_read)) ≡ tokens_bound r.module_read d include
+    → tokens_listed r.ordinals include d (identifiers role.Declaring (tree_of r.module_read)) ≡ tokens_bound_to r.module_read d include
 bound_listed r d include is =
     let m = r.module_read in
     listed m.source r.ordinals include d (identifiers role.Declaring (tree_of m))
-    ∙ ap (λ xs. map (λ (s : BoundIdentifier). s.0.1) (filter (refers include d) xs)) (sym (bound_by_table r is))
+    ∙ ap (λ xs. map (λ (s : BoundIdentifier). s.0.1) (filter (is_bound_to include d) xs)) (sym (bound_by_table r is))
 
 -- places
 
@@ -91,26 +91,26 @@ got : (front : List Token) (t : Token) (ts : List Token) → slice_get (front ++
 got [] t ts = refl
 got (x ∷ front) t ts = got front t ts
 
-all_spans : (front ts : List Token) → SpansAre (λ i. span_in (slice_get (front ++ ts) i)) (length front) ts
+all_spans : (front ts : List Token) → SpansAre (λ i. span_or_empty (slice_get (front ++ ts) i)) (length front) ts
 all_spans front [] = tt
 all_spans front (t ∷ ts) =
     let longer : front ++ (t ∷ ts) ≡ (front ++ (t ∷ [])) ++ ts = sym (append_assoc front (t ∷ []) ts) in
     let count : length (front ++ (t ∷ [])) ≡ length front + 1 = omega (arith, length-append front (t ∷ [])) in (
-      ap span_in (got front t ts),
-      subst (λ n. SpansAre (λ i. span_in (slice_get (front ++ (t ∷ ts)) i)) n ts) count
-          (subst (λ (all : List Token). SpansAre (λ i. span_in (slice_get all i)) (length (front ++ (t ∷ []))) ts) (sym longer) (all_spans (front ++ (t ∷ [])) ts)),
+      ap span_or_empty (got front t ts),
+      subst (λ n. SpansAre (λ i. span_or_empty (slice_get (front ++ (t ∷ ts)) i)) n ts) count
+          (subst (λ (all : List Token). SpansAre (λ i. span_or_empty (slice_get all i)) (length (front ++ (t ∷ []))) ts) (sym longer) (all_spans (front ++ (t ∷ [])) ts)),
     )
 
-identifier_first : (i : ℕ) (k : TokenKind) → identifier_at i k ≡ cond (is_identifier k) (i ∷ []) []
+identifier_first : (i : ℕ) (k : TokenKind) → identifier_index i k ≡ cond (is_identifier k) (i ∷ []) []
 identifier_first i kind.Identifier = refl
-identifier_first i (kind.Reserved word) = refl
+identifier_first i (kind.ReservedWord word) = refl
 identifier_first i (kind.Integer value) = refl
 identifier_first i (kind.Symbol symbol) = refl
 
-found_from : (offset : ℕ) (span : ℕ → Span) (i : ℕ) (ts : List Token) → SpansAre span i ts → find (λ i. is_on offset (span i)) (identifiers_from i ts) ≡ position_from (is_name_on offset) i ts
+found_from : (offset : ℕ) (span : ℕ → Span) (i : ℕ) (ts : List Token) → SpansAre span i ts → find (λ i. is_on offset (span i)) (identifier_indexes_from i ts) ≡ position_from (is_identifier_on offset) i ts
 found_from offset span i [] h = refl
 found_from offset span i (t ∷ ts) h =
-    let later = identifiers_from (i + 1) ts in
+    let later = identifier_indexes_from (i + 1) ts in
     ap (λ z. find (λ i. is_on offset (span i)) (z ++ later)) (identifier_first i t.kind)
     ∙ (one (is_identifier t.kind) later ∙ (λ j. cond (is_identifier t.kind && is_on offset (h.0 j)) (Some i) (found_from offset span (i + 1) ts h.1 j)))
   where
@@ -122,29 +122,29 @@ found_from offset span i (t ∷ ts) h =
 abbrev pub named_so : List (Option ℕ) → ℕ → Option named.Named
 named_so ordinals i = option_map {U = named.Named} (λ ordinal. record { token = i; ordinal = ordinal }) (ordinal_in ordinals i)
 
-label_back : (source : Scanned) (ordinals : List (Option ℕ)) (x : Role × ℕ) → named_by (bound_by (label_at source ordinals) x) ≡ named_so ordinals x.1
+label_back : (source : TextWithTokens) (ordinals : List (Option ℕ)) (x : Role × ℕ) → bound_name_of (bound_by (label_at source ordinals) x) ≡ named_so ordinals x.1
 label_back source ordinals x = one (ordinal_in ordinals x.1)
   where
-    one : (o : Option ℕ) → option_map {U = named.Named} (λ ordinal. record { token = x.1; ordinal = ordinal }) (label_ordinal (as_label as_names o (text_at source x.1))) ≡ option_map {U = named.Named} (λ ordinal. record { token = x.1; ordinal = ordinal }) o
+    one : (o : Option ℕ) → option_map {U = named.Named} (λ ordinal. record { token = x.1; ordinal = ordinal }) (label_ordinal (label_from_ordinal naming_by_spelling o (text_at source x.1))) ≡ option_map {U = named.Named} (λ ordinal. record { token = x.1; ordinal = ordinal }) o
     one None = refl
     one (Some k) = refl
 
-found_named : (source : Scanned) (ordinals : List (Option ℕ)) (offset : ℕ) (xs : List (Role × ℕ))
-    → option_and_then named_by (find (λ (s : BoundIdentifier). is_on offset (span_at source s.0.1)) (map (bound_by (label_at source ordinals)) xs))
-    ≡ option_and_then (named_so ordinals) (find (λ i. is_on offset (span_at source i)) (names_only xs))
+found_named : (source : TextWithTokens) (ordinals : List (Option ℕ)) (offset : ℕ) (xs : List (Role × ℕ))
+    → option_and_then bound_name_of (find (λ (s : BoundIdentifier). is_on offset (span_at source s.0.1)) (map (bound_by (label_at source ordinals)) xs))
+    ≡ option_and_then (named_so ordinals) (find (λ i. is_on offset (span_at source i)) (names_without_roles xs))
 found_named source ordinals offset [] = refl
 found_named source ordinals offset (x ∷ xs) = one (is_on offset (span_at source x.1)) _ _ (found_named source ordinals offset xs)
   where
-    one : (b : Bool) (found : Option BoundIdentifier) (later : Option ℕ) → option_and_then named_by found ≡ option_and_then (named_so ordinals) later
-        → option_and_then named_by (cond b (Some (bound_by (label_at source ordinals) x)) found) ≡ option_and_then (named_so ordinals) (cond b (Some x.1) later)
+    one : (b : Bool) (found : Option BoundIdentifier) (later : Option ℕ) → option_and_then bound_name_of found ≡ option_and_then (named_so ordinals) later
+        → option_and_then bound_name_of (cond b (Some (bound_by (label_at source ordinals) x)) found) ≡ option_and_then (named_so ordinals) (cond b (Some x.1) later)
     one true found later e = label_back source ordinals x
     one false found later e = e
 
 -- The name at a place is the name at the token of the first identifier there.
-pub name_found : (r : Resolution) (offset : ℕ) → IsResolution r → option_and_then (named_so r.ordinals) (position_from (is_name_on offset) 0 r.module_read.source.tokens) ≡ name_on r.module_read offset
+pub name_found : (r : Resolution) (offset : ℕ) → IsResolution r → option_and_then (named_so r.ordinals) (position_from (is_identifier_on offset) 0 r.module_read.source.tokens) ≡ name_on r.module_read offset
 name_found r offset is =
     let m = r.module_read in
     let spans = all_spans [] m.source.tokens in
-    sym (ap (λ xs. option_and_then named_by (find (λ (s : BoundIdentifier). is_on offset (span_at m.source s.0.1)) xs)) (bound_by_table r is)
+    sym (ap (λ xs. option_and_then bound_name_of (find (λ (s : BoundIdentifier). is_on offset (span_at m.source s.0.1)) xs)) (bound_by_table r is)
     ∙ (found_named m.source r.ordinals offset (identifiers role.Declaring (tree_of m))
     ∙ ap (option_and_then (named_so r.ordinals)) (ap (find (λ i. is_on offset (span_at m.source i))) (leaves_parsed m is.parsed) ∙ found_from offset (span_at m.source) 0 m.source.tokens spans)))

@@ -2,18 +2,18 @@
 -- before.
 use Rattle.std.proofs.Common.{◌≡◌, ◌==◌, ◌||◌, ℕ, Bool, true, false, Option, None, List, [], ◌∷◌, refl, sym, ap, ◌∙◌, eqb-true}
 use Rattle.std.specs.List.{list_any}
-use Rattle.ob0_scan.specs.Scanned.{Scanned}
+use Rattle.ob0_scan.specs.TextWithTokens.{TextWithTokens}
 use Rattle.ob0_tree.specs.Order.{leaves}
-use Rattle.ob0_tree.specs.Parsed.{Parsed, tree_of}
-use Rattle.ob0_language_names.specs.Names.{as_names}
-use Rattle.ob0_language_names.specs.Scopes.{as_label}
-use Rattle.ob0_scope_table.specs.Bindings.{resolution_by}
-use Rattle.ob0_scope_table.specs.OneBody.{IsBodyChange, is_out}
+use Rattle.ob0_tree.specs.ParsedModule.{ParsedModule, tree_of}
+use Rattle.ob0_language_names.specs.Names.{naming_by_spelling}
+use Rattle.ob0_language_names.specs.Scopes.{label_from_ordinal}
+use Rattle.ob0_scope_table.specs.Bindings.{resolution_with}
+use Rattle.ob0_scope_table.specs.OneBody.{IsBodyChange, is_outside}
 use Rattle.ob0_scope_table.specs.Resolution.{IsResolution, ordinal_in}
 use Rattle.ob0_scope_table.specs.declared.resolved.Bindings.{Bindings}
-use Rattle.ob0_scope_numbering.specs.Marking.{started, visit_module}
+use Rattle.ob0_scope_numbering.specs.MarkWalk.{initial_walk, visit_module}
 use Rattle.ob0_scope_numbering.specs.Marks.{OrdinalMark}
-use Rattle.ob0_scope_numbering.specs.Written.{as_in}
+use Rattle.ob0_scope_numbering.specs.Written.{original_spellings}
 use Rattle.ob0_scope_numbering.proofs.Alongside.{Alike}
 use Rattle.ob0_scope_numbering.proofs.BodyTables.{body_alike}
 use Rattle.ob0_scope_numbering.proofs.Passing.{HasMarks, at_start, module_passed, tokens_of}
@@ -32,15 +32,15 @@ same_at out f g (o ∷ os) (m ∷ ms) h k alike i e there = one (same_at out f g
         ap g (sym is) ∙ (k.0 ∙ (sym (alike.1.0 passes) ∙ (sym h.0 ∙ ap f (alike.0 ∙ is))))
     one later false here at = later at
 
-pub ordinals_outside : (old : Scanned) (m : Parsed) (low high : ℕ) (b c : Bindings) → IsBodyChange old m low high → IsResolution (resolution_by (record m { source = old }) b) → IsResolution (resolution_by m c)
-    → (i : ℕ) → is_out low high i ≡ true → ordinal_in c.ordinals.items i ≡ ordinal_in b.ordinals.items i
+pub ordinals_outside : (old : TextWithTokens) (m : ParsedModule) (low high : ℕ) (b c : Bindings) → IsBodyChange old m low high → IsResolution (resolution_with (record m { source = old }) b) → IsResolution (resolution_with m c)
+    → (i : ℕ) → is_outside low high i ≡ true → ordinal_in c.ordinals.items i ≡ ordinal_in b.ordinals.items i
 ordinals_outside old m low high b c change was is i e = one (list_any (λ j. j == i) (leaves (tree_of m))) refl
   where
     one : (found : Bool) → list_any (λ j. j == i) (leaves (tree_of m)) ≡ found → ordinal_in c.ordinals.items i ≡ ordinal_in b.ordinals.items i
     one true there =
-        let w = as_in m.source in
-        let passed = module_passed (λ k. None) (as_label as_names) w (tree_of m) (started w) (at_start w) in
-        same_at (is_out low high) (ordinal_in b.ordinals.items) (ordinal_in c.ordinals.items) (visit_module (tree_of m) (started (as_in old))).marks (visit_module (tree_of m) (started w)).marks
-        (marks_resolved (resolution_by (record m { source = old }) b) was) (marks_resolved (resolution_by m c) is) (body_alike old m low high is.parsed change) i e
+        let w = original_spellings m.source in
+        let passed = module_passed (λ k. None) (label_from_ordinal naming_by_spelling) w (tree_of m) (initial_walk w) (at_start w) in
+        same_at (is_outside low high) (ordinal_in b.ordinals.items) (ordinal_in c.ordinals.items) (visit_module (tree_of m) (initial_walk (original_spellings old))).marks (visit_module (tree_of m) (initial_walk w)).marks
+        (marks_resolved (resolution_with (record m { source = old }) b) was) (marks_resolved (resolution_with m c) is) (body_alike old m low high is.parsed change) i e
         (ap (list_any (λ j. j == i)) passed.tokens ∙ there)
     one false absent = is.names_alone i absent ∙ sym (was.names_alone i absent)

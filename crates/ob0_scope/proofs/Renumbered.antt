@@ -2,20 +2,20 @@
 -- renamed module.
 use Rattle.std.proofs.Common.{◌≡◌, ℕ, suc, ◌+◌, Bool, true, false, not, cond, if◌then◌else◌, Option, Some, None, List, [], ◌∷◌, map, length, replicate, refl, sym, ap, ◌∙◌, option_map, arith}
 use Rattle.std.specs.List.{position_from}
-use Rattle.ob0_tree.specs.Parsed.{named_tree_of, tree_of}
+use Rattle.ob0_tree.specs.ParsedModule.{named_tree_of, tree_of}
 use Rattle.ob0_tree.specs.Places.{text_at, value_at}
 use Rattle.ob0_tree.specs.Tree.{mapped, occurrences}
-use Rattle.ob0_language_names.specs.Names.{Label, Name, as_names, as_written}
+use Rattle.ob0_language_names.specs.Names.{Label, Name, naming_by_spelling, as_written}
 use Rattle.ob0_language_names.specs.Occurrences.{bindings, first_difference, label_ordinal, same_binding}
-use Rattle.ob0_scope.specs.Renames.{IsRenumbering, is_bound_alike, renamed_in}
-use Rattle.ob0_scope_table.specs.Resolution.{IsResolution, Resolution, bound_at, label_at, ordinal_in, with_ordinal}
-use Rattle.ob0_language_names.specs.Scopes.{as_label, numbered, renamed, same_ordinal}
+use Rattle.ob0_scope.specs.Renames.{IsRenumbering, have_same_binding, renamed_writing}
+use Rattle.ob0_scope_table.specs.Resolution.{IsResolution, Resolution, binding_at, label_at, ordinal_in, ordinal_and_spelling}
+use Rattle.ob0_language_names.specs.Scopes.{label_from_ordinal, numbered, renamed, same_ordinal}
 use Rattle.ob0_scope_numbering.specs.Marks.{with_marks}
-use Rattle.ob0_scope_numbering.specs.Marking.{Visit, started, visit_module}
-use Rattle.ob0_scope_numbering.specs.Written.{name_at, spelled_by}
+use Rattle.ob0_scope_numbering.specs.MarkWalk.{WalkState, initial_walk, visit_module}
+use Rattle.ob0_scope_numbering.specs.Written.{spelling_at, spelled_tree}
 use Rattle.ob0_scope_table.proofs.Bound.{bindings_by_table}
 use Rattle.ob0_scope.proofs.FirstCaptures.{same_binding-refl}
-use Rattle.ob0_scope.proofs.Fused.{mapped-mapped, relabelled-mapped}
+use Rattle.ob0_scope.proofs.Fused.{mapped-mapped, relabel_module-mapped}
 use Rattle.ob0_language_names.proofs.OccurrencesMapped.{occurrences-mapped}
 use Rattle.ob0_scope_numbering.proofs.Passing.{at_start, module_passed}
 use Rattle.ob0_scope_numbering.proofs.Tables.{marks_in_table}
@@ -24,33 +24,33 @@ abbrev new_or : ℕ → Name → Option ℕ × Name → Name
 new_or d new p = if same_ordinal p.0 d then new else p.1
 
 -- The renamed module is the tree with its names as they are spelled.
-pub renamed_spelled : (r : Resolution) (d : ℕ) (new : Name) → IsResolution r → renamed (named_tree_of r.module_read) d new ≡ spelled_by (renamed_in r d new) (tree_of r.module_read)
+pub renamed_spelled : (r : Resolution) (d : ℕ) (new : Name) → IsResolution r → renamed (named_tree_of r.module_read) d new ≡ spelled_tree (renamed_writing r d new) (tree_of r.module_read)
 renamed_spelled r d new is =
     let m = r.module_read in
-    relabelled-mapped as_names (new_or d new) with_ordinal (named_tree_of m)
-    ∙ (ap (mapped (new_or d new) (λ n. n)) is.binding ∙ mapped-mapped (new_or d new) (bound_at m.source r.ordinals) (value_at m.source) (tree_of m))
+    relabel_module-mapped naming_by_spelling (new_or d new) ordinal_and_spelling (named_tree_of m)
+    ∙ (ap (mapped (new_or d new) (λ n. n)) is.binding ∙ mapped-mapped (new_or d new) (binding_at m.source r.ordinals) (value_at m.source) (tree_of m))
 
-pub renumbered : (r : Resolution) (d : ℕ) (new : Name) (v : Visit) (ordinals : List (Option ℕ)) → IsResolution r → v ≡ visit_module (tree_of r.module_read) (started (renamed_in r d new))
+pub renumbered : (r : Resolution) (d : ℕ) (new : Name) (v : WalkState) (ordinals : List (Option ℕ)) → IsResolution r → v ≡ visit_module (tree_of r.module_read) (initial_walk (renamed_writing r d new))
     → ordinals ≡ with_marks (replicate (length r.module_read.source.tokens) None) v.marks → IsRenumbering r d new ordinals
 renumbered r d new v ordinals is gone tabled =
     let m = r.module_read in
-    let w = renamed_in r d new in
-    let passed = module_passed (ordinal_in ordinals) (as_label as_names) w (tree_of m) (started w) (at_start w) in
+    let w = renamed_writing r d new in
+    let passed = module_passed (ordinal_in ordinals) (label_from_ordinal naming_by_spelling) w (tree_of m) (initial_walk w) (at_start w) in
     ap numbered (renamed_spelled r d new is) ∙ (passed.agree (marks_in_table m w v ordinals is.parsed gone tabled)).1
 
 -- The bindings of the renamed module are the table's labels at the occurrences.
 renamed_bindings : (r : Resolution) (d : ℕ) (new : Name) (ordinals : List (Option ℕ)) → IsResolution r → IsRenumbering r d new ordinals
-    → bindings (renamed (named_tree_of r.module_read) d new) ≡ map (λ i. as_label as_names (ordinal_in ordinals i) (name_at (renamed_in r d new) i)) r.uses
+    → bindings (renamed (named_tree_of r.module_read) d new) ≡ map (λ i. label_from_ordinal naming_by_spelling (ordinal_in ordinals i) (spelling_at (renamed_writing r d new) i)) r.uses
 renamed_bindings r d new ordinals is numbering =
     let m = r.module_read in
-    let label : ℕ → Label = λ i. as_label as_names (ordinal_in ordinals i) (name_at (renamed_in r d new) i) in
+    let label : ℕ → Label = λ i. label_from_ordinal naming_by_spelling (ordinal_in ordinals i) (spelling_at (renamed_writing r d new) i) in
     ap occurrences numbering ∙ (occurrences-mapped label (value_at m.source) (tree_of m) ∙ ap (map label) (sym is.occurring))
 
-pub ordinals_back : (written : ℕ → Name) (ordinals : List (Option ℕ)) (is : List ℕ) → map label_ordinal (map (λ i. as_label as_names (ordinal_in ordinals i) (written i)) is) ≡ map (ordinal_in ordinals) is
+pub ordinals_back : (written : ℕ → Name) (ordinals : List (Option ℕ)) (is : List ℕ) → map label_ordinal (map (λ i. label_from_ordinal naming_by_spelling (ordinal_in ordinals i) (written i)) is) ≡ map (ordinal_in ordinals) is
 ordinals_back written ordinals [] = refl
 ordinals_back written ordinals (i ∷ is) = λ j. back (ordinal_in ordinals i) (written i) j ∷ ordinals_back written ordinals is j
   where
-    back : (o : Option ℕ) (x : Name) → label_ordinal (as_label as_names o x) ≡ o
+    back : (o : Option ℕ) (x : Name) → label_ordinal (label_from_ordinal naming_by_spelling o x) ≡ o
     back None x = refl
     back (Some k) x = refl
 
@@ -58,9 +58,9 @@ ordinals_back written ordinals (i ∷ is) = λ j. back (ordinal_in ordinals i) (
 pub ordinals_renamed : (r : Resolution) (d : ℕ) (new : Name) (ordinals : List (Option ℕ)) → IsResolution r → IsRenumbering r d new ordinals
     → map (ordinal_in ordinals) r.uses ≡ map label_ordinal (bindings (renamed (named_tree_of r.module_read) d new))
 ordinals_renamed r d new ordinals is numbering =
-    sym (ap (map label_ordinal) (renamed_bindings r d new ordinals is numbering) ∙ ordinals_back (name_at (renamed_in r d new)) ordinals r.uses)
+    sym (ap (map label_ordinal) (renamed_bindings r d new ordinals is numbering) ∙ ordinals_back (spelling_at (renamed_writing r d new)) ordinals r.uses)
 
-alike : (d : ℕ) (new x : Name) (o old : Option ℕ) → same_binding (as_label as_names o (if same_ordinal old d then new else x)) (as_label as_names old x) ≡ is_bound_alike o old
+alike : (d : ℕ) (new x : Name) (o old : Option ℕ) → same_binding (label_from_ordinal naming_by_spelling o (if same_ordinal old d then new else x)) (label_from_ordinal naming_by_spelling old x) ≡ have_same_binding o old
 alike d new x None None = same_binding-refl (as_written x)
 alike d new x None (Some k) = refl
 alike d new x (Some j) None = refl
@@ -79,12 +79,12 @@ onward-zero None = refl
 onward-zero (Some n) = ap Some (omega arith)
 
 first_by_index : (d : ℕ) (new : Name) (text : ℕ → Name) (ordinals old : List (Option ℕ)) (k : ℕ) (is : List ℕ)
-    → position_from (λ i. not (is_bound_alike (ordinal_in ordinals i) (ordinal_in old i))) k is
-    ≡ onward k (first_difference (map (λ i. as_label as_names (ordinal_in ordinals i) (if same_ordinal (ordinal_in old i) d then new else text i)) is) (map (λ i. as_label as_names (ordinal_in old i) (text i)) is))
+    → position_from (λ i. not (have_same_binding (ordinal_in ordinals i) (ordinal_in old i))) k is
+    ≡ onward k (first_difference (map (λ i. label_from_ordinal naming_by_spelling (ordinal_in ordinals i) (if same_ordinal (ordinal_in old i) d then new else text i)) is) (map (λ i. label_from_ordinal naming_by_spelling (ordinal_in old i) (text i)) is))
 first_by_index d new text ordinals old k [] = refl
 first_by_index d new text ordinals old k (i ∷ is) =
-    let rest = first_difference (map (λ i. as_label as_names (ordinal_in ordinals i) (if same_ordinal (ordinal_in old i) d then new else text i)) is) (map (λ i. as_label as_names (ordinal_in old i) (text i)) is) in
-    one (is_bound_alike (ordinal_in ordinals i) (ordinal_in old i)) rest (first_by_index d new text ordinals old (k + 1) is)
+    let rest = first_difference (map (λ i. label_from_ordinal naming_by_spelling (ordinal_in ordinals i) (if same_ordinal (ordinal_in old i) d then new else text i)) is) (map (λ i. label_from_ordinal naming_by_spelling (ordinal_in old i) (text i)) is) in
+    one (have_same_binding (ordinal_in ordinals i) (ordinal_in old i)) rest (first_by_index d new text ordinals old (k + 1) is)
     ∙ ap (λ b. onward k (if b then option_map suc rest else Some 0)) (sym (alike d new (text i) (ordinal_in ordinals i) (ordinal_in old i)))
   where
     one : (b : Bool) (rest : Option ℕ) {found : Option ℕ} → found ≡ onward (k + 1) rest → cond (not b) (Some k) found ≡ onward k (if b then option_map suc rest else Some 0)
@@ -92,7 +92,7 @@ first_by_index d new text ordinals old k (i ∷ is) =
     one false rest e = ap Some (omega arith)
 
 pub first_changed_is : (r : Resolution) (d : ℕ) (new : Name) (ordinals : List (Option ℕ)) → IsResolution r → IsRenumbering r d new ordinals
-    → position_from (λ i. not (is_bound_alike (ordinal_in ordinals i) (ordinal_in r.ordinals i))) 0 r.uses ≡ first_difference (bindings (renamed (named_tree_of r.module_read) d new)) (bindings (named_tree_of r.module_read))
+    → position_from (λ i. not (have_same_binding (ordinal_in ordinals i) (ordinal_in r.ordinals i))) 0 r.uses ≡ first_difference (bindings (renamed (named_tree_of r.module_read) d new)) (bindings (named_tree_of r.module_read))
 first_changed_is r d new ordinals is numbering =
     let m = r.module_read in
     let here = bindings_by_table m r.ordinals is.numbering ∙ ap (map (label_at m.source r.ordinals)) (sym is.occurring) in

@@ -8,30 +8,30 @@ use Rattle.ob0_scan.specs.declared.fault.Fault.{Fault}
 use Rattle.ob0_scan.specs.declared.lexeme.Token.{Token}
 use Rattle.ob0_scan.specs.declared.lexeme.TokenKind.{TokenKind}
 use Rattle.ob0_scan.specs.declared.lexeme.TokenKind.TheVariants as kind
-use Rattle.ob0_scan.specs.Reused.{kinds, name_of, names_in, valueless}
-use Rattle.ob0_scan.specs.Scanned.{Scanned, Word, read_in, spanned}
+use Rattle.ob0_scan.specs.Reused.{kinds, name_or_empty, names_in, kind_without_value}
+use Rattle.ob0_scan.specs.TextWithTokens.{TextWithTokens, Word, word_of_token, text_in_span}
 use Rattle.ob0_tree.specs.declared.tree.ModuleTree.{ModuleTree}
 use Rattle.ob0_tree.specs.declared.tree.Role.{Role}
 use Rattle.ob0_tree.specs.declared.tree.Role.TheVariants as role
-use Rattle.ob0_tree.specs.Order.{AreIdentifiers, names_only}
-use Rattle.ob0_tree.specs.Parsed.{Parsed, named_tree_of, parsed_by, tree_of}
-use Rattle.ob0_tree.specs.Places.{text_at, text_in, value_at}
+use Rattle.ob0_tree.specs.Order.{AreIdentifierTokens, names_without_roles}
+use Rattle.ob0_tree.specs.ParsedModule.{ParsedModule, named_tree_of, parsed_module, tree_of}
+use Rattle.ob0_tree.specs.Places.{text_at, token_text_or_empty, value_at}
 use Rattle.ob0_tree.specs.Tree.{Tree, identifiers, mapped, module_text, occurrences}
 use Rattle.ob0_tree.proofs.Leaves.{leaves_are_identifiers}
 use Rattle.std.proofs.lemmas.Simd.{map-map}
-use Rattle.ob0_scope_table.specs.Bindings.{resolution_by}
+use Rattle.ob0_scope_table.specs.Bindings.{resolution_with}
 use Rattle.ob0_scope_table.specs.FaultTokens.{AreWrittenAlike, moved_faults}
 use Rattle.ob0_scope_table.proofs.FaultTokens.{names_same}
 use Rattle.ob0_scope_table.proofs.TokenOrder.{faults_move}
 use Rattle.ob0_language_names.specs.DeclaredOnce.{declared_once}
-use Rattle.ob0_scope_table.specs.DeclaredTwice.{twice_in}
-use Rattle.ob0_language_names.specs.Names.{Name, as_names}
-use Rattle.ob0_scope_table.specs.Resolution.{AreFaultsOf, IsBinding, IsNumbering, IsResolution, NamesAlone, is_of_declarations, is_of_occurrences, ordinal_in, unbound_in, undeclared_at, with_ordinal}
-use Rattle.ob0_language_names.specs.Scopes.{Labels, as_label, relabelled}
+use Rattle.ob0_scope_table.specs.DeclaredTwice.{declaration_faults}
+use Rattle.ob0_language_names.specs.Names.{Name, naming_by_spelling}
+use Rattle.ob0_scope_table.specs.Resolution.{AreFaultsOf, IsBindingTable, IsNumberingTable, IsResolution, OnlyNamesHaveOrdinals, is_declaration_fault, is_undeclared_fault, ordinal_in, undeclared_faults, undeclared_faults_by_table, ordinal_and_spelling}
+use Rattle.ob0_language_names.specs.Scopes.{Labelling, label_from_ordinal, relabel_module}
 use Rattle.ob0_scope_table.specs.declared.resolved.Bindings.{Bindings}
-use Rattle.ob0_scope_numbering.specs.Marking.{started}
-use Rattle.ob0_scope.specs.Respelled.{AreMoved, AreNamedAlike, BindingsKeepTokens, BindingsStay}
-use Rattle.ob0_scope_numbering.specs.Written.{as_in}
+use Rattle.ob0_scope_numbering.specs.MarkWalk.{initial_walk}
+use Rattle.ob0_scope.specs.Respelled.{AreMoved, AreNamedAlike, BindingsMoveWithTokens, BindingsDependOnNames}
+use Rattle.ob0_scope_numbering.specs.Written.{original_spellings}
 use Rattle.ob0_scope.proofs.Alike.{AllAlike, alike}
 use Rattle.ob0_scope.proofs.Made.{faults_reported, undeclared_unbound}
 use Rattle.ob0_scope_numbering.proofs.Passing.{at_start, module_passed_with}
@@ -40,24 +40,24 @@ use Rattle.ob0_scope.proofs.TwiceOnce.{once_with, twice_alone, twice_where}
 
 -- ---- identifiers have the same spellings
 
-is_identifier : (k : TokenKind) → valueless k ≡ kind.Identifier → k ≡ kind.Identifier
+is_identifier : (k : TokenKind) → kind_without_value k ≡ kind.Identifier → k ≡ kind.Identifier
 is_identifier kind.Identifier e = refl
 is_identifier (kind.Integer value) e = absurd (cc)
-is_identifier (kind.Reserved word) e = absurd (cc)
+is_identifier (kind.ReservedWord word) e = absurd (cc)
 is_identifier (kind.Symbol symbol) e = absurd (cc)
 
-same_text : (u t : Token) (x y : List ℕ) → valueless u.kind ≡ valueless t.kind → t.kind ≡ kind.Identifier → name_of u.kind x ≡ name_of t.kind y → x ≡ y
+same_text : (u t : Token) (x y : List ℕ) → kind_without_value u.kind ≡ kind_without_value t.kind → t.kind ≡ kind.Identifier → name_or_empty u.kind x ≡ name_or_empty t.kind y → x ≡ y
 same_text u t x y k e n =
-    let other : u.kind ≡ kind.Identifier = is_identifier u.kind (k ∙ ap valueless e) in
-    sym (ap (λ z. name_of z x) other) ∙ (n ∙ ap (λ z. name_of z y) e)
+    let other : u.kind ≡ kind.Identifier = is_identifier u.kind (k ∙ ap kind_without_value e) in
+    sym (ap (λ z. name_or_empty z x) other) ∙ (n ∙ ap (λ z. name_or_empty z y) e)
 
-texts : (a b : List ℕ) (ts us : List Token) (i : ℕ) → kinds us ≡ kinds ts → names_in b us ≡ names_in a ts → i < length ts → HoldsAt (λ (t : Token). t.kind ≡ kind.Identifier) ts i → text_in b (slice_get us i) ≡ text_in a (slice_get ts i)
+texts : (a b : List ℕ) (ts us : List Token) (i : ℕ) → kinds us ≡ kinds ts → names_in b us ≡ names_in a ts → i < length ts → HoldsAt (λ (t : Token). t.kind ≡ kind.Identifier) ts i → token_text_or_empty b (slice_get us i) ≡ token_text_or_empty a (slice_get ts i)
 texts a b [] us i k n less h = absurd (omega (arith, less))
 texts a b (t ∷ ts) [] i k n less h = absurd (omega (arith, ap length k))
-texts a b (t ∷ ts) (u ∷ us) zero k n less h = same_text u t (spanned b u.span) (spanned a t.span) (ap (λ l. get_or l 0 kind.Identifier) k) (h t) (ap (λ l. get_or l 0 []) n)
+texts a b (t ∷ ts) (u ∷ us) zero k n less h = same_text u t (text_in_span b u.span) (text_in_span a t.span) (ap (λ l. get_or l 0 kind.Identifier) k) (h t) (ap (λ l. get_or l 0 []) n)
 texts a b (t ∷ ts) (u ∷ us) (suc i) k n less h = texts a b ts us i (ap (drop 1) k) (ap (drop 1) n) (omega (arith, less)) h
 
-all_texts : (old new : Scanned) → AreNamedAlike old new → (g : ℕ → ℕ) (xs : List (Role × ℕ)) → AreIdentifiers old.tokens (names_only xs) → AllAlike (text_at new) (text_at old) g xs
+all_texts : (old new : TextWithTokens) → AreNamedAlike old new → (g : ℕ → ℕ) (xs : List (Role × ℕ)) → AreIdentifierTokens old.tokens (names_without_roles xs) → AllAlike (text_at new) (text_at old) g xs
 all_texts old new w g [] h = tt
 all_texts old new w g (x ∷ xs) h = (texts old.text new.text old.tokens new.tokens x.1 w.same_kinds w.same_names h.0.0 h.0.1, all_texts old new w g xs h.1)
 
@@ -72,63 +72,63 @@ none_unbound : (o : Option ℕ) (f g : Fault) (xs ys : List Fault) → (if is_so
 none_unbound None f g xs ys e h = absurd (cc)
 none_unbound (Some k) f g xs ys e h = h e
 
-all_bound : (old new : Scanned) (ordinals : List (Option ℕ)) (is : List ℕ) → undeclared_at old ordinals is ≡ [] → undeclared_at new ordinals is ≡ []
+all_bound : (old new : TextWithTokens) (ordinals : List (Option ℕ)) (is : List ℕ) → undeclared_faults_by_table old ordinals is ≡ [] → undeclared_faults_by_table new ordinals is ≡ []
 all_bound old new ordinals [] e = refl
-all_bound old new ordinals (i ∷ is) e = none_unbound (ordinal_in ordinals i) _ _ (undeclared_at old ordinals is) (undeclared_at new ordinals is) e (all_bound old new ordinals is)
+all_bound old new ordinals (i ∷ is) e = none_unbound (ordinal_in ordinals i) _ _ (undeclared_faults_by_table old ordinals is) (undeclared_faults_by_table new ordinals is) e (all_bound old new ordinals is)
 
 neither : (a b c : Bool) → (a || b) ≡ false → (not a || c) ≡ false → ⊥
 neither true b c e h = absurd (cc)
 neither false b c e h = absurd (cc)
 
-none_reported : (fs : List Fault) → list_any is_of_declarations fs ≡ false → list_any (λ f. not (is_of_declarations f)) fs ≡ false → fs ≡ []
+none_reported : (fs : List Fault) → list_any is_declaration_fault fs ≡ false → list_any (λ f. not (is_declaration_fault f)) fs ≡ false → fs ≡ []
 none_reported [] e h = refl
-none_reported (f ∷ fs) e h = absurd (neither (is_of_declarations f) (list_any is_of_declarations fs) (list_any (λ f. not (is_of_declarations f)) fs) e h)
+none_reported (f ∷ fs) e h = absurd (neither (is_declaration_fault f) (list_any is_declaration_fault fs) (list_any (λ f. not (is_declaration_fault f)) fs) e h)
 
 -- ---- the bindings are unchanged
 
-module _ (old new : Scanned) (tree : ModuleTree) (b : Bindings) (w : AreNamedAlike old new) (r : IsResolution (resolution_by (parsed_by old tree) b)) where
+module _ (old new : TextWithTokens) (tree : ModuleTree) (b : Bindings) (w : AreNamedAlike old new) (r : IsResolution (resolution_with (parsed_module old tree) b)) where
   abbrev read : Tree ℕ module_text
-  read = tree_of (parsed_by old tree)
+  read = tree_of (parsed_module old tree)
 
   written_alike : AllAlike (text_at new) (text_at old) (value_at new) (identifiers role.Declaring read)
-  written_alike = all_texts old new w (value_at new) (identifiers role.Declaring read) (leaves_are_identifiers (parsed_by old tree) r.parsed)
+  written_alike = all_texts old new w (value_at new) (identifiers role.Declaring read) (leaves_are_identifiers (parsed_module old tree) r.parsed)
 
-  same_names : named_tree_of (parsed_by new tree) ≡ mapped (text_at old) (value_at new) read
+  same_names : named_tree_of (parsed_module new tree) ≡ mapped (text_at old) (value_at new) read
   same_names = (alike (text_at new) (text_at old) (value_at new) role.Declaring read).reads written_alike
 
-  labelled : {M : Type 0} (label : Labels Name M) → relabelled as_names label (named_tree_of (parsed_by new tree)) ≡ mapped (λ i. label (ordinal_in b.ordinals.items i) (text_at new i)) (value_at new) read
+  labelled : {M : Type 0} (label : Labelling Name M) → relabel_module naming_by_spelling label (named_tree_of (parsed_module new tree)) ≡ mapped (λ i. label (ordinal_in b.ordinals.items i) (text_at new i)) (value_at new) read
   labelled {M} label =
       let by : ℕ → Name → M = λ i x. label (ordinal_in b.ordinals.items i) x in
-      let passed = module_passed_with (ordinal_in b.ordinals.items) label (as_in old) (value_at new) read (started (as_in old)) (at_start (as_in old)) in
-      ap (relabelled as_names label) same_names
-      ∙ ((passed.agree (marks_resolved (resolution_by (parsed_by old tree) b) r)).1
+      let passed = module_passed_with (ordinal_in b.ordinals.items) label (original_spellings old) (value_at new) read (initial_walk (original_spellings old)) (at_start (original_spellings old)) in
+      ap (relabel_module naming_by_spelling label) same_names
+      ∙ ((passed.agree (marks_resolved (resolution_with (parsed_module old tree) b) r)).1
       ∙ (alike (λ i. by i (text_at old i)) (λ i. by i (text_at new i)) (value_at new) role.Declaring read).reads (all_through by (text_at new) (text_at old) (value_at new) (identifiers role.Declaring read) written_alike))
 
-  numbering : IsNumbering (parsed_by new tree) b.ordinals.items
-  numbering = labelled (as_label as_names)
+  numbering : IsNumberingTable (parsed_module new tree) b.ordinals.items
+  numbering = labelled (label_from_ordinal naming_by_spelling)
 
   module _ (none : b.faults.items ≡ []) where
-    nothing_twice : twice_in (parsed_by new tree) ≡ []
+    nothing_twice : declaration_faults (parsed_module new tree) ≡ []
     nothing_twice =
-        let once : declared_once (named_tree_of (parsed_by new tree)) ≡ declared_once (named_tree_of (parsed_by old tree)) = ap declared_once same_names ∙ once_with old (value_at new) (value_at old) read in
-        none_reported (twice_in (parsed_by new tree))
-        (twice_where (parsed_by new tree) ∙ (ap not once ∙ (sym r.reported.declared_twice ∙ ap (list_any is_of_declarations) none)))
-        (twice_alone (parsed_by new tree))
+        let once : declared_once (named_tree_of (parsed_module new tree)) ≡ declared_once (named_tree_of (parsed_module old tree)) = ap declared_once same_names ∙ once_with old (value_at new) (value_at old) read in
+        none_reported (declaration_faults (parsed_module new tree))
+        (twice_where (parsed_module new tree) ∙ (ap not once ∙ (sym r.reported.declared_twice ∙ ap (list_any is_declaration_fault) none)))
+        (twice_alone (parsed_module new tree))
 
-    nothing_unbound : undeclared_at new b.ordinals.items (occurrences read) ≡ []
+    nothing_unbound : undeclared_faults_by_table new b.ordinals.items (occurrences read) ≡ []
     nothing_unbound =
         all_bound old new b.ordinals.items (occurrences read)
-        (undeclared_unbound (parsed_by old tree) b.ordinals.items r.numbering ∙ (sym r.reported.undeclared ∙ ap (filter is_of_occurrences) none))
+        (undeclared_unbound (parsed_module old tree) b.ordinals.items r.numbering ∙ (sym r.reported.undeclared ∙ ap (filter is_undeclared_fault) none))
 
-    nothing_at_fault : AreFaultsOf (parsed_by new tree) b.faults.items
+    nothing_at_fault : AreFaultsOf (parsed_module new tree) b.faults.items
     nothing_at_fault =
-        subst (AreFaultsOf (parsed_by new tree)) ((λ i. nothing_twice i ++ nothing_unbound i) ∙ sym none) (faults_reported (parsed_by new tree) b.ordinals.items numbering)
+        subst (AreFaultsOf (parsed_module new tree)) ((λ i. nothing_twice i ++ nothing_unbound i) ∙ sym none) (faults_reported (parsed_module new tree) b.ordinals.items numbering)
 
-pub bindings_stay : BindingsStay
-bindings_stay old new tree b w parsed r none = record {
+pub bindings_depend_on_names : BindingsDependOnNames
+bindings_depend_on_names old new tree b w parsed r none = record {
   parsed = parsed;
   numbering = numbering old new tree b w r;
-  binding = labelled old new tree b w r with_ordinal;
+  binding = labelled old new tree b w r ordinal_and_spelling;
   names_alone = r.names_alone;
   declaring = r.declaring;
   occurring = r.occurring;
@@ -137,39 +137,39 @@ bindings_stay old new tree b w parsed r none = record {
 
 -- ---- all tokens have the same spellings
 
-pub named_alike : (old new : Scanned) → AreWrittenAlike old new → AreNamedAlike old new
+pub named_alike : (old new : TextWithTokens) → AreWrittenAlike old new → AreNamedAlike old new
 named_alike old new w = record {
-  same_kinds = sym (map-map (λ (x : Word). valueless x.kind) (read_in new.text) new.tokens) ∙ (ap (map (λ (x : Word). valueless x.kind)) w.same_words ∙ map-map (λ (x : Word). valueless x.kind) (read_in old.text) old.tokens);
-  same_names = sym (map-map (λ (x : Word). name_of x.kind x.text) (read_in new.text) new.tokens)
-      ∙ (ap (map (λ (x : Word). name_of x.kind x.text)) w.same_words ∙ map-map (λ (x : Word). name_of x.kind x.text) (read_in old.text) old.tokens);
+  same_kinds = sym (map-map (λ (x : Word). kind_without_value x.kind) (word_of_token new.text) new.tokens) ∙ (ap (map (λ (x : Word). kind_without_value x.kind)) w.same_words ∙ map-map (λ (x : Word). kind_without_value x.kind) (word_of_token old.text) old.tokens);
+  same_names = sym (map-map (λ (x : Word). name_or_empty x.kind x.text) (word_of_token new.text) new.tokens)
+      ∙ (ap (map (λ (x : Word). name_or_empty x.kind x.text)) w.same_words ∙ map-map (λ (x : Word). name_or_empty x.kind x.text) (word_of_token old.text) old.tokens);
 }
 
-module _ (old new : Scanned) (tree : ModuleTree) (b c : Bindings) (w : AreWrittenAlike old new) (r : IsResolution (resolution_by (parsed_by old tree) b)) (m : AreMoved old new b c) where
-  abbrev before : Parsed
-  before = parsed_by old tree
+module _ (old new : TextWithTokens) (tree : ModuleTree) (b c : Bindings) (w : AreWrittenAlike old new) (r : IsResolution (resolution_with (parsed_module old tree) b)) (m : AreMoved old new b c) where
+  abbrev before : ParsedModule
+  before = parsed_module old tree
 
-  abbrev after : Parsed
-  after = parsed_by new tree
+  abbrev after : ParsedModule
+  after = parsed_module new tree
 
-  numbered_alike : IsNumbering after b.ordinals.items
+  numbered_alike : IsNumberingTable after b.ordinals.items
   numbered_alike = numbering old new tree b (named_alike old new w) r
 
-  faults_there : c.faults.items ≡ twice_in after ++ unbound_in after
+  faults_there : c.faults.items ≡ declaration_faults after ++ undeclared_faults after
   faults_there =
       m.faults
       ∙ (ap (moved_faults old new) r.reported.by_kind
-      ∙ faults_move old new w (twice_in before ++ unbound_in before) (twice_in after ++ unbound_in after) (names_same old new w tree))
+      ∙ faults_move old new w (declaration_faults before ++ undeclared_faults before) (declaration_faults after ++ undeclared_faults after) (names_same old new w tree))
 
   faults_moved : AreFaultsOf after c.faults.items
   faults_moved =
-      subst (AreFaultsOf after) (ap (λ fs. twice_in after ++ fs) (undeclared_unbound after b.ordinals.items numbered_alike) ∙ sym faults_there) (faults_reported after b.ordinals.items numbered_alike)
+      subst (AreFaultsOf after) (ap (λ fs. declaration_faults after ++ fs) (undeclared_unbound after b.ordinals.items numbered_alike) ∙ sym faults_there) (faults_reported after b.ordinals.items numbered_alike)
 
-pub bindings_keep_tokens : BindingsKeepTokens
-bindings_keep_tokens old new tree b c w parsed r m = record {
+pub bindings_move_with_tokens : BindingsMoveWithTokens
+bindings_move_with_tokens old new tree b c w parsed r m = record {
   parsed = parsed;
-  numbering = subst (IsNumbering (parsed_by new tree)) (sym m.ordinals) (numbered_alike old new tree b c w r m);
-  binding = subst (IsBinding (parsed_by new tree)) (sym m.ordinals) (labelled old new tree b (named_alike old new w) r with_ordinal);
-  names_alone = subst (NamesAlone (parsed_by new tree)) (sym m.ordinals) r.names_alone;
+  numbering = subst (IsNumberingTable (parsed_module new tree)) (sym m.ordinals) (numbered_alike old new tree b c w r m);
+  binding = subst (IsBindingTable (parsed_module new tree)) (sym m.ordinals) (labelled old new tree b (named_alike old new w) r ordinal_and_spelling);
+  names_alone = subst (OnlyNamesHaveOrdinals (parsed_module new tree)) (sym m.ordinals) r.names_alone;
   declaring = m.declarations ∙ r.declaring;
   occurring = m.occurrences ∙ r.occurring;
   reported = faults_moved old new tree b c w r m;

@@ -3,17 +3,17 @@ use Rattle.std.proofs.Common.{◌≡◌, ℕ, suc, Bool, true, false, not, ◌&&
 use Rattle.std.proofs.lemmas.List.{map-append}
 use Rattle.std.specs.List.{list_any}
 use Rattle.std.specs.Option.{option_or}
-use Rattle.ob0_tree.specs.Parsed.{named_tree_of, tree_of}
+use Rattle.ob0_tree.specs.ParsedModule.{named_tree_of, tree_of}
 use Rattle.ob0_tree.specs.Places.{value_at}
 use Rattle.ob0_tree.specs.Tree.{Tree, block, constant, constants, declares, declares_constant, declares_constants, declares_procedure, declares_type, declares_types, declares_variable, declares_variables, end, formals, further_name, further_section, has_body, is_module, item, items, listed, mapped, maybe, module_text, more, names, no_formals, none, one, procedure, section, some_formals, then_name, then_section, type_name, type_names, value_section, variable, variable_section, variables}
 use Rattle.ob0_language_names.specs.DeclaredOnce.{block_names, procedure_names}
-use Rattle.ob0_language_names.specs.Names.{Name, as_names, same_name}
+use Rattle.ob0_language_names.specs.Names.{Name, naming_by_spelling, same_name}
 use Rattle.ob0_language_names.specs.Occurrences.{blocks_in, blocks_in_procedure, blocks_in_procedures, declares_ordinal}
-use Rattle.ob0_language_names.specs.Parts.{constant_names, formal_names, formal_sections, further_names, module_block, named_types, names_listed, procedure_name, section_constants, section_names, section_types, section_variables, variable_names}
-use Rattle.ob0_scope.specs.Renames.{namesake, namesake_in, other_named}
-use Rattle.ob0_scope_table.specs.Resolution.{IsResolution, Resolution, bound_at, ordinal_in, with_ordinal}
-use Rattle.ob0_language_names.specs.Scopes.{Scope, after_names, after_procedure, body_scope, declare_names, first_procedure, predeclared_scope, procedures_scope, relabel_block, relabel_formals, relabel_procedure, relabel_procedures, relabelled, same_ordinal}
-use Rattle.ob0_scope.specs.Searching.{BlockSearch, found_in_block, found_in_procedure, found_in_procedures, is_sought, last_other, other_among}
+use Rattle.ob0_language_names.specs.Parts.{constant_names, formal_names, formal_sections, further_names, module_block, declared_type_names, names_in_list, procedure_name, section_constants, section_names, section_types, section_variables, variable_names}
+use Rattle.ob0_scope.specs.Renames.{namesake, namesake_in, other_with_name}
+use Rattle.ob0_scope_table.specs.Resolution.{IsResolution, Resolution, binding_at, ordinal_in, ordinal_and_spelling}
+use Rattle.ob0_language_names.specs.Scopes.{Scope, ordinal_after_names, ordinal_after_procedure, body_scope, declare_names, first_procedure_ordinal, predeclared_scope, procedures_scope, relabel_block, relabel_formals, relabel_procedure, relabel_procedures, relabel_module, same_ordinal}
+use Rattle.ob0_scope.specs.BlockSearches.{BlockSearch, found_in_block, found_in_procedure, found_in_procedures, is_bound_to_declaration, last_namesake, namesake_among}
 use Rattle.ob0_scope.proofs.Finding.{or_assoc}
 use Rattle.ob0_language_names.proofs.DistinctNames.{labels_in, onto, onto-append}
 use Rattle.ob0_language_names.proofs.RenamedDeclarations.{labels_in-block, labels_in-names, sections-labels}
@@ -25,7 +25,7 @@ further-with : {N M : Type 0} (f : N → M) (g : ℕ → ℕ) (ns : Tree N (item
 further-with f g end = refl
 further-with f g (more (then_name x) rest) = λ i. f x ∷ further-with f g rest i
 
-listed-with : {N M : Type 0} (f : N → M) (g : ℕ → ℕ) (ns : Tree N names) → names_listed (mapped f g ns) ≡ map f (names_listed ns)
+listed-with : {N M : Type 0} (f : N → M) (g : ℕ → ℕ) (ns : Tree N names) → names_in_list (mapped f g ns) ≡ map f (names_in_list ns)
 listed-with f g (listed x rest) = λ i. f x ∷ further-with f g rest i
 
 constants-with : {N M : Type 0} (f : N → M) (g : ℕ → ℕ) (cs : Tree N (items constant)) → constant_names (mapped f g cs) ≡ map f (constant_names cs)
@@ -36,18 +36,18 @@ pub constant_section-with : {N M : Type 0} (f : N → M) (g : ℕ → ℕ) (cs :
 constant_section-with f g none = refl
 constant_section-with f g (one (declares_constants cs)) = constants-with f g cs
 
-types-with : {N M : Type 0} (f : N → M) (g : ℕ → ℕ) (ts : Tree N (items type_name)) → named_types (mapped f g ts) ≡ map f (named_types ts)
+types-with : {N M : Type 0} (f : N → M) (g : ℕ → ℕ) (ts : Tree N (items type_name)) → declared_type_names (mapped f g ts) ≡ map f (declared_type_names ts)
 types-with f g end = refl
 types-with f g (more (declares_type x t) ts) = λ i. f x ∷ types-with f g ts i
 
-pub type_section-with : {N M : Type 0} (f : N → M) (g : ℕ → ℕ) (ts : Tree N (maybe type_names)) → named_types (section_types (mapped f g ts)) ≡ map f (named_types (section_types ts))
+pub type_section-with : {N M : Type 0} (f : N → M) (g : ℕ → ℕ) (ts : Tree N (maybe type_names)) → declared_type_names (section_types (mapped f g ts)) ≡ map f (declared_type_names (section_types ts))
 type_section-with f g none = refl
 type_section-with f g (one (declares_types ts)) = types-with f g ts
 
 variables-with : {N M : Type 0} (f : N → M) (g : ℕ → ℕ) (vs : Tree N (items variable)) → variable_names (mapped f g vs) ≡ map f (variable_names vs)
 variables-with f g end = refl
 variables-with f g (more (declares_variable ns t) vs) =
-    (λ i. listed-with f g ns i ++ variables-with f g vs i) ∙ sym (map-append f (names_listed ns) (variable_names vs))
+    (λ i. listed-with f g ns i ++ variables-with f g vs i) ∙ sym (map-append f (names_in_list ns) (variable_names vs))
 
 pub variable_section-with : {N M : Type 0} (f : N → M) (g : ℕ → ℕ) (vs : Tree N (maybe variables)) → variable_names (section_variables (mapped f g vs)) ≡ map f (variable_names (section_variables vs))
 variable_section-with f g none = refl
@@ -79,7 +79,7 @@ map-append₄ f a b c d =
 block-with : {N M : Type 0} (f : N → M) (g : ℕ → ℕ) (b : Tree N block) → block_names (mapped f g b) ≡ map f (block_names b)
 block-with f g (has_body (declares cs ts vs ps) statements) =
     (λ i. constant_section-with f g cs i ++ (type_section-with f g ts i ++ (variable_section-with f g vs i ++ procedures-with f g ps i)))
-    ∙ map-append₄ f (constant_names (section_constants cs)) (named_types (section_types ts)) (variable_names (section_variables vs)) (procedure_names ps)
+    ∙ map-append₄ f (constant_names (section_constants cs)) (declared_type_names (section_types ts)) (variable_names (section_variables vs)) (procedure_names ps)
 
 module _ (d : ℕ) (new : Name) where
   -- an identifier as its ordinal and its name, for the same search over trees of these
@@ -117,7 +117,7 @@ module _ (d : ℕ) (new : Name) where
 
   module _ (r : Resolution) where
     abbrev bound : ℕ → Bound
-    bound i = bound_at r.module_read.source r.ordinals i
+    bound i = binding_at r.module_read.source r.ordinals i
 
     abbrev value : ℕ → ℕ
     value i = value_at r.module_read.source i
@@ -125,15 +125,15 @@ module _ (d : ℕ) (new : Name) where
     abbrev sought : BlockSearch
     sought = record { source = r.module_read.source; ordinals = r.ordinals; declaration = d; new = new }
 
-    any_bound : (is : List ℕ) → list_any (is_sought sought) is ≡ list_any is_d (map bound is)
+    any_bound : (is : List ℕ) → list_any (is_bound_to_declaration sought) is ≡ list_any is_d (map bound is)
     any_bound [] = refl
     any_bound (i ∷ is) = λ j. is_d (bound i) || any_bound is j
 
-    last_bound : (found : Option ℕ) (is : List ℕ) → last_other sought found is ≡ last_new found (map bound is)
+    last_bound : (found : Option ℕ) (is : List ℕ) → last_namesake sought found is ≡ last_new found (map bound is)
     last_bound found [] = refl
     last_bound found (i ∷ is) = last_bound (if has_new (bound i) then ordinal_in r.ordinals i else found) is
 
-    among_bound : (is : List ℕ) → other_among sought is ≡ new_among (map bound is)
+    among_bound : (is : List ℕ) → namesake_among sought is ≡ new_among (map bound is)
     among_bound is = λ j. if any_bound is j then last_bound None is j else None
 
     mutual
@@ -153,11 +153,11 @@ module _ (d : ℕ) (new : Name) where
 
   -- a scope's bindings, newest first
 
-  declares_any : (own : Scope Name) → declares_ordinal own d ≡ list_any is_d (labels_in with_ordinal own)
+  declares_any : (own : Scope Name) → declares_ordinal own d ≡ list_any is_d (labels_in ordinal_and_spelling own)
   declares_any [] = refl
   declares_any (b ∷ own) = λ i. b.1 == d || declares_any own i
 
-  other_first : (own : Scope Name) → other_named own d new ≡ first_new (labels_in with_ordinal own)
+  other_first : (own : Scope Name) → other_with_name own d new ≡ first_new (labels_in ordinal_and_spelling own)
   other_first [] = refl
   other_first (b ∷ own) = λ i. if same_name b.0 new && not (b.1 == d) then Some b.1 else other_first own i
 
@@ -179,7 +179,7 @@ module _ (d : ℕ) (new : Name) where
   or_false true = refl
   or_false false = refl
 
-  scope_among : (own : Scope Name) (ps : List Bound) → labels_in with_ordinal own ≡ onto ps [] → (if declares_ordinal own d then other_named own d new else None) ≡ new_among ps
+  scope_among : (own : Scope Name) (ps : List Bound) → labels_in ordinal_and_spelling own ≡ onto ps [] → (if declares_ordinal own d then other_with_name own d new else None) ≡ new_among ps
   scope_among own ps e =
       let declared = declares_any own ∙ (ap (list_any is_d) e ∙ (any-onto ps [] ∙ or_false (list_any is_d ps))) in
       let named = other_first own ∙ (ap first_new e ∙ first-onto ps []) in
@@ -188,33 +188,33 @@ module _ (d : ℕ) (new : Name) where
   namesake-append : (xs ys : List (Scope Name)) → namesake_in (xs ++ ys) d new ≡ option_or (namesake_in xs d new) (namesake_in ys d new)
   namesake-append [] ys = refl
   namesake-append (own ∷ xs) ys =
-      let here : Option ℕ = if declares_ordinal own d then other_named own d new else None in
+      let here : Option ℕ = if declares_ordinal own d then other_with_name own d new else None in
       ap (option_or here) (namesake-append xs ys) ∙ sym (or_assoc here (namesake_in xs d new) (namesake_in ys d new))
 
   mutual
-    block_scopes : (visible : Scope Name) (k : ℕ) (own : Scope Name) (ps : List Bound) (b : Tree Name block) → labels_in with_ordinal own ≡ onto ps []
-        → new_in_block ps (relabel_block as_names with_ordinal visible k b) ≡ namesake_in (blocks_in k own b) d new
+    block_scopes : (visible : Scope Name) (k : ℕ) (own : Scope Name) (ps : List Bound) (b : Tree Name block) → labels_in ordinal_and_spelling own ≡ onto ps []
+        → new_in_block ps (relabel_block naming_by_spelling ordinal_and_spelling visible k b) ≡ namesake_in (blocks_in k own b) d new
     block_scopes visible k own ps (has_body (declares cs ts vs procedures) statements) e =
         let b : Tree Name block = has_body (declares cs ts vs procedures) statements in
-        let declared = block_names (relabel_block as_names with_ordinal visible k b) in
-        let labels = labels_in-block as_names with_ordinal visible k b own ∙ (ap (onto declared) e ∙ sym (onto-append ps declared [])) in
-        λ i. option_or (sym (scope_among (body_scope k b own) (ps ++ declared) labels) i) (procedures_scopes (procedures_scope k b visible) (first_procedure k b) procedures i)
+        let declared = block_names (relabel_block naming_by_spelling ordinal_and_spelling visible k b) in
+        let labels = labels_in-block naming_by_spelling ordinal_and_spelling visible k b own ∙ (ap (onto declared) e ∙ sym (onto-append ps declared [])) in
+        λ i. option_or (sym (scope_among (body_scope k b own) (ps ++ declared) labels) i) (procedures_scopes (procedures_scope k b visible) (first_procedure_ordinal k b) procedures i)
 
-    procedures_scopes : (visible : Scope Name) (k : ℕ) (ps : Tree Name (items procedure)) → new_in_procedures (relabel_procedures as_names with_ordinal visible k ps) ≡ namesake_in (blocks_in_procedures k ps) d new
+    procedures_scopes : (visible : Scope Name) (k : ℕ) (ps : Tree Name (items procedure)) → new_in_procedures (relabel_procedures naming_by_spelling ordinal_and_spelling visible k ps) ≡ namesake_in (blocks_in_procedures k ps) d new
     procedures_scopes visible k end = refl
     procedures_scopes visible k (more p rest) =
-        (λ i. option_or (procedure_scopes visible k p i) (procedures_scopes ((procedure_name p, k) ∷ visible) (after_procedure (suc k) p) rest i))
-        ∙ sym (namesake-append (blocks_in_procedure (suc k) p) (blocks_in_procedures (after_procedure (suc k) p) rest))
+        (λ i. option_or (procedure_scopes visible k p i) (procedures_scopes ((procedure_name p, k) ∷ visible) (ordinal_after_procedure (suc k) p) rest i))
+        ∙ sym (namesake-append (blocks_in_procedure (suc k) p) (blocks_in_procedures (ordinal_after_procedure (suc k) p) rest))
 
-    procedure_scopes : (visible : Scope Name) (k : ℕ) (p : Tree Name (item procedure)) → new_in_procedure (relabel_procedure as_names with_ordinal visible k p) ≡ namesake_in (blocks_in_procedure (suc k) p) d new
+    procedure_scopes : (visible : Scope Name) (k : ℕ) (p : Tree Name (item procedure)) → new_in_procedure (relabel_procedure naming_by_spelling ordinal_and_spelling visible k p) ≡ namesake_in (blocks_in_procedure (suc k) p) d new
     procedure_scopes visible k (declares_procedure x fs b closing) =
         let own = formal_names (formal_sections fs) in
-        let labelled = ap formal_names (formals-section as_names with_ordinal visible (suc k) fs) ∙ sections-labels as_names with_ordinal visible (suc k) (formal_sections fs) in
-        block_scopes (declare_names (suc k) own ((x, k) ∷ visible)) (after_names (suc k) own) (declare_names (suc k) own []) (formal_names (formal_sections (relabel_formals as_names with_ordinal visible (suc k) fs))) b
-        (labels_in-names with_ordinal (suc k) own [] ∙ ap (λ xs. onto xs []) (sym labelled))
+        let labelled = ap formal_names (formals-section naming_by_spelling ordinal_and_spelling visible (suc k) fs) ∙ sections-labels naming_by_spelling ordinal_and_spelling visible (suc k) (formal_sections fs) in
+        block_scopes (declare_names (suc k) own ((x, k) ∷ visible)) (ordinal_after_names (suc k) own) (declare_names (suc k) own []) (formal_names (formal_sections (relabel_formals naming_by_spelling ordinal_and_spelling visible (suc k) fs))) b
+        (labels_in-names ordinal_and_spelling (suc k) own [] ∙ ap (λ xs. onto xs []) (sym labelled))
 
-  module_scopes : (m : Tree Name module_text) → new_in_block [] (module_block (relabelled as_names with_ordinal m)) ≡ namesake m d new
-  module_scopes (is_module x b closing) = block_scopes (predeclared_scope as_names) 7 [] [] b refl
+  module_scopes : (m : Tree Name module_text) → new_in_block [] (module_block (relabel_module naming_by_spelling ordinal_and_spelling m)) ≡ namesake m d new
+  module_scopes (is_module x b closing) = block_scopes (predeclared_scope naming_by_spelling) 7 [] [] b refl
 
 -- The search in a module's block finds the namesake.
 pub namesake_found : (r : Resolution) (d : ℕ) (new : Name) → IsResolution r → found_in_block (record { source = r.module_read.source; ordinals = r.ordinals; declaration = d; new = new }) [] (module_block (tree_of r.module_read)) ≡ namesake (named_tree_of r.module_read) d new

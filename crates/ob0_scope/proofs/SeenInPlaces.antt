@@ -7,42 +7,42 @@ use Rattle.std.proofs.Math.ListN.{length-set}
 use Rattle.std.proofs.lemmas.Bool.{ltb-true, ltb-false}
 use Rattle.std.proofs.lemmas.Option.{slice_get-map}
 use Rattle.std.proofs.lemmas.List.{get_or_past, get_or-replicate, length-replicate}
-use Rattle.ob0_scan.specs.Scanned.{Scanned}
+use Rattle.ob0_scan.specs.TextWithTokens.{TextWithTokens}
 use Rattle.ob0_tree.proofs.Leaves.{leaves_ascend, ascending_lower}
 use Rattle.ob0_tree.proofs.Occurring.{looked_up_only, looked_up-occurrences}
 use Rattle.ob0_tree.specs.declared.tree.Role.{Role}
 use Rattle.ob0_tree.specs.declared.tree.Role.TheVariants as role
-use Rattle.ob0_tree.specs.Order.{Ascending, names_only}
-use Rattle.ob0_tree.specs.Parsed.{named_tree_of, tree_of}
+use Rattle.ob0_tree.specs.Order.{AreAscending, names_without_roles}
+use Rattle.ob0_tree.specs.ParsedModule.{named_tree_of, tree_of}
 use Rattle.ob0_tree.specs.Places.{text_at, value_at}
 use Rattle.ob0_tree.specs.Tree.{Sort, Tree, mapped, occurrences, identifiers, block, constant, constants, declares, declares_constant, declares_constants, declares_procedure, declares_type, declares_types, declares_variable, declares_variables, end, formals, further_name, further_section, has_body, is_module, item, items, listed, maybe, module_text, more, names, no_formals, none, one, procedure, section, some_formals, then_name, then_section, type_name, type_names, value_section, variable, variable_section, variables}
-use Rattle.ob0_language_names.specs.Names.{Label, Name, Naming, as_names, same_name}
+use Rattle.ob0_language_names.specs.Names.{Label, Name, Naming, naming_by_spelling, same_name}
 use Rattle.ob0_language_names.specs.Occurrences.{label_ordinal}
-use Rattle.ob0_language_names.specs.Parts.{constant_names, formal_names, formal_sections, further_names, named_types, names_listed, procedure_name, section_constants, section_names, section_types, section_variables, variable_names}
+use Rattle.ob0_language_names.specs.Parts.{constant_names, formal_names, formal_sections, further_names, declared_type_names, names_in_list, procedure_name, section_constants, section_names, section_types, section_variables, variable_names}
 use Rattle.ob0_scope_table.specs.Resolution.{IsResolution, Resolution, ordinal_in}
-use Rattle.ob0_language_names.specs.Scopes.{Labels, Scope, after_block, after_names, after_procedure, after_procedures, as_label, declare_names, declare_procedure_names, label_of, ordinal_of, predeclared_scope, relabel_block, relabel_constant_section, relabel_constants, relabel_formals, relabel_procedure, relabel_procedures, relabel_section, relabel_sections, relabel_type_section, relabel_types, relabel_uses, relabel_variable_section, relabel_variables, relabelled, same_ordinal}
-use Rattle.ob0_language_names.specs.SeenNames.{looking_for, ordinals_seen, sees}
-use Rattle.ob0_scope_numbering.specs.Marks.{first_at}
+use Rattle.ob0_language_names.specs.Scopes.{Labelling, Scope, ordinal_after_block, ordinal_after_names, ordinal_after_procedure, ordinal_after_procedures, label_from_ordinal, declare_names, declare_procedure_names, label_of, ordinal_of, predeclared_scope, relabel_block, relabel_constant_section, relabel_constants, relabel_formals, relabel_procedure, relabel_procedures, relabel_section, relabel_sections, relabel_type_section, relabel_types, relabel_uses, relabel_variable_section, relabel_variables, relabel_module, same_ordinal}
+use Rattle.ob0_language_names.specs.OccurrenceLookup.{lookup_naming, resolve_at_occurrences, resolve_at_occurrence}
+use Rattle.ob0_scope_numbering.specs.Marks.{zero_mark_at}
 use Rattle.ob0_scope_numbering.specs.Marks.{with_marks}
-use Rattle.ob0_scope_numbering.specs.Marking.{Visit, started, visit_module}
-use Rattle.ob0_scope_numbering.specs.Written.{Writing, name_at}
-use Rattle.ob0_scope.proofs.Fused.{relabelled-mapped}
-use Rattle.ob0_language_names.proofs.OccurrenceNames.{occurrences-with_names}
+use Rattle.ob0_scope_numbering.specs.MarkWalk.{WalkState, initial_walk, visit_module}
+use Rattle.ob0_scope_numbering.specs.Written.{Spellings, spelling_at}
+use Rattle.ob0_scope.proofs.Fused.{relabel_module-mapped}
+use Rattle.ob0_language_names.proofs.OccurrenceNames.{occurrences-map_names}
 use Rattle.ob0_language_names.proofs.OccurrencesMapped.{occurrences-mapped}
 use Rattle.ob0_scope_numbering.proofs.Passing.{at_start, module_passed, tokens_of}
 use Rattle.ob0_scope_numbering.proofs.Tables.{kept_below, marks_in_table}
 
 -- holds if f gives the spelling y to a looked-up identifier, and the text's spelling h to any other
-abbrev Sought : Name → (ℕ → Name) → (ℕ → Name) → Role → ℕ → Type 0
-Sought y f h role.LookedUp i = f i ≡ y
-Sought y f h role.Declaring i = f i ≡ h i
-Sought y f h role.ClosingName i = f i ≡ h i
-Sought y f h role.FieldName i = f i ≡ h i
-Sought y f h role.ModuleName i = f i ≡ h i
+abbrev NamesakeSearch : Name → (ℕ → Name) → (ℕ → Name) → Role → ℕ → Type 0
+NamesakeSearch y f h role.LookedUp i = f i ≡ y
+NamesakeSearch y f h role.Declaring i = f i ≡ h i
+NamesakeSearch y f h role.ClosingName i = f i ≡ h i
+NamesakeSearch y f h role.FieldName i = f i ≡ h i
+NamesakeSearch y f h role.ModuleName i = f i ≡ h i
 
 abbrev AllSought : Name → (ℕ → Name) → (ℕ → Name) → List (Role × ℕ) → Type 0
 AllSought y f h [] = Unit {0}
-AllSought y f h (x ∷ xs) = Sought y f h x.0 x.1 × AllSought y f h xs
+AllSought y f h (x ∷ xs) = NamesakeSearch y f h x.0 x.1 × AllSought y f h xs
 
 split : (y : Name) (f h : ℕ → Name) (xs ys : List (Role × ℕ)) → AllSought y f h (xs ++ ys) → AllSought y f h xs × AllSought y f h ys
 split y f h [] ys a = (tt, a)
@@ -61,32 +61,32 @@ looked_up-written y f h ((role.FieldName, i) ∷ xs) a = looked_up-written y f h
 looked_up-written y f h ((role.ModuleName, i) ∷ xs) a = looked_up-written y f h xs a.1
 
 -- labels that have only ordinals, and no names
-abbrev forget : {N : Type 0} → Labels N (Option ℕ)
+abbrev forget : {N : Type 0} → Labelling N (Option ℕ)
 forget ordinal x = ordinal
 
-looked : (y : Name) (scope : Scope Name) (x : Name) → ordinal_of as_names scope y ≡ ordinal_of (looking_for y) scope x
+looked : (y : Name) (scope : Scope Name) (x : Name) → ordinal_of naming_by_spelling scope y ≡ ordinal_of (lookup_naming y) scope x
 looked y [] x = refl
 looked y (b ∷ scope) x =
-    elim (same_name y b.0) as (λ v. (elim v [ true ↦ Some b.1 | false ↦ ordinal_of as_names scope y ]) ≡ (elim v [ true ↦ Some b.1 | false ↦ ordinal_of (looking_for y) scope x ]))
+    elim (same_name y b.0) as (λ v. (elim v [ true ↦ Some b.1 | false ↦ ordinal_of naming_by_spelling scope y ]) ≡ (elim v [ true ↦ Some b.1 | false ↦ ordinal_of (lookup_naming y) scope x ]))
     [ true ↦ refl | false ↦ looked y scope x ]
 
 module _ (y : Name) (f h : ℕ → Name) (g : ℕ → ℕ) where
-  names_alike : (scope : Scope Name) (is : List ℕ) → AllWritten y f is → map (label_of as_names forget scope) (map f is) ≡ map (label_of (looking_for y) forget scope) (map h is)
+  names_alike : (scope : Scope Name) (is : List ℕ) → AllWritten y f is → map (label_of naming_by_spelling forget scope) (map f is) ≡ map (label_of (lookup_naming y) forget scope) (map h is)
   names_alike scope [] a = refl
-  names_alike scope (i ∷ is) a = λ j. (ap (ordinal_of as_names scope) a.0 ∙ looked y scope (h i)) j ∷ names_alike scope is a.1 j
+  names_alike scope (i ∷ is) a = λ j. (ap (ordinal_of naming_by_spelling scope) a.0 ∙ looked y scope (h i)) j ∷ names_alike scope is a.1 j
 
   uses_alike : {s : Sort} (r : Role) → ((n : ℕ) (xs : List (Role × ℕ)) → looked_up_only ((r, n) ∷ xs) ≡ looked_up_only xs) → (scope : Scope Name) (t : Tree ℕ s) → AllSought y f h (identifiers r t)
-      → occurrences (relabel_uses as_names forget scope (mapped f g t)) ≡ occurrences (relabel_uses (looking_for y) forget scope (mapped h g t))
+      → occurrences (relabel_uses naming_by_spelling forget scope (mapped f g t)) ≡ occurrences (relabel_uses (lookup_naming y) forget scope (mapped h g t))
   uses_alike r other scope t a =
       let written = subst (AllWritten y f) (looked_up-occurrences r other t) (looked_up-written y f h (identifiers r t) a) in
-      occurrences-with_names (label_of as_names forget scope) (forget None) (mapped f g t)
-      ∙ (ap (map (label_of as_names forget scope)) (occurrences-mapped f g t)
+      occurrences-map_names (label_of naming_by_spelling forget scope) (forget None) (mapped f g t)
+      ∙ (ap (map (label_of naming_by_spelling forget scope)) (occurrences-mapped f g t)
       ∙ (names_alike scope (occurrences t) written
-      ∙ (sym (ap (map (label_of (looking_for y) forget scope)) (occurrences-mapped h g t))
-      ∙ sym (occurrences-with_names (label_of (looking_for y) forget scope) (forget None) (mapped h g t)))))
+      ∙ (sym (ap (map (label_of (lookup_naming y) forget scope)) (occurrences-mapped h g t))
+      ∙ sym (occurrences-map_names (label_of (lookup_naming y) forget scope) (forget None) (mapped h g t)))))
 
   part_alike : {s : Sort} (scope : Scope Name) (t : Tree ℕ s) → AllSought y f h (identifiers role.Declaring t)
-      → occurrences (relabel_uses as_names forget scope (mapped f g t)) ≡ occurrences (relabel_uses (looking_for y) forget scope (mapped h g t))
+      → occurrences (relabel_uses naming_by_spelling forget scope (mapped f g t)) ≡ occurrences (relabel_uses (lookup_naming y) forget scope (mapped h g t))
   part_alike scope t a = uses_alike role.Declaring (λ n xs. refl) scope t a
 
   -- The declared names are the names of the text.
@@ -94,7 +94,7 @@ module _ (y : Name) (f h : ℕ → Name) (g : ℕ → ℕ) where
   further_same end a = refl
   further_same (more (then_name x) rest) a = λ i. a.0 i ∷ further_same rest a.1 i
 
-  names_same : (ns : Tree ℕ names) → AllSought y f h (identifiers role.Declaring ns) → names_listed (mapped f g ns) ≡ names_listed (mapped h g ns)
+  names_same : (ns : Tree ℕ names) → AllSought y f h (identifiers role.Declaring ns) → names_in_list (mapped f g ns) ≡ names_in_list (mapped h g ns)
   names_same (listed x rest) a = λ i. a.0 i ∷ further_same rest a.1 i
 
   constants_same : (cs : Tree ℕ (items constant)) → AllSought y f h (identifiers role.Declaring cs) → constant_names (mapped f g cs) ≡ constant_names (mapped h g cs)
@@ -103,7 +103,7 @@ module _ (y : Name) (f h : ℕ → Name) (g : ℕ → ℕ) where
       let b = split y f h ((role.Declaring, x) ∷ identifiers role.Declaring e) (identifiers role.Declaring cs) a in
       λ i. b.0.0 i ∷ constants_same cs b.1 i
 
-  types_same : (ts : Tree ℕ (items type_name)) → AllSought y f h (identifiers role.Declaring ts) → named_types (mapped f g ts) ≡ named_types (mapped h g ts)
+  types_same : (ts : Tree ℕ (items type_name)) → AllSought y f h (identifiers role.Declaring ts) → declared_type_names (mapped f g ts) ≡ declared_type_names (mapped h g ts)
   types_same end a = refl
   types_same (more (declares_type x t) ts) a =
       let b = split y f h ((role.Declaring, x) ∷ identifiers role.Declaring t) (identifiers role.Declaring ts) a in
@@ -135,7 +135,7 @@ module _ (y : Name) (f h : ℕ → Name) (g : ℕ → ℕ) where
   constant_section_same none a = refl
   constant_section_same (one (declares_constants cs)) a = constants_same cs a
 
-  type_section_same : (ts : Tree ℕ (maybe type_names)) → AllSought y f h (identifiers role.Declaring ts) → named_types (section_types (mapped f g ts)) ≡ named_types (section_types (mapped h g ts))
+  type_section_same : (ts : Tree ℕ (maybe type_names)) → AllSought y f h (identifiers role.Declaring ts) → declared_type_names (section_types (mapped f g ts)) ≡ declared_type_names (section_types (mapped h g ts))
   type_section_same none a = refl
   type_section_same (one (declares_types ts)) a = types_same ts a
 
@@ -171,23 +171,23 @@ module _ (y : Name) (f h : ℕ → Name) (g : ℕ → ℕ) where
       record { name_is = a.0; formals_are = c.0; block_is = d.0 }
 
   mutual
-    after_block_same : (k : ℕ) (b : Tree ℕ block) → AllSought y f h (identifiers role.Declaring b) → after_block k (mapped f g b) ≡ after_block k (mapped h g b)
+    after_block_same : (k : ℕ) (b : Tree ℕ block) → AllSought y f h (identifiers role.Declaring b) → ordinal_after_block k (mapped f g b) ≡ ordinal_after_block k (mapped h g b)
     after_block_same k (has_body (declares cs ts vs ps) statements) a =
         let o = of_block (identifiers role.Declaring cs) (identifiers role.Declaring ts) (identifiers role.Declaring vs) (identifiers role.Declaring ps) (identifiers role.Declaring statements) a in
-        ap (λ n. after_procedures n (mapped f g ps))
-        (λ i. after_names (after_names (after_names k (constant_section_same cs o.constants_are i)) (type_section_same ts o.types_are i)) (variable_section_same vs o.variables_are i))
+        ap (λ n. ordinal_after_procedures n (mapped f g ps))
+        (λ i. ordinal_after_names (ordinal_after_names (ordinal_after_names k (constant_section_same cs o.constants_are i)) (type_section_same ts o.types_are i)) (variable_section_same vs o.variables_are i))
         ∙ after_procedures_same _ ps o.procedures_are
 
-    after_procedures_same : (k : ℕ) (ps : Tree ℕ (items procedure)) → AllSought y f h (identifiers role.Declaring ps) → after_procedures k (mapped f g ps) ≡ after_procedures k (mapped h g ps)
+    after_procedures_same : (k : ℕ) (ps : Tree ℕ (items procedure)) → AllSought y f h (identifiers role.Declaring ps) → ordinal_after_procedures k (mapped f g ps) ≡ ordinal_after_procedures k (mapped h g ps)
     after_procedures_same k end a = refl
     after_procedures_same k (more p rest) a =
         let b = split y f h (identifiers role.Declaring p) (identifiers role.Declaring rest) a in
-        ap (λ n. after_procedures n (mapped f g rest)) (after_procedure_same (suc k) p b.0) ∙ after_procedures_same _ rest b.1
+        ap (λ n. ordinal_after_procedures n (mapped f g rest)) (after_procedure_same (suc k) p b.0) ∙ after_procedures_same _ rest b.1
 
-    after_procedure_same : (k : ℕ) (p : Tree ℕ (item procedure)) → AllSought y f h (identifiers role.Declaring p) → after_procedure k (mapped f g p) ≡ after_procedure k (mapped h g p)
+    after_procedure_same : (k : ℕ) (p : Tree ℕ (item procedure)) → AllSought y f h (identifiers role.Declaring p) → ordinal_after_procedure k (mapped f g p) ≡ ordinal_after_procedure k (mapped h g p)
     after_procedure_same k (declares_procedure x fs b closing) a =
         let o = of_procedure x closing (identifiers role.Declaring fs) (identifiers role.Declaring b) a in
-        ap (λ xs. after_block (after_names k xs) (mapped f g b)) (formals_same fs o.formals_are) ∙ after_block_same _ b o.block_is
+        ap (λ xs. ordinal_after_block (ordinal_after_names k xs) (mapped f g b)) (formals_same fs o.formals_are) ∙ after_block_same _ b o.block_is
 
   procedure_same : (p : Tree ℕ (item procedure)) → AllSought y f h (identifiers role.Declaring p) → procedure_name (mapped f g p) ≡ procedure_name (mapped h g p)
   procedure_same (declares_procedure x fs b closing) a = a.0
@@ -197,69 +197,69 @@ module _ (y : Name) (f h : ℕ → Name) (g : ℕ → ℕ) where
   procedures_declared k (more p rest) scope a =
       let b = split y f h (identifiers role.Declaring p) (identifiers role.Declaring rest) a in
       (λ i. declare_procedure_names (after_procedure_same (suc k) p b.0 i) (mapped f g rest) ((procedure_same p b.0 i, k) ∷ scope))
-      ∙ procedures_declared (after_procedure (suc k) (mapped h g p)) rest ((procedure_name (mapped h g p), k) ∷ scope) b.1
+      ∙ procedures_declared (ordinal_after_procedure (suc k) (mapped h g p)) rest ((procedure_name (mapped h g p), k) ∷ scope) b.1
 
   -- Each occurrence of a part has the same ordinal in both.
   constants_alike : (scope : Scope Name) (k : ℕ) (cs : Tree ℕ (items constant)) → AllSought y f h (identifiers role.Declaring cs)
-      → occurrences (relabel_constants as_names forget scope k (mapped f g cs)) ≡ occurrences (relabel_constants (looking_for y) forget scope k (mapped h g cs))
+      → occurrences (relabel_constants naming_by_spelling forget scope k (mapped f g cs)) ≡ occurrences (relabel_constants (lookup_naming y) forget scope k (mapped h g cs))
   constants_alike scope k end a = refl
   constants_alike scope k (more (declares_constant x e) cs) a =
       let b = split y f h ((role.Declaring, x) ∷ identifiers role.Declaring e) (identifiers role.Declaring cs) a in
-      λ i. part_alike scope e b.0.1 i ++ (ap (λ z. occurrences (relabel_constants as_names forget ((z, k) ∷ scope) (suc k) (mapped f g cs))) b.0.0 ∙ constants_alike ((h x, k) ∷ scope) (suc k) cs b.1) i
+      λ i. part_alike scope e b.0.1 i ++ (ap (λ z. occurrences (relabel_constants naming_by_spelling forget ((z, k) ∷ scope) (suc k) (mapped f g cs))) b.0.0 ∙ constants_alike ((h x, k) ∷ scope) (suc k) cs b.1) i
 
   types_alike : (scope : Scope Name) (k : ℕ) (ts : Tree ℕ (items type_name)) → AllSought y f h (identifiers role.Declaring ts)
-      → occurrences (relabel_types as_names forget scope k (mapped f g ts)) ≡ occurrences (relabel_types (looking_for y) forget scope k (mapped h g ts))
+      → occurrences (relabel_types naming_by_spelling forget scope k (mapped f g ts)) ≡ occurrences (relabel_types (lookup_naming y) forget scope k (mapped h g ts))
   types_alike scope k end a = refl
   types_alike scope k (more (declares_type x t) ts) a =
       let b = split y f h ((role.Declaring, x) ∷ identifiers role.Declaring t) (identifiers role.Declaring ts) a in
-      λ i. part_alike scope t b.0.1 i ++ (ap (λ z. occurrences (relabel_types as_names forget ((z, k) ∷ scope) (suc k) (mapped f g ts))) b.0.0 ∙ types_alike ((h x, k) ∷ scope) (suc k) ts b.1) i
+      λ i. part_alike scope t b.0.1 i ++ (ap (λ z. occurrences (relabel_types naming_by_spelling forget ((z, k) ∷ scope) (suc k) (mapped f g ts))) b.0.0 ∙ types_alike ((h x, k) ∷ scope) (suc k) ts b.1) i
 
   variables_alike : (scope : Scope Name) (k : ℕ) (gs : Tree ℕ (items variable)) → AllSought y f h (identifiers role.Declaring gs)
-      → occurrences (relabel_variables as_names forget scope k (mapped f g gs)) ≡ occurrences (relabel_variables (looking_for y) forget scope k (mapped h g gs))
+      → occurrences (relabel_variables naming_by_spelling forget scope k (mapped f g gs)) ≡ occurrences (relabel_variables (lookup_naming y) forget scope k (mapped h g gs))
   variables_alike scope k end a = refl
   variables_alike scope k (more (declares_variable ns t) gs) a =
       let b = split y f h (identifiers role.Declaring ns ++ identifiers role.Declaring t) (identifiers role.Declaring gs) a in
       let c = split y f h (identifiers role.Declaring ns) (identifiers role.Declaring t) b.0 in
       λ i. part_alike scope t c.1 i
-      ++ (ap (λ xs. occurrences (relabel_variables as_names forget (declare_names k xs scope) (after_names k xs) (mapped f g gs))) (names_same ns c.0) ∙ variables_alike (declare_names k (names_listed (mapped h g ns)) scope) (after_names k (names_listed (mapped h g ns))) gs b.1) i
+      ++ (ap (λ xs. occurrences (relabel_variables naming_by_spelling forget (declare_names k xs scope) (ordinal_after_names k xs) (mapped f g gs))) (names_same ns c.0) ∙ variables_alike (declare_names k (names_in_list (mapped h g ns)) scope) (ordinal_after_names k (names_in_list (mapped h g ns))) gs b.1) i
 
   section_alike : (scope : Scope Name) (k : ℕ) (s : Tree ℕ section) → AllSought y f h (identifiers role.Declaring s)
-      → occurrences (relabel_section as_names forget scope k (mapped f g s)) ≡ occurrences (relabel_section (looking_for y) forget scope k (mapped h g s))
+      → occurrences (relabel_section naming_by_spelling forget scope k (mapped f g s)) ≡ occurrences (relabel_section (lookup_naming y) forget scope k (mapped h g s))
   section_alike scope k (value_section ns t) a = part_alike scope t (split y f h (identifiers role.Declaring ns) (identifiers role.Declaring t) a).1
   section_alike scope k (variable_section ns t) a = part_alike scope t (split y f h (identifiers role.Declaring ns) (identifiers role.Declaring t) a).1
 
   sections_alike : (scope : Scope Name) (k : ℕ) (fs : Tree ℕ (items further_section)) → AllSought y f h (identifiers role.Declaring fs)
-      → occurrences (relabel_sections as_names forget scope k (mapped f g fs)) ≡ occurrences (relabel_sections (looking_for y) forget scope k (mapped h g fs))
+      → occurrences (relabel_sections naming_by_spelling forget scope k (mapped f g fs)) ≡ occurrences (relabel_sections (lookup_naming y) forget scope k (mapped h g fs))
   sections_alike scope k end a = refl
   sections_alike scope k (more (then_section s) fs) a =
       let b = split y f h (identifiers role.Declaring s) (identifiers role.Declaring fs) a in
       λ i. section_alike scope k s b.0 i
-      ++ (ap (λ xs. occurrences (relabel_sections as_names forget (declare_names k xs scope) (after_names k xs) (mapped f g fs))) (section_same s b.0) ∙ sections_alike (declare_names k (section_names (mapped h g s)) scope) (after_names k (section_names (mapped h g s))) fs b.1) i
+      ++ (ap (λ xs. occurrences (relabel_sections naming_by_spelling forget (declare_names k xs scope) (ordinal_after_names k xs) (mapped f g fs))) (section_same s b.0) ∙ sections_alike (declare_names k (section_names (mapped h g s)) scope) (ordinal_after_names k (section_names (mapped h g s))) fs b.1) i
 
   formals_alike : (scope : Scope Name) (k : ℕ) (fs : Tree ℕ (maybe formals)) → AllSought y f h (identifiers role.Declaring fs)
-      → occurrences (relabel_formals as_names forget scope k (mapped f g fs)) ≡ occurrences (relabel_formals (looking_for y) forget scope k (mapped h g fs))
+      → occurrences (relabel_formals naming_by_spelling forget scope k (mapped f g fs)) ≡ occurrences (relabel_formals (lookup_naming y) forget scope k (mapped h g fs))
   formals_alike scope k none a = refl
   formals_alike scope k (one no_formals) a = refl
   formals_alike scope k (one (some_formals s fs)) a = sections_alike scope k (more (then_section s) fs) a
 
   constant_section_alike : (scope : Scope Name) (k : ℕ) (cs : Tree ℕ (maybe constants)) → AllSought y f h (identifiers role.Declaring cs)
-      → occurrences (relabel_constant_section as_names forget scope k (mapped f g cs)) ≡ occurrences (relabel_constant_section (looking_for y) forget scope k (mapped h g cs))
+      → occurrences (relabel_constant_section naming_by_spelling forget scope k (mapped f g cs)) ≡ occurrences (relabel_constant_section (lookup_naming y) forget scope k (mapped h g cs))
   constant_section_alike scope k none a = refl
   constant_section_alike scope k (one (declares_constants cs)) a = constants_alike scope k cs a
 
   type_section_alike : (scope : Scope Name) (k : ℕ) (ts : Tree ℕ (maybe type_names)) → AllSought y f h (identifiers role.Declaring ts)
-      → occurrences (relabel_type_section as_names forget scope k (mapped f g ts)) ≡ occurrences (relabel_type_section (looking_for y) forget scope k (mapped h g ts))
+      → occurrences (relabel_type_section naming_by_spelling forget scope k (mapped f g ts)) ≡ occurrences (relabel_type_section (lookup_naming y) forget scope k (mapped h g ts))
   type_section_alike scope k none a = refl
   type_section_alike scope k (one (declares_types ts)) a = types_alike scope k ts a
 
   variable_section_alike : (scope : Scope Name) (k : ℕ) (vs : Tree ℕ (maybe variables)) → AllSought y f h (identifiers role.Declaring vs)
-      → occurrences (relabel_variable_section as_names forget scope k (mapped f g vs)) ≡ occurrences (relabel_variable_section (looking_for y) forget scope k (mapped h g vs))
+      → occurrences (relabel_variable_section naming_by_spelling forget scope k (mapped f g vs)) ≡ occurrences (relabel_variable_section (lookup_naming y) forget scope k (mapped h g vs))
   variable_section_alike scope k none a = refl
   variable_section_alike scope k (one (declares_variables vs)) a = variables_alike scope k vs a
 
   mutual
     block_alike : (scope : Scope Name) (k : ℕ) (b : Tree ℕ block) → AllSought y f h (identifiers role.Declaring b)
-        → occurrences (relabel_block as_names forget scope k (mapped f g b)) ≡ occurrences (relabel_block (looking_for y) forget scope k (mapped h g b))
+        → occurrences (relabel_block naming_by_spelling forget scope k (mapped f g b)) ≡ occurrences (relabel_block (lookup_naming y) forget scope k (mapped h g b))
     block_alike scope k (has_body (declares cs ts vs ps) statements) a =
         let o = of_block (identifiers role.Declaring cs) (identifiers role.Declaring ts) (identifiers role.Declaring vs) (identifiers role.Declaring ps) (identifiers role.Declaring statements) a in
         let xs = constant_section_same cs o.constants_are in
@@ -267,40 +267,40 @@ module _ (y : Name) (f h : ℕ → Name) (g : ℕ → ℕ) where
         let zs = variable_section_same vs o.variables_are in
         λ i.
         (constant_section_alike scope k cs o.constants_are i
-        ++ ((ap (λ l. occurrences (relabel_type_section as_names forget (declare_names k l scope) (after_names k l) (mapped f g ts))) xs ∙ type_section_alike _ _ ts o.types_are) i
-        ++ (((λ j. occurrences (relabel_variable_section as_names forget (declare_names (after_names k (xs j)) (ys j) (declare_names k (xs j) scope)) (after_names (after_names k (xs j)) (ys j)) (mapped f g vs))) ∙ variable_section_alike _ _ vs o.variables_are) i
-        ++ ((λ j. occurrences (relabel_procedures as_names forget (declare_names (after_names (after_names k (xs j)) (ys j)) (zs j) (declare_names (after_names k (xs j)) (ys j) (declare_names k (xs j) scope))) (after_names (after_names (after_names k (xs j)) (ys j)) (zs j)) (mapped f g ps)))
+        ++ ((ap (λ l. occurrences (relabel_type_section naming_by_spelling forget (declare_names k l scope) (ordinal_after_names k l) (mapped f g ts))) xs ∙ type_section_alike _ _ ts o.types_are) i
+        ++ (((λ j. occurrences (relabel_variable_section naming_by_spelling forget (declare_names (ordinal_after_names k (xs j)) (ys j) (declare_names k (xs j) scope)) (ordinal_after_names (ordinal_after_names k (xs j)) (ys j)) (mapped f g vs))) ∙ variable_section_alike _ _ vs o.variables_are) i
+        ++ ((λ j. occurrences (relabel_procedures naming_by_spelling forget (declare_names (ordinal_after_names (ordinal_after_names k (xs j)) (ys j)) (zs j) (declare_names (ordinal_after_names k (xs j)) (ys j) (declare_names k (xs j) scope))) (ordinal_after_names (ordinal_after_names (ordinal_after_names k (xs j)) (ys j)) (zs j)) (mapped f g ps)))
         ∙ procedures_alike _ _ ps o.procedures_are) i)))
-        ++ ((λ j. occurrences (relabel_uses as_names forget (declare_procedure_names (after_names (after_names (after_names k (xs j)) (ys j)) (zs j)) (mapped f g ps) (declare_names (after_names (after_names k (xs j)) (ys j)) (zs j) (declare_names (after_names k (xs j)) (ys j) (declare_names k (xs j) scope)))) (mapped f g statements)))
-        ∙ (ap (λ sc. occurrences (relabel_uses as_names forget sc (mapped f g statements))) (procedures_declared _ ps _ o.procedures_are) ∙ part_alike _ statements o.statements_are)) i
+        ++ ((λ j. occurrences (relabel_uses naming_by_spelling forget (declare_procedure_names (ordinal_after_names (ordinal_after_names (ordinal_after_names k (xs j)) (ys j)) (zs j)) (mapped f g ps) (declare_names (ordinal_after_names (ordinal_after_names k (xs j)) (ys j)) (zs j) (declare_names (ordinal_after_names k (xs j)) (ys j) (declare_names k (xs j) scope)))) (mapped f g statements)))
+        ∙ (ap (λ sc. occurrences (relabel_uses naming_by_spelling forget sc (mapped f g statements))) (procedures_declared _ ps _ o.procedures_are) ∙ part_alike _ statements o.statements_are)) i
 
     procedures_alike : (scope : Scope Name) (k : ℕ) (ps : Tree ℕ (items procedure)) → AllSought y f h (identifiers role.Declaring ps)
-        → occurrences (relabel_procedures as_names forget scope k (mapped f g ps)) ≡ occurrences (relabel_procedures (looking_for y) forget scope k (mapped h g ps))
+        → occurrences (relabel_procedures naming_by_spelling forget scope k (mapped f g ps)) ≡ occurrences (relabel_procedures (lookup_naming y) forget scope k (mapped h g ps))
     procedures_alike scope k end a = refl
     procedures_alike scope k (more p rest) a =
         let b = split y f h (identifiers role.Declaring p) (identifiers role.Declaring rest) a in
         λ i. procedure_alike scope k p b.0 i
-        ++ ((λ j. occurrences (relabel_procedures as_names forget ((procedure_same p b.0 j, k) ∷ scope) (after_procedure_same (suc k) p b.0 j) (mapped f g rest))) ∙ procedures_alike ((procedure_name (mapped h g p), k) ∷ scope) (after_procedure (suc k) (mapped h g p)) rest b.1) i
+        ++ ((λ j. occurrences (relabel_procedures naming_by_spelling forget ((procedure_same p b.0 j, k) ∷ scope) (after_procedure_same (suc k) p b.0 j) (mapped f g rest))) ∙ procedures_alike ((procedure_name (mapped h g p), k) ∷ scope) (ordinal_after_procedure (suc k) (mapped h g p)) rest b.1) i
 
     procedure_alike : (scope : Scope Name) (k : ℕ) (p : Tree ℕ (item procedure)) → AllSought y f h (identifiers role.Declaring p)
-        → occurrences (relabel_procedure as_names forget scope k (mapped f g p)) ≡ occurrences (relabel_procedure (looking_for y) forget scope k (mapped h g p))
+        → occurrences (relabel_procedure naming_by_spelling forget scope k (mapped f g p)) ≡ occurrences (relabel_procedure (lookup_naming y) forget scope k (mapped h g p))
     procedure_alike scope k (declares_procedure x fs b closing) a =
         let o = of_procedure x closing (identifiers role.Declaring fs) (identifiers role.Declaring b) a in
         let xs = formals_same fs o.formals_are in
         λ i. formals_alike scope (suc k) fs o.formals_are i
-        ++ ((λ j. occurrences (relabel_block as_names forget (declare_names (suc k) (xs j) ((o.name_is j, k) ∷ scope)) (after_names (suc k) (xs j)) (mapped f g b))) ∙ block_alike _ _ b o.block_is) i
+        ++ ((λ j. occurrences (relabel_block naming_by_spelling forget (declare_names (suc k) (xs j) ((o.name_is j, k) ∷ scope)) (ordinal_after_names (suc k) (xs j)) (mapped f g b))) ∙ block_alike _ _ b o.block_is) i
 
-  module_alike : (m : Tree ℕ module_text) → AllSought y f h (identifiers role.Declaring m) → occurrences (relabelled as_names forget (mapped f g m)) ≡ occurrences (relabelled (looking_for y) forget (mapped h g m))
+  module_alike : (m : Tree ℕ module_text) → AllSought y f h (identifiers role.Declaring m) → occurrences (relabel_module naming_by_spelling forget (mapped f g m)) ≡ occurrences (relabel_module (lookup_naming y) forget (mapped h g m))
   module_alike (is_module x b closing) a =
-      block_alike (predeclared_scope as_names) 7 b (split y f h (identifiers role.Declaring b) ((role.ModuleName, closing) ∷ []) a.1).0
+      block_alike (predeclared_scope naming_by_spelling) 7 b (split y f h (identifiers role.Declaring b) ((role.ModuleName, closing) ∷ []) a.1).0
 
 -- Labels without names are the ordinals of labels with names.
-forgotten : (naming : Naming Name) (m : Tree Name module_text) → occurrences (relabelled naming forget m) ≡ map label_ordinal (occurrences (relabelled naming (as_label naming) m))
+forgotten : (naming : Naming Name) (m : Tree Name module_text) → occurrences (relabel_module naming forget m) ≡ map label_ordinal (occurrences (relabel_module naming (label_from_ordinal naming) m))
 forgotten naming m =
-    ap (λ (l : Labels Name (Option ℕ)). occurrences (relabelled naming l m)) (λ i o x. sym (back o x) i)
-    ∙ (ap occurrences (relabelled-mapped naming label_ordinal (as_label naming) m) ∙ occurrences-mapped label_ordinal (λ n. n) (relabelled naming (as_label naming) m))
+    ap (λ (l : Labelling Name (Option ℕ)). occurrences (relabel_module naming l m)) (λ i o x. sym (back o x) i)
+    ∙ (ap occurrences (relabel_module-mapped naming label_ordinal (label_from_ordinal naming) m) ∙ occurrences-mapped label_ordinal (λ n. n) (relabel_module naming (label_from_ordinal naming) m))
   where
-    back : (o : Option ℕ) (x : Name) → label_ordinal (as_label naming o x) ≡ o
+    back : (o : Option ℕ) (x : Name) → label_ordinal (label_from_ordinal naming o x) ≡ o
     back None x = refl
     back (Some k) x = refl
 
@@ -317,10 +317,10 @@ abbrev pub AllMarked : List (Option ℕ) → List (Role × ℕ) → Type 0
 AllMarked table [] = Unit {0}
 AllMarked table (x ∷ xs) = IsMarked table x.0 x.1 × AllMarked table xs
 
-skipped : (low i high : ℕ) (xs : List ℕ) → low ≤ i → Ascending (i + 1) xs high → Ascending low xs high
+skipped : (low i high : ℕ) (xs : List ℕ) → low ≤ i → AreAscending (i + 1) xs high → AreAscending low xs high
 skipped low i high xs le a = ascending_lower low (i + 1) xs high (omega (arith, le)) a
 
-fewer : (low high : ℕ) (xs : List (Role × ℕ)) → Ascending low (names_only xs) high → Ascending low (tokens_of (map first_at (looked_up_only xs))) high
+fewer : (low high : ℕ) (xs : List (Role × ℕ)) → AreAscending low (names_without_roles xs) high → AreAscending low (tokens_of (map zero_mark_at (looked_up_only xs))) high
 fewer low high [] a = a
 fewer low high ((role.LookedUp, i) ∷ xs) a = (a.0, fewer (i + 1) high xs a.1)
 fewer low high ((role.Declaring, i) ∷ xs) a = skipped low i high _ a.0 (fewer (i + 1) high xs a.1)
@@ -328,29 +328,29 @@ fewer low high ((role.ClosingName, i) ∷ xs) a = skipped low i high _ a.0 (fewe
 fewer low high ((role.FieldName, i) ∷ xs) a = skipped low i high _ a.0 (fewer (i + 1) high xs a.1)
 fewer low high ((role.ModuleName, i) ∷ xs) a = skipped low i high _ a.0 (fewer (i + 1) high xs a.1)
 
-ends_above : (low : ℕ) (xs : List ℕ) (high : ℕ) → Ascending low xs high → low ≤ high
+ends_above : (low : ℕ) (xs : List ℕ) (high : ℕ) → AreAscending low xs high → low ≤ high
 ends_above low [] high a = a
 ends_above low (x ∷ xs) high a = let later = ends_above (x + 1) xs high a.1 in omega (arith, a.0, later)
 
 emptier : (low i : ℕ) (table : List (Option ℕ)) → low ≤ i → ((j : ℕ) → low ≤ j → ordinal_in table j ≡ None) → (j : ℕ) → i + 1 ≤ j → ordinal_in table j ≡ None
 emptier low i table le empty j above = empty j (omega (arith, le, above))
 
-other_is_at : (low high i : ℕ) (xs : List (Role × ℕ)) (table : List (Option ℕ)) → low ≤ i → Ascending (i + 1) (names_only xs) high → ((j : ℕ) → low ≤ j → ordinal_in table j ≡ None)
-    → ordinal_in (with_marks table (map first_at (looked_up_only xs))) i ≡ None
+other_is_at : (low high i : ℕ) (xs : List (Role × ℕ)) (table : List (Option ℕ)) → low ≤ i → AreAscending (i + 1) (names_without_roles xs) high → ((j : ℕ) → low ≤ j → ordinal_in table j ≡ None)
+    → ordinal_in (with_marks table (map zero_mark_at (looked_up_only xs))) i ≡ None
 other_is_at low high i xs table le a empty =
     let here : i < i + 1 = omega arith in
-    kept_below (map first_at (looked_up_only xs)) table (i + 1) high i (fewer (i + 1) high xs a) here ∙ empty i le
+    kept_below (map zero_mark_at (looked_up_only xs)) table (i + 1) high i (fewer (i + 1) high xs a) here ∙ empty i le
 
-all_reported : (low high : ℕ) (xs : List (Role × ℕ)) (table : List (Option ℕ)) → Ascending low (names_only xs) high → high ≤ length table → ((i : ℕ) → low ≤ i → ordinal_in table i ≡ None)
-    → AllMarked (with_marks table (map first_at (looked_up_only xs))) xs
+all_reported : (low high : ℕ) (xs : List (Role × ℕ)) (table : List (Option ℕ)) → AreAscending low (names_without_roles xs) high → high ≤ length table → ((i : ℕ) → low ≤ i → ordinal_in table i ≡ None)
+    → AllMarked (with_marks table (map zero_mark_at (looked_up_only xs))) xs
 all_reported low high [] table a within empty = tt
 all_reported low high ((role.LookedUp, i) ∷ xs) table a within empty =
     let next : List (Option ℕ) = set table i (Some 0) in
     let here : i < i + 1 = omega arith in
-    let last = ends_above (i + 1) (names_only xs) high a.1 in
+    let last = ends_above (i + 1) (names_without_roles xs) high a.1 in
     let inside : i < length table = omega (arith, last, within) in
     let still : high ≤ length next = subst (λ n. high ≤ n) (sym (length-set table i (Some 0))) within in (
-      kept_below (map first_at (looked_up_only xs)) next (i + 1) high i (fewer (i + 1) high xs a.1) here ∙ get_or-set_same table i (Some 0) None inside,
+      kept_below (map zero_mark_at (looked_up_only xs)) next (i + 1) high i (fewer (i + 1) high xs a.1) here ∙ get_or-set_same table i (Some 0) None inside,
       all_reported (i + 1) high xs next a.1 still (λ j above. let other : j ≢ i = omega (arith, above) in get_or-set_other table i j (Some 0) None other ∙ empty j (omega (arith, a.0, above))),
     )
 all_reported low high ((role.Declaring, i) ∷ xs) table a within empty = (other_is_at low high i xs table a.0 a.1 empty, all_reported (i + 1) high xs table a.1 within (emptier low i table a.0 empty))
@@ -368,7 +368,7 @@ nothing_there n i =
 
 -- returns the table that has ordinal 0 at each occurrence of a module
 abbrev pub occurrence_table : Resolution → List (Option ℕ)
-occurrence_table r = with_marks (replicate (length r.module_read.source.tokens) None) (map first_at r.uses)
+occurrence_table r = with_marks (replicate (length r.module_read.source.tokens) None) (map zero_mark_at r.uses)
 
 pub uses_reported : (r : Resolution) → IsResolution r → AllMarked (occurrence_table r) (identifiers role.Declaring (tree_of r.module_read))
 uses_reported r is =
@@ -379,11 +379,11 @@ uses_reported r is =
     let long : count ≤ length (replicate count none) = subst (λ n. count ≤ n) (sym (length-replicate count none)) (le_refl count) in
     let found : looked_up_only ids ≡ r.uses = looked_up-occurrences role.Declaring (λ n xs. refl) (tree_of m) ∙ sym is.occurring in
     let reported = all_reported 0 count ids (replicate count none) (leaves_ascend m is.parsed) long (λ i le. nothing_there count i) in
-    subst (λ (t : List (Option ℕ)). AllMarked t ids) (ap (λ us. with_marks (replicate count none) (map first_at us)) found) reported
+    subst (λ (t : List (Option ℕ)). AllMarked t ids) (ap (λ us. with_marks (replicate count none) (map zero_mark_at us)) found) reported
 
 -- The identifiers have the sought spellings.
-all_sought : (source : Scanned) (table : List (Option ℕ)) (y : Name) (xs : List (Role × ℕ)) → AllMarked table xs
-    → AllSought y (name_at (record { source = source; ordinals = table; declaration = Some 0; new = y })) (text_at source) xs
+all_sought : (source : TextWithTokens) (table : List (Option ℕ)) (y : Name) (xs : List (Role × ℕ)) → AllMarked table xs
+    → AllSought y (spelling_at (record { source = source; ordinals = table; declaration = Some 0; new = y })) (text_at source) xs
 all_sought source table y [] a = tt
 all_sought source table y ((role.LookedUp, i) ∷ xs) a = (ap (λ o. if same_ordinal o 0 then y else text_at source i) a.0, all_sought source table y xs a.1)
 all_sought source table y ((role.Declaring, i) ∷ xs) a = (ap (λ o. if same_ordinal o 0 then y else text_at source i) a.0, all_sought source table y xs a.1)
@@ -393,26 +393,26 @@ all_sought source table y ((role.ModuleName, i) ∷ xs) a = (ap (λ o. if same_o
 
 -- Visiting a module with one name at all occurrences gives the bindings of that name in place of
 -- each.
-pub seen_in_places : (r : Resolution) (y : Name) (v : Visit) (sought ordinals : List (Option ℕ)) → IsResolution r → sought ≡ with_marks (replicate (length r.module_read.source.tokens) None) (map first_at r.uses)
-    → v ≡ visit_module (tree_of r.module_read) (started (record { source = r.module_read.source; ordinals = sought; declaration = Some 0; new = y }))
-    → ordinals ≡ with_marks (replicate (length r.module_read.source.tokens) None) v.marks → map (ordinal_in ordinals) r.uses ≡ ordinals_seen (named_tree_of r.module_read) y
+pub seen_in_places : (r : Resolution) (y : Name) (v : WalkState) (sought ordinals : List (Option ℕ)) → IsResolution r → sought ≡ with_marks (replicate (length r.module_read.source.tokens) None) (map zero_mark_at r.uses)
+    → v ≡ visit_module (tree_of r.module_read) (initial_walk (record { source = r.module_read.source; ordinals = sought; declaration = Some 0; new = y }))
+    → ordinals ≡ with_marks (replicate (length r.module_read.source.tokens) None) v.marks → map (ordinal_in ordinals) r.uses ≡ resolve_at_occurrences (named_tree_of r.module_read) y
 seen_in_places r y v sought ordinals is table gone tabled =
     let m = r.module_read in
-    let w : Writing = record { source = m.source; ordinals = sought; declaration = Some 0; new = y } in
+    let w : Spellings = record { source = m.source; ordinals = sought; declaration = Some 0; new = y } in
     let ids = identifiers role.Declaring (tree_of m) in
-    let passed = module_passed (ordinal_in ordinals) forget w (tree_of m) (started w) (at_start w) in
+    let passed = module_passed (ordinal_in ordinals) forget w (tree_of m) (initial_walk w) (at_start w) in
     let agree = (passed.agree (marks_in_table m w v ordinals is.parsed gone tabled)).1 in
     let reported_so : AllMarked sought ids = subst (λ (t : List (Option ℕ)). AllMarked t ids) (sym table) (uses_reported r is) in
     ap (map (ordinal_in ordinals)) is.occurring
     ∙ (sym (occurrences-mapped (ordinal_in ordinals) (value_at m.source) (tree_of m))
     ∙ (sym (ap occurrences agree)
-    ∙ (module_alike y (name_at w) (text_at m.source) (value_at m.source) (tree_of m) (all_sought m.source sought y ids reported_so)
-    ∙ forgotten (looking_for y) (named_tree_of m))))
+    ∙ (module_alike y (spelling_at w) (text_at m.source) (value_at m.source) (tree_of m) (all_sought m.source sought y ids reported_so)
+    ∙ forgotten (lookup_naming y) (named_tree_of m))))
 
 -- Each entry of the list is the binding of the name in that place.
-pub sees_entry : (m : Tree Name module_text) (y : Name) (k : ℕ) → option_and_then (λ o. o) (slice_get (ordinals_seen m y) k) ≡ sees m k y
+pub sees_entry : (m : Tree Name module_text) (y : Name) (k : ℕ) → option_and_then (λ o. o) (slice_get (resolve_at_occurrences m y) k) ≡ resolve_at_occurrence m k y
 sees_entry m y k =
-    let ls = occurrences (relabelled (looking_for y) (as_label (looking_for y)) m) in
+    let ls = occurrences (relabel_module (lookup_naming y) (label_from_ordinal (lookup_naming y)) m) in
     ap (option_and_then (λ o. o)) (slice_get-map label_ordinal ls k) ∙ back (slice_get ls k)
   where
     back : (found : Option Label) → option_and_then (λ o. o) (option_map label_ordinal found) ≡ option_and_then label_ordinal found

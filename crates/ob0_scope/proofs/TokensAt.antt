@@ -6,13 +6,13 @@ use Rattle.std.specs.List.{position_from}
 use Rattle.std.specs.List.Sorted.{IsNonDecreasingBy, IsPartitionPoint}
 use Rattle.std.proofs.lemmas.Bool.{and_parts, leb-true, ltb-false, ltb-true}
 use Rattle.ob0_scan.specs.Lexed.{Lexeme}
-use Rattle.ob0_scan.specs.Scanned.{IsScan, Scanned, span_from, token_at, tokens_from}
+use Rattle.ob0_scan.specs.TextWithTokens.{IsScan, TextWithTokens, span_from, token_at, tokens_from}
 use Rattle.ob0_scan.specs.declared.lexeme.LexemeKind.{LexemeKind}
 use Rattle.ob0_scan.specs.declared.lexeme.LexemeKind.TheVariants as lexeme
 use Rattle.ob0_scan.specs.declared.lexeme.Token.{Token}
 use Rattle.ob0_scan.proofs.AtLexemes.{Full, full}
 use Rattle.ob0_scope_table.specs.Spans.{is_on}
-use Rattle.ob0_scope.specs.Listing.{TokensAreApart, is_identifier, is_name_on}
+use Rattle.ob0_scope.specs.Listing.{TokensAreApart, is_identifier, is_identifier_on}
 
 -- ---- the tokens of a text
 
@@ -29,7 +29,7 @@ apart_from : (from : ℕ) (ls : List Lexeme) → Full ls → TokensAreApart from
 apart_from from [] h = tt
 apart_from from (l ∷ ls) h = apart_one l.kind from (length l.text) (tokens_from (from + length l.text) ls) h.0 (apart_from (from + length l.text) ls h.1)
 
-pub scan_apart : (s : Scanned) → IsScan s → TokensAreApart 0 s.tokens
+pub scan_apart : (s : TextWithTokens) → IsScan s → TokensAreApart 0 s.tokens
 scan_apart s scan = subst (TokensAreApart 0) (sym scan.tokens) (apart_from 0 scan.lexemes (full scan.lexemes [] scan.lexed.each))
 
 beyond : (from : ℕ) (ts : List Token) (j : ℕ) (d : Token) → TokensAreApart from ts → j < length ts → from ≤ (get_or ts j d).span.end
@@ -50,7 +50,7 @@ ends_rise from (t ∷ ts) h (suc i) (suc j) d le less = ends_rise t.span.end ts 
 
 module _ (offset : ℕ) where
   abbrev on : Token → Bool
-  on t = is_name_on offset t
+  on t = is_identifier_on offset t
 
   abbrev Splits : List Token → ℕ → Type 0
   Splits ts i = IsPartitionPoint (λ (t : Token). nat_lt t.span.end offset ≡ true) (λ (t : Token). nat_lt t.span.end offset ≡ false) ts i

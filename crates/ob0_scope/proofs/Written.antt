@@ -4,55 +4,55 @@ use Rattle.std.proofs.Common.{◌≡◌, ℕ, ◌+◌, Bool, true, false, cond, 
 use Rattle.std.specs.List.{filter}
 use Rattle.ob0_scan.specs.declared.lexeme.Token.{Token}
 use Rattle.ob0_tree.proofs.Leaves.{ascending_lower, leaves_are_identifiers, leaves_ascend}
-use Rattle.ob0_tree.specs.Order.{AreIdentifiers, Ascending, names_only}
-use Rattle.ob0_tree.specs.Parsed.{tree_of}
+use Rattle.ob0_tree.specs.Order.{AreIdentifierTokens, AreAscending, names_without_roles}
+use Rattle.ob0_tree.specs.ParsedModule.{tree_of}
 use Rattle.ob0_tree.specs.Places.{text_at, value_at}
 use Rattle.ob0_tree.specs.Tree.{identifiers}
 use Rattle.ob0_tree.specs.declared.tree.Role.{Role}
 use Rattle.ob0_tree.specs.declared.tree.Role.TheVariants as role
 use Rattle.ob0_language_names.specs.Names.{Name}
-use Rattle.ob0_scope.specs.Renames.{renamed_in}
+use Rattle.ob0_scope.specs.Renames.{renamed_writing}
 use Rattle.ob0_scope_table.specs.Resolution.{IsResolution, Resolution, ordinal_in}
 use Rattle.ob0_language_names.specs.Scopes.{same_ordinal}
-use Rattle.ob0_scope_numbering.specs.Written.{name_at}
+use Rattle.ob0_scope_numbering.specs.Written.{spelling_at}
 use Rattle.ob0_scope.proofs.Renumbered.{renamed_spelled}
-use Rattle.ob0_scope.specs.NamesAtPlaces.{IsRenamedAt, is_among, tokens_bound}
+use Rattle.ob0_scope.specs.NamesAtPlaces.{IsRenamedAt, is_among, tokens_bound_to}
 use Rattle.ob0_scope.proofs.Alike.{AllAlike, alike}
 use Rattle.ob0_scope.proofs.Placed.{bound_listed, is_listed, tokens_listed}
 
 -- A selection of ascending tokens ascends, and a selection of identifiers has only identifiers.
 
-kept_ascends : (test : Role × ℕ → Bool) (low : ℕ) (xs : List (Role × ℕ)) (high : ℕ) → Ascending low (names_only xs) high → Ascending low (names_only (filter test xs)) high
+kept_ascends : (test : Role × ℕ → Bool) (low : ℕ) (xs : List (Role × ℕ)) (high : ℕ) → AreAscending low (names_without_roles xs) high → AreAscending low (names_without_roles (filter test xs)) high
 kept_ascends test low [] high h = h
 kept_ascends test low (x ∷ xs) high h = one (test x) (kept_ascends test (x.1 + 1) xs high h.1)
   where
-    one : (b : Bool) → Ascending (x.1 + 1) (names_only (filter test xs)) high → Ascending low (names_only (cond b (x ∷ filter test xs) (filter test xs))) high
+    one : (b : Bool) → AreAscending (x.1 + 1) (names_without_roles (filter test xs)) high → AreAscending low (names_without_roles (cond b (x ∷ filter test xs) (filter test xs))) high
     one true e = (h.0, e)
-    one false e = ascending_lower low (x.1 + 1) (names_only (filter test xs)) high (omega (arith, h.0)) e
+    one false e = ascending_lower low (x.1 + 1) (names_without_roles (filter test xs)) high (omega (arith, h.0)) e
 
-kept_are_identifiers : (test : Role × ℕ → Bool) (ts : List Token) (xs : List (Role × ℕ)) → AreIdentifiers ts (names_only xs) → AreIdentifiers ts (names_only (filter test xs))
+kept_are_identifiers : (test : Role × ℕ → Bool) (ts : List Token) (xs : List (Role × ℕ)) → AreIdentifierTokens ts (names_without_roles xs) → AreIdentifierTokens ts (names_without_roles (filter test xs))
 kept_are_identifiers test ts [] h = tt
 kept_are_identifiers test ts (x ∷ xs) h = one (test x) (kept_are_identifiers test ts xs h.1)
   where
-    one : (b : Bool) → AreIdentifiers ts (names_only (filter test xs)) → AreIdentifiers ts (names_only (cond b (x ∷ filter test xs) (filter test xs)))
+    one : (b : Bool) → AreIdentifierTokens ts (names_without_roles (filter test xs)) → AreIdentifierTokens ts (names_without_roles (cond b (x ∷ filter test xs) (filter test xs)))
     one true e = (h.0, e)
     one false e = e
 
-pub bound_ascend : (r : Resolution) (d : ℕ) (include : Bool) → IsResolution r → Ascending 0 (tokens_bound r.module_read d include) (length r.module_read.source.tokens)
+pub bound_ascend : (r : Resolution) (d : ℕ) (include : Bool) → IsResolution r → AreAscending 0 (tokens_bound_to r.module_read d include) (length r.module_read.source.tokens)
 bound_ascend r d include is =
     let m = r.module_read in
-    subst (λ xs. Ascending 0 xs (length m.source.tokens)) (bound_listed r d include is)
+    subst (λ xs. AreAscending 0 xs (length m.source.tokens)) (bound_listed r d include is)
     (kept_ascends (is_listed r.ordinals include d) 0 (identifiers role.Declaring (tree_of m)) (length m.source.tokens) (leaves_ascend m is.parsed))
 
-pub bound_are_identifiers : (r : Resolution) (d : ℕ) (include : Bool) → IsResolution r → AreIdentifiers r.module_read.source.tokens (tokens_bound r.module_read d include)
+pub bound_are_identifiers : (r : Resolution) (d : ℕ) (include : Bool) → IsResolution r → AreIdentifierTokens r.module_read.source.tokens (tokens_bound_to r.module_read d include)
 bound_are_identifiers r d include is =
     let m = r.module_read in
-    subst (AreIdentifiers m.source.tokens) (bound_listed r d include is)
+    subst (AreIdentifierTokens m.source.tokens) (bound_listed r d include is)
     (kept_are_identifiers (is_listed r.ordinals include d) m.source.tokens (identifiers role.Declaring (tree_of m)) (leaves_are_identifiers m is.parsed))
 
 -- An identifier is in the selection if it is bound to d.
 
-among_kept : (ordinals : List (Option ℕ)) (d i : ℕ) (xs : List (Role × ℕ)) → is_among i (tokens_listed ordinals true d xs) ≡ (same_ordinal (ordinal_in ordinals i) d && is_among i (names_only xs))
+among_kept : (ordinals : List (Option ℕ)) (d i : ℕ) (xs : List (Role × ℕ)) → is_among i (tokens_listed ordinals true d xs) ≡ (same_ordinal (ordinal_in ordinals i) d && is_among i (names_without_roles xs))
 among_kept ordinals d i [] = none (same_ordinal (ordinal_in ordinals i) d)
   where
     none : (b : Bool) → false ≡ (b && false)
@@ -62,16 +62,16 @@ among_kept ordinals d i (x ∷ xs) =
     one (same_ordinal (ordinal_in ordinals x.1) d) refl (i == x.1) refl (among_kept ordinals d i xs)
   where
     one : (b : Bool) → same_ordinal (ordinal_in ordinals x.1) d ≡ b → (c : Bool) → (i == x.1) ≡ c
-        → is_among i (tokens_listed ordinals true d xs) ≡ (same_ordinal (ordinal_in ordinals i) d && is_among i (names_only xs))
+        → is_among i (tokens_listed ordinals true d xs) ≡ (same_ordinal (ordinal_in ordinals i) d && is_among i (names_without_roles xs))
         → is_among i (map (λ (x : Role × ℕ). x.1) (cond (b && true) (x ∷ filter (is_listed ordinals true d) xs) (filter (is_listed ordinals true d) xs)))
-        ≡ (same_ordinal (ordinal_in ordinals i) d && (c || is_among i (names_only xs)))
+        ≡ (same_ordinal (ordinal_in ordinals i) d && (c || is_among i (names_without_roles xs)))
     one true p true q e =
         let here : same_ordinal (ordinal_in ordinals i) d ≡ true = ap (λ k. same_ordinal (ordinal_in ordinals k) d) (eqb-true i x.1 q) ∙ p in
         ap (λ b. b || is_among i (tokens_listed ordinals true d xs)) q ∙ sym (ap (λ b. b && true) here)
     one true p false q e = ap (λ b. b || is_among i (tokens_listed ordinals true d xs)) q ∙ e
     one false p true q e =
         let here : same_ordinal (ordinal_in ordinals i) d ≡ false = ap (λ k. same_ordinal (ordinal_in ordinals k) d) (eqb-true i x.1 q) ∙ p in
-        e ∙ ((λ j. here j && is_among i (names_only xs)) ∙ sym (ap (λ b. b && true) here))
+        e ∙ ((λ j. here j && is_among i (names_without_roles xs)) ∙ sym (ap (λ b. b && true) here))
     one false p false q e = e
 
 -- holds if all tokens of one list are in another
@@ -95,8 +95,8 @@ among_self (x ∷ xs) = (ap (λ b. b || is_among x xs) same, among_more x xs xs 
     same = eq-eqb x x refl
 
 all_alike : (r : Resolution) (d : ℕ) (new : Name) (places all : List ℕ) (xs : List (Role × ℕ))
-    → ((i : ℕ) → is_among i places ≡ (same_ordinal (ordinal_in r.ordinals i) d && is_among i all)) → AllAmong all (names_only xs)
-    → AllAlike (name_at (renamed_in r d new)) (λ i. if is_among i places then new else text_at r.module_read.source i) (value_at r.module_read.source) xs
+    → ((i : ℕ) → is_among i places ≡ (same_ordinal (ordinal_in r.ordinals i) d && is_among i all)) → AllAmong all (names_without_roles xs)
+    → AllAlike (spelling_at (renamed_writing r d new)) (λ i. if is_among i places then new else text_at r.module_read.source i) (value_at r.module_read.source) xs
 all_alike r d new places all [] h among = tt
 all_alike r d new places all (x ∷ xs) h among =
     let bound = same_ordinal (ordinal_in r.ordinals x.1) d in (
@@ -108,12 +108,12 @@ all_alike r d new places all (x ∷ xs) h among =
     and_true true = refl
     and_true false = refl
 
-pub renamed_there : (r : Resolution) (d : ℕ) → IsResolution r → IsRenamedAt r.module_read d (tokens_bound r.module_read d true)
+pub renamed_there : (r : Resolution) (d : ℕ) → IsResolution r → IsRenamedAt r.module_read d (tokens_bound_to r.module_read d true)
 renamed_there r d is new =
     let m = r.module_read in
     let ids = identifiers role.Declaring (tree_of m) in
-    let places = tokens_bound m d true in
+    let places = tokens_bound_to m d true in
     let among = λ (i : ℕ). ap (is_among i) (sym (bound_listed r d true is)) ∙ among_kept r.ordinals d i ids in
-    let f = name_at (renamed_in r d new) in
+    let f = spelling_at (renamed_writing r d new) in
     let f' = λ (i : ℕ). if is_among i places then new else text_at m.source i in
-    renamed_spelled r d new is ∙ (alike f f' (value_at m.source) role.Declaring (tree_of m)).reads (all_alike r d new places (names_only ids) ids among (among_self (names_only ids)))
+    renamed_spelled r d new is ∙ (alike f f' (value_at m.source) role.Declaring (tree_of m)).reads (all_alike r d new places (names_without_roles ids) ids among (among_self (names_without_roles ids)))

@@ -5,13 +5,13 @@ use Rattle.std.specs.Prelude.{◌≡◌, ℕ, ◌+◌, ◌-◌, ◌^◌, min, na
 use Rattle.ob0_scan.specs.declared.tokens.SameTokens.{SameTokens}
 use Rattle.ob0_tree.specs.declared.tree.Role.{Role}
 use Rattle.ob0_tree.specs.declared.tree.Role.TheVariants as role
-use Rattle.ob0_tree.specs.Parsed.{Parsed, tree_of}
+use Rattle.ob0_tree.specs.ParsedModule.{ParsedModule, tree_of}
 use Rattle.ob0_tree.specs.Tree.{identifiers, occurrences}
-use Rattle.ob0_tree.specs.FirstIdentifier.{first_of}
-use Rattle.ob0_scope_table.specs.BodyReplaced.{body_at, closing_at, way_to}
+use Rattle.ob0_tree.specs.FirstIdentifier.{first_token_of}
+use Rattle.ob0_scope_table.specs.BodyReplaced.{body_at, closing_name_in_module, way_in_module}
 use Rattle.ob0_scope_table.specs.declared.resolved.Bindings.{Bindings}
 use Rattle.ob0_scope.specs.NewBody.{WasBoundElsewhere}
-use Rattle.ob0_scope.specs.declared.carrying.BodyRange.{BodyRange}
+use Rattle.ob0_scope.specs.declared.body_range.BodyRange.{BodyRange}
 
 -- the first identifier of a body, if one has been seen, and the body's occurrences so far
 pub record NamesInBody : Type 0 where
@@ -41,26 +41,26 @@ with_name role.FieldName i names = record names { first = first_or names.first i
 with_name role.ModuleName i names = record names { first = first_or names.first i }
 
 -- returns the tokens of a list that are before a body
-abbrev pub before_body : BodyRange → List ℕ → List ℕ
-before_body range [] = []
-before_body range (i ∷ is) =
-    if nat_lt i range.first then i ∷ before_body range is else before_body range is
+abbrev pub tokens_before_body : BodyRange → List ℕ → List ℕ
+tokens_before_body range [] = []
+tokens_before_body range (i ∷ is) =
+    if nat_lt i range.first then i ∷ tokens_before_body range is else tokens_before_body range is
 
 -- returns the new index of a token after a body, at most 2^64 - 1
-abbrev pub shifted : BodyRange → ℕ → ℕ
-shifted range i = min (i - range.old_closing + range.closing) (2 ^ 64 - 1)
+abbrev pub shifted_token : BodyRange → ℕ → ℕ
+shifted_token range i = min (i - range.old_closing + range.closing) (2 ^ 64 - 1)
 
 -- returns the tokens of a list that are after a body, with their new indexes
-abbrev pub after_body : BodyRange → List ℕ → List ℕ
-after_body range [] = []
-after_body range (i ∷ is) =
-    if nat_lt i range.old_closing then after_body range is
-    else shifted range i ∷ after_body range is
+abbrev pub tokens_after_body : BodyRange → List ℕ → List ℕ
+tokens_after_body range [] = []
+tokens_after_body range (i ∷ is) =
+    if nat_lt i range.old_closing then tokens_after_body range is
+    else shifted_token range i ∷ tokens_after_body range is
 
 -- returns the tokens of a list with their new indexes; `own`, the tokens in the new body, replace
 -- the tokens in the old body
-abbrev pub carried : BodyRange → List ℕ → List ℕ → List ℕ
-carried range tokens own = before_body range tokens ++ (own ++ after_body range tokens)
+abbrev pub carried_tokens : BodyRange → List ℕ → List ℕ → List ℕ
+carried_tokens range tokens own = tokens_before_body range tokens ++ (own ++ tokens_after_body range tokens)
 
 -- returns the first `n` entries of a table; missing entries are None
 abbrev pub padded : ℕ → List (Option ℕ) → List (Option ℕ)
@@ -68,22 +68,22 @@ padded n table = take n table ++ replicate (n - length table) None
 
 -- returns a table of ordinals with each entry at its token's new index; the entries of the new body
 -- are None
-abbrev pub carried_table : BodyRange → List (Option ℕ) → List (Option ℕ)
-carried_table range table =
+abbrev pub carried_ordinals : BodyRange → List (Option ℕ) → List (Option ℕ)
+carried_ordinals range table =
     padded range.closing (take range.first table) ++ drop range.old_closing table
 
 -- returns the old index of the closing name after the replaced statements, given its new index; at
 -- most 2^64 - 1
-abbrev pub old_place : SameTokens → ℕ → ℕ
-old_place same closing = min (closing - same.new_suffix + same.old_suffix) (2 ^ 64 - 1)
+abbrev pub old_closing_token : SameTokens → ℕ → ℕ
+old_closing_token same closing = min (closing - same.new_suffix + same.old_suffix) (2 ^ 64 - 1)
 
 -- Holds if `range` is the range of the new statements in a module in which one body's statements
 -- were replaced, and `own` has their occurrences. `b` has the bindings of the old module.
-pub record IsNewBody (m : Parsed) (b : Bindings) (range : BodyRange) (own : List ℕ) : Type 0 where
+pub record IsNewBody (m : ParsedModule) (b : Bindings) (range : BodyRange) (own : List ℕ) : Type 0 where
   pub same : SameTokens
   pub was : WasBoundElsewhere m b same
-  pub first : first_of (identifiers role.Declaring (body_at (way_to same.prefix (tree_of m)) (tree_of m)))
+  pub first : first_token_of (identifiers role.Declaring (body_at (way_in_module same.prefix (tree_of m)) (tree_of m)))
       ≡ Some range.first
-  pub closing : range.closing ≡ closing_at (way_to same.prefix (tree_of m)) (tree_of m)
-  pub old_closing : range.old_closing ≡ old_place same range.closing
-  pub uses : own ≡ occurrences (body_at (way_to same.prefix (tree_of m)) (tree_of m))
+  pub closing : range.closing ≡ closing_name_in_module (way_in_module same.prefix (tree_of m)) (tree_of m)
+  pub old_closing : range.old_closing ≡ old_closing_token same range.closing
+  pub uses : own ≡ occurrences (body_at (way_in_module same.prefix (tree_of m)) (tree_of m))

@@ -10,13 +10,13 @@ use Rattle.ob0_scope_table.specs.Spans.{is_on}
 -- returns true for the kind of an identifier
 abbrev pub is_identifier : TokenKind → Bool
 is_identifier kind.Identifier = true
-is_identifier (kind.Reserved word) = false
+is_identifier (kind.ReservedWord word) = false
 is_identifier (kind.Integer value) = false
 is_identifier (kind.Symbol symbol) = false
 
 -- returns true for an identifier that contains the place `offset` or ends there
-abbrev pub is_name_on : ℕ → Token → Bool
-is_name_on offset t = is_identifier t.kind && is_on offset t.span
+abbrev pub is_identifier_on : ℕ → Token → Bool
+is_identifier_on offset t = is_identifier t.kind && is_on offset t.span
 
 -- holds if each token has at least one byte and begins at or after the end of the token before it;
 -- the first one begins at or after `from`
@@ -27,17 +27,17 @@ TokensAreApart from (t ∷ ts) =
 
 -- Returns the indexes of the entries of a table that have the ordinal `d`, without the omitted
 -- index. The first entry has the index `i`.
-abbrev pub tokens_with : Option ℕ → ℕ → ℕ → List (Option ℕ) → List ℕ
-tokens_with omitted d i [] = []
-tokens_with omitted d i (ordinal ∷ ordinals) =
+abbrev pub tokens_with_ordinal : Option ℕ → ℕ → ℕ → List (Option ℕ) → List ℕ
+tokens_with_ordinal omitted d i [] = []
+tokens_with_ordinal omitted d i (ordinal ∷ ordinals) =
     if same_ordinal ordinal d && not (same_ordinal omitted i)
-    then i ∷ tokens_with omitted d (i + 1) ordinals
-    else tokens_with omitted d (i + 1) ordinals
+    then i ∷ tokens_with_ordinal omitted d (i + 1) ordinals
+    else tokens_with_ordinal omitted d (i + 1) ordinals
 
 -- returns the tokens from `first` upwards that have the ordinal `d` in a table, without the omitted
 -- token
-abbrev pub tokens_from : Option ℕ → ℕ → ℕ → List (Option ℕ) → List ℕ
-tokens_from omitted d first ordinals = tokens_with omitted d first (drop first ordinals)
+abbrev pub tokens_bound_from : Option ℕ → ℕ → ℕ → List (Option ℕ) → List ℕ
+tokens_bound_from omitted d first ordinals = tokens_with_ordinal omitted d first (drop first ordinals)
 
 -- returns the declaring token as the token to omit; None if `include` is true
 abbrev pub omitted_token : Bool → Option ℕ → Option ℕ
@@ -45,6 +45,6 @@ omitted_token include declaring = if include then None else declaring
 
 -- returns the first token that can refer to a declaration: the declaring token, or 0 for a
 -- predeclared name
-abbrev pub first_token : Option ℕ → ℕ
-first_token None = 0
-first_token (Some token) = token
+abbrev pub first_bound_token : Option ℕ → ℕ
+first_bound_token None = 0
+first_bound_token (Some token) = token

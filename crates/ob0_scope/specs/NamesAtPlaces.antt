@@ -5,7 +5,7 @@ use Rattle.std.specs.List.{filter, find, zip}
 use Rattle.ob0_tree.specs.declared.tree.Role.{Role}
 use Rattle.ob0_tree.specs.declared.tree.Role.TheVariants as role
 use Rattle.ob0_tree.specs.Order.{leaves}
-use Rattle.ob0_tree.specs.Parsed.{Parsed, named_tree_of, tree_of}
+use Rattle.ob0_tree.specs.ParsedModule.{ParsedModule, named_tree_of, tree_of}
 use Rattle.ob0_tree.specs.Places.{text_at, value_at}
 use Rattle.ob0_tree.specs.Tree.{identifiers, mapped}
 use Rattle.ob0_language_names.specs.Names.{Label, Name, declared, same_label}
@@ -20,22 +20,22 @@ abbrev pub BoundIdentifier : Type 0
 BoundIdentifier = (Role × ℕ) × Label
 
 -- returns the identifiers of a module in text order, each with its role, its token and its label
-abbrev pub bound_identifiers : Parsed → List BoundIdentifier
+abbrev pub bound_identifiers : ParsedModule → List BoundIdentifier
 bound_identifiers m =
     zip (identifiers role.Declaring (tree_of m)) (leaves (numbered (named_tree_of m)))
 
 -- returns the first identifier that contains a byte offset or ends there; None if there is none
-abbrev pub identifier_on : Parsed → ℕ → Option BoundIdentifier
+abbrev pub identifier_on : ParsedModule → ℕ → Option BoundIdentifier
 identifier_on m offset = find (λ s. is_on offset (span_at m.source s.0.1)) (bound_identifiers m)
 
 -- returns the token of an identifier and the ordinal of its declaration; None if it is unbound
-abbrev pub named_by : BoundIdentifier → Option named.Named
-named_by s = option_map (λ ordinal. record { token = s.0.1; ordinal = ordinal }) (label_ordinal s.1)
+abbrev pub bound_name_of : BoundIdentifier → Option named.Named
+bound_name_of s = option_map (λ ordinal. record { token = s.0.1; ordinal = ordinal }) (label_ordinal s.1)
 
 -- returns the name that contains a byte offset or ends there; None if there is none, or it is a
 -- field or the module's name
-abbrev pub name_on : Parsed → ℕ → Option named.Named
-name_on m offset = option_and_then named_by (identifier_on m offset)
+abbrev pub name_on : ParsedModule → ℕ → Option named.Named
+name_on m offset = option_and_then bound_name_of (identifier_on m offset)
 
 -- returns true for the role of a declaring identifier
 abbrev pub is_declaring : Role → Bool
@@ -47,13 +47,13 @@ is_declaring role.ModuleName = false
 
 -- returns true for an identifier that is bound to `d`; the declaring one counts only if `include`
 -- is true
-abbrev pub refers : Bool → ℕ → BoundIdentifier → Bool
-refers include d s = same_label s.1 (declared d) && (include || not (is_declaring s.0.0))
+abbrev pub is_bound_to : Bool → ℕ → BoundIdentifier → Bool
+is_bound_to include d s = same_label s.1 (declared d) && (include || not (is_declaring s.0.0))
 
 -- returns the tokens of the identifiers that are bound to `d`; the declaring one is among them only
 -- if `include` is true
-abbrev pub tokens_bound : Parsed → ℕ → Bool → List ℕ
-tokens_bound m d include = map (λ s. s.0.1) (filter (refers include d) (bound_identifiers m))
+abbrev pub tokens_bound_to : ParsedModule → ℕ → Bool → List ℕ
+tokens_bound_to m d include = map (λ s. s.0.1) (filter (is_bound_to include d) (bound_identifiers m))
 
 -- returns true if a token is in a list
 abbrev pub is_among : ℕ → List ℕ → Bool
@@ -61,7 +61,7 @@ is_among i [] = false
 is_among i (x ∷ xs) = i == x || is_among i xs
 
 -- Holds if renaming `d` to any name writes this name at these tokens and changes nothing else.
-abbrev pub IsRenamedAt : Parsed → ℕ → List ℕ → Type 0
+abbrev pub IsRenamedAt : ParsedModule → ℕ → List ℕ → Type 0
 IsRenamedAt m d tokens =
     (new : Name)
     → renamed (named_tree_of m) d new

@@ -1,16 +1,16 @@
 -- The bindings of a module before the statements of one body were replaced.
 -- Rule: none; for contracts of `rebind_new_body`.
 use Rattle.ob0_scan.specs.declared.tokens.SameTokens.{SameTokens}
-use Rattle.ob0_tree.specs.Parsed.{Parsed}
-use Rattle.ob0_scope_table.specs.Bindings.{resolution_by}
-use Rattle.ob0_scope_table.specs.BodyReplaced.{IsBodyReplaced, Way}
+use Rattle.ob0_tree.specs.ParsedModule.{ParsedModule}
+use Rattle.ob0_scope_table.specs.Bindings.{resolution_with}
+use Rattle.ob0_scope_table.specs.BodyReplaced.{IsBodyReplaced, WayToBody}
 use Rattle.ob0_scope_table.specs.Resolution.{IsResolution}
 use Rattle.ob0_scope_table.specs.declared.resolved.Bindings.{Bindings}
 
 -- holds if `b` has the bindings of some module before the statements of one body were replaced,
 -- which gave the module `m`
-pub record WasBoundElsewhere (m : Parsed) (b : Bindings) (s : SameTokens) : Type 0 where
-  pub old : Parsed
-  pub way : Way
+pub record WasBoundElsewhere (m : ParsedModule) (b : Bindings) (s : SameTokens) : Type 0 where
+  pub old : ParsedModule
+  pub way : WayToBody
   pub replaced : IsBodyReplaced old m way s
-  pub resolved : IsResolution (resolution_by old b)
+  pub resolved : IsResolution (resolution_with old b)

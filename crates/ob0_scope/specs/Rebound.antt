@@ -1,8 +1,8 @@
 -- The bindings of a module before the tokens of one body changed.
 -- Rule: none; for contracts of `rebind_body`.
-use Rattle.ob0_scan.specs.Scanned.{Scanned}
-use Rattle.ob0_tree.specs.Parsed.{IsParsed, Parsed}
-use Rattle.ob0_scope_table.specs.Bindings.{resolution_by}
+use Rattle.ob0_scan.specs.TextWithTokens.{TextWithTokens}
+use Rattle.ob0_tree.specs.ParsedModule.{IsParsed, ParsedModule}
+use Rattle.ob0_scope_table.specs.Bindings.{resolution_with}
 use Rattle.ob0_scope_table.specs.OneBody.{IsBodyChange}
 use Rattle.ob0_scope_table.specs.Resolution.{IsResolution}
 use Rattle.ob0_scope_table.specs.declared.resolved.Bindings.{Bindings}
@@ -10,8 +10,8 @@ use Rattle.std.specs.Prelude.{ℕ}
 
 -- holds if `b` has the bindings of the module before the tokens from `low` up to `high` changed,
 -- inside one body
-pub record WasBound (m : Parsed) (b : Bindings) (low high : ℕ) : Type 0 where
-  pub old : Scanned
+pub record WasBound (m : ParsedModule) (b : Bindings) (low high : ℕ) : Type 0 where
+  pub old : TextWithTokens
   pub change : IsBodyChange old m low high
   pub parsed : IsParsed m
-  pub resolved : IsResolution (resolution_by (record m { source = old }) b)
+  pub resolved : IsResolution (resolution_with (record m { source = old }) b)

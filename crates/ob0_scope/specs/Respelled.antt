@@ -3,34 +3,34 @@
 -- Rule: docs/LANGUAGE.md, Scopes 2 to 4.
 use Rattle.std.specs.Prelude.{◌≡◌, []}
 use Rattle.ob0_scan.specs.Reused.{kinds, names_in}
-use Rattle.ob0_scan.specs.Scanned.{Scanned}
-use Rattle.ob0_tree.specs.Parsed.{IsParsed, parsed_by}
+use Rattle.ob0_scan.specs.TextWithTokens.{TextWithTokens}
+use Rattle.ob0_tree.specs.ParsedModule.{IsParsed, parsed_module}
 use Rattle.ob0_tree.specs.declared.tree.ModuleTree.{ModuleTree}
-use Rattle.ob0_scope_table.specs.Bindings.{resolution_by}
+use Rattle.ob0_scope_table.specs.Bindings.{resolution_with}
 use Rattle.ob0_scope_table.specs.FaultTokens.{AreWrittenAlike, moved_faults}
 use Rattle.ob0_scope_table.specs.Resolution.{IsResolution}
 use Rattle.ob0_scope_table.specs.declared.resolved.Bindings.{Bindings}
 
 -- holds if the tokens of two texts have the same kinds, one by one, and their identifiers the same
 -- spellings
-pub record AreNamedAlike (old new : Scanned) : Type 0 where
+pub record AreNamedAlike (old new : TextWithTokens) : Type 0 where
   pub same_kinds : kinds new.tokens ≡ kinds old.tokens
   pub same_names : names_in new.text new.tokens ≡ names_in old.text old.tokens
 
 -- The bindings of a valid module are also the bindings of its tree over the tokens of another text.
 -- That text's tokens must have the same kinds, and its identifiers the same spellings.
-abbrev pub BindingsStay : Type 0
-BindingsStay =
-    (old new : Scanned) (tree : ModuleTree) (b : Bindings)
+abbrev pub BindingsDependOnNames : Type 0
+BindingsDependOnNames =
+    (old new : TextWithTokens) (tree : ModuleTree) (b : Bindings)
     → AreNamedAlike old new
-    → IsParsed (parsed_by new tree)
-    → IsResolution (resolution_by (parsed_by old tree) b)
+    → IsParsed (parsed_module new tree)
+    → IsResolution (resolution_with (parsed_module old tree) b)
     → b.faults.items ≡ []
-    → IsResolution (resolution_by (parsed_by new tree) b)
+    → IsResolution (resolution_with (parsed_module new tree) b)
 
 -- holds if `c` equals the bindings `b`, except that its faults are at the same tokens of the text
 -- `new`
-pub record AreMoved (old new : Scanned) (b c : Bindings) : Type 0 where
+pub record AreMoved (old new : TextWithTokens) (b c : Bindings) : Type 0 where
   pub ordinals : c.ordinals.items ≡ b.ordinals.items
   pub declarations : c.declarations.items ≡ b.declarations.items
   pub occurrences : c.occurrences.items ≡ b.occurrences.items
@@ -38,11 +38,11 @@ pub record AreMoved (old new : Scanned) (b c : Bindings) : Type 0 where
 
 -- The bindings of a module are also the bindings of its tree over tokens with the same spellings.
 -- Only the faults are moved to the same tokens.
-abbrev pub BindingsKeepTokens : Type 0
-BindingsKeepTokens =
-    (old new : Scanned) (tree : ModuleTree) (b c : Bindings)
+abbrev pub BindingsMoveWithTokens : Type 0
+BindingsMoveWithTokens =
+    (old new : TextWithTokens) (tree : ModuleTree) (b c : Bindings)
     → AreWrittenAlike old new
-    → IsParsed (parsed_by new tree)
-    → IsResolution (resolution_by (parsed_by old tree) b)
+    → IsParsed (parsed_module new tree)
+    → IsResolution (resolution_with (parsed_module old tree) b)
     → AreMoved old new b c
-    → IsResolution (resolution_by (parsed_by new tree) c)
+    → IsResolution (resolution_with (parsed_module new tree) c)

@@ -1,24 +1,24 @@
 //! Finds the duplicate declarations and wrong closing names of a module.
 //!
-//! `Checks` has the faults found so far, and each check appends its own faults. Up to 16 names of a
+//! `FoundFaults` has the faults found so far, and each check appends its own faults. Up to 16 names of a
 //! block or record are compared with one another. If there are more, they are inserted into a set.
 
 ghost use Rattle.std.specs.Prelude.{◌≡◌, ◌++◌, [], IfOk, OnOk, map, not};
 ghost use Rattle.std.specs.List.{list_any};
-ghost use Rattle.ob0_tree.specs.Parsed.{named_tree_of};
+ghost use Rattle.ob0_tree.specs.ParsedModule.{named_tree_of};
 ghost use Rattle.ob0_tree.specs.Places.{text_at};
-ghost use Rattle.ob0_tree.specs.View.{items_of, names_of, type_of, record_in, fields_of, constants_of, types_of, variables_of, formals_of, procedure_of, block_of};
+ghost use Rattle.ob0_tree.specs.View.{items_of, names_of, type_of, record_type_of, fields_of, constants_of, types_of, variables_of, formals_of, procedure_of, block_of};
 ghost use Rattle.ob0_language_names.specs.Names.{same_name};
-ghost use Rattle.ob0_language_names.specs.Parts.{names_listed, constant_names, named_types, variable_names, formal_names, formal_sections, section_constants, section_types, section_variables};
+ghost use Rattle.ob0_language_names.specs.Parts.{names_in_list, constant_names, declared_type_names, variable_names, formal_names, formal_sections, section_constants, section_types, section_variables};
 ghost use Rattle.ob0_language_names.specs.DeclaredOnce.{block_names, declared_once, group_fields, is_among, procedure_names};
-ghost use Rattle.ob0_scope_table.specs.Resolution.{is_of_declarations};
-ghost use Rattle.ob0_scope_table.specs.DeclaredTwice.{again, block_twice, closing_other, duplicate_at, fields_twice, formals_twice, group_twice, procedure_twice, twice_in, types_twice, unless, variables_twice};
+ghost use Rattle.ob0_scope_table.specs.Resolution.{is_declaration_fault};
+ghost use Rattle.ob0_scope_table.specs.DeclaredTwice.{duplicate_faults, block_declaration_faults, closing_name_faults, duplicate_fault, duplicate_fields, duplicate_fields_in_formals, duplicate_fields_in_group, procedure_declaration_faults, declaration_faults, duplicate_fields_in_types, fault_unless, duplicate_fields_in_variables};
 
-use ob0_scan::{Code, Fault, Tokens};
+use ob0_scan::{Fault, FaultCode, Tokens};
 use ob0_scope_table::token_span;
 use ob0_tree::{
-    Block, Constant, Fields, Module, Names, Procedure, RecordType, Section, TypeDeclaration,
-    Variables, WrittenType, text_at,
+    Block, Constant, Fields, Module, Names, ParameterSection, Procedure, RecordType,
+    TypeDeclaration, VariableDeclaration, WrittenType, text_at,
 };
 use std::alloc::{AllocError, Global};
 use std::collections::BTreeSet;
@@ -26,16 +26,16 @@ use std::marker::Model;
 
 /// The greatest number of names that are compared with one another. More names are inserted into a
 /// set.
-const FEW: usize = 16;
+const MAX_PAIRWISE: usize = 16;
 
 /// The duplicate declarations and wrong closing names that were found so far.
 #[derive(Drop)]
-struct Checks {
+struct FoundFaults {
     alloc: Global,
     faults: Vec<Fault>,
 }
 
-impl Model for Checks {
+impl Model for FoundFaults {
     ghost use Rattle.std.specs.Prelude.{List};
     ghost use Rattle.ob0_scan.specs.declared.fault.Fault.{Fault};
 
@@ -45,41 +45,44 @@ impl Model for Checks {
 }
 
 /// Returns the duplicate declarations and wrong closing names of a module.
-pub(crate) fn check<'t>(alloc: Global, read: &'t Module<'t>) -> Result<Vec<Fault>, AllocError>
-    ensures { IfOk result (λ faults. faults.items ≡ twice_in read.now) }
+pub(crate) fn check_declarations<'t>(
+    alloc: Global,
+    read: &'t Module<'t>,
+) -> Result<Vec<Fault>, AllocError>
+    ensures { IfOk result (λ faults. faults.items ≡ declaration_faults read.now) }
 {
-    let mut checks = Checks {
+    let mut checks = FoundFaults {
         alloc,
         faults: Vec::new(alloc),
     };
-    checks.closing(read.tokens(), read.name(), read.closing())?;
+    checks.closing(read.tokens(), read.name(), read.closing_name())?;
     checks.block(read.tokens(), Vec::new(alloc), read.block())?;
     Ok(checks.into_faults())
 }
 
 /// Returns the duplicate declarations and wrong closing names of a module. `known` must contain such a fault exactly if
 /// the module has one. If `known` contains none, the module isn't walked.
-pub(crate) fn check_again<'t>(
+pub(crate) fn recheck_declarations<'t>(
     alloc: Global,
     read: &'t Module<'t>,
     known: &[Fault],
 ) -> Result<Vec<Fault>, AllocError>
-    requires { list_any is_of_declarations known.now
+    requires { list_any is_declaration_fault known.now
         ≡ not (declared_once (named_tree_of read.now)) }
-    ensures { IfOk result (λ faults. faults.items ≡ twice_in read.now) }
+    ensures { IfOk result (λ faults. faults.items ≡ declaration_faults read.now) }
 {
-    if has_of_declarations(known) {
-        return check(alloc, read);
+    if has_declaration_fault(known) {
+        return check_declarations(alloc, read);
     }
     Ok(Vec::new(alloc))
 }
 
 /// Returns true if one of the faults is a duplicate declaration or a wrong closing name.
-fn has_of_declarations(faults: &[Fault]) -> bool
-    ensures { result ≡ list_any is_of_declarations faults.now }
+fn has_declaration_fault(faults: &[Fault]) -> bool
+    ensures { result ≡ list_any is_declaration_fault faults.now }
 {
     for fault in faults {
-        if is_of_declarations(fault) {
+        if is_declaration_fault(fault) {
             return true;
         }
     }
@@ -87,31 +90,31 @@ fn has_of_declarations(faults: &[Fault]) -> bool
 }
 
 /// Returns true if the fault is a duplicate declaration or a wrong closing name.
-fn is_of_declarations(fault: &Fault) -> bool
-    ensures { result ≡ is_of_declarations fault.now }
+fn is_declaration_fault(fault: &Fault) -> bool
+    ensures { result ≡ is_declaration_fault fault.now }
 {
-    fault.code == Code::Duplicate || fault.code == Code::EndName
+    fault.code == FaultCode::Duplicate || fault.code == FaultCode::EndName
 }
 
 /// Returns true if two identifiers have the same spelling.
-fn is_same(tokens: &Tokens, a: usize, b: usize) -> bool
+fn have_same_spelling(tokens: &Tokens, a: usize, b: usize) -> bool
     ensures { result ≡ same_name (text_at tokens.now a) (text_at tokens.now b) }
 {
     text_at(tokens, a) == text_at(tokens, b)
 }
 
 /// Returns the fault `Duplicate` at a name.
-fn duplicate_at(tokens: &Tokens, name: usize) -> Fault
-    ensures { result ≡ duplicate_at tokens.now name }
+fn duplicate_fault(tokens: &Tokens, name: usize) -> Fault
+    ensures { result ≡ duplicate_fault tokens.now name }
 {
     Fault {
-        code: Code::Duplicate,
+        code: FaultCode::Duplicate,
         span: token_span(tokens, name),
     }
 }
 
 /// Returns true if one of these identifiers has the spelling `text`.
-fn is_written(tokens: &Tokens, names: &[usize], text: &str) -> bool
+fn contains_spelling(tokens: &Tokens, names: &[usize], text: &str) -> bool
     ensures { result ≡ is_among text.now (map (text_at tokens.now) names.now) }
 {
     for name in names {
@@ -123,8 +126,8 @@ fn is_written(tokens: &Tokens, names: &[usize], text: &str) -> bool
 }
 
 /// Appends the tokens of the names in a list.
-fn add_names(out: &mut Vec<usize>, ns: &Names) -> Result<(), AllocError>
-    ensures { OnOk result (out.new.items ≡ out.old.items ++ names_listed (names_of ns.now)) }
+fn append_names(out: &mut Vec<usize>, ns: &Names) -> Result<(), AllocError>
+    ensures { OnOk result (out.new.items ≡ out.old.items ++ names_in_list (names_of ns.now)) }
 {
     out.push(ns.first)?;
     for name in &ns.more {
@@ -134,17 +137,20 @@ fn add_names(out: &mut Vec<usize>, ns: &Names) -> Result<(), AllocError>
 }
 
 /// Appends the tokens of the names in a group of fields.
-fn add_fields(out: &mut Vec<usize>, group: &Fields) -> Result<(), AllocError>
+fn append_field_names(out: &mut Vec<usize>, group: &Fields) -> Result<(), AllocError>
     ensures { OnOk result (out.new.items ≡ out.old.items ++ group_fields (fields_of group.now)) }
 {
     match group {
         Fields::Empty => Ok(()),
-        Fields::Listed(list) => add_names(out, &list.names),
+        Fields::Listed(list) => append_names(out, &list.names),
     }
 }
 
 /// Appends the tokens of the names that a CONST section declares.
-fn add_constants(out: &mut Vec<usize>, section: &Option<Vec<Constant>>) -> Result<(), AllocError>
+fn append_constant_names(
+    out: &mut Vec<usize>,
+    section: &Option<Vec<Constant>>,
+) -> Result<(), AllocError>
     ensures { OnOk result (out.new.items
         ≡ out.old.items ++ constant_names (section_constants (constants_of section.now))) }
 {
@@ -157,9 +163,12 @@ fn add_constants(out: &mut Vec<usize>, section: &Option<Vec<Constant>>) -> Resul
 }
 
 /// Appends the tokens of the names that a TYPE section declares.
-fn add_types(out: &mut Vec<usize>, section: &Option<Vec<TypeDeclaration>>) -> Result<(), AllocError>
+fn append_type_names(
+    out: &mut Vec<usize>,
+    section: &Option<Vec<TypeDeclaration>>,
+) -> Result<(), AllocError>
     ensures { OnOk result
-        (out.new.items ≡ out.old.items ++ named_types (section_types (types_of section.now))) }
+        (out.new.items ≡ out.old.items ++ declared_type_names (section_types (types_of section.now))) }
 {
     if let Some(types) = section {
         for t in types {
@@ -170,22 +179,25 @@ fn add_types(out: &mut Vec<usize>, section: &Option<Vec<TypeDeclaration>>) -> Re
 }
 
 /// Appends the tokens of the names that a VAR section declares.
-fn add_variables(out: &mut Vec<usize>, section: &Option<Vec<Variables>>) -> Result<(), AllocError>
+fn append_variable_names(
+    out: &mut Vec<usize>,
+    section: &Option<Vec<VariableDeclaration>>,
+) -> Result<(), AllocError>
     ensures { OnOk result (out.new.items
         ≡ out.old.items ++ variable_names (section_variables (variables_of section.now))) }
 {
     if let Some(variables) = section {
         for v in variables {
-            add_names(out, &v.names)?;
+            append_names(out, &v.names)?;
         }
     }
     Ok(())
 }
 
 /// Appends the tokens of the names of formal parameters.
-pub(crate) fn add_formals(
+pub(crate) fn append_formal_names(
     out: &mut Vec<usize>,
-    formals: &Option<Vec<Section>>,
+    formals: &Option<Vec<ParameterSection>>,
 ) -> Result<(), AllocError>
     ensures { OnOk result
         (out.new.items ≡ out.old.items ++ formal_names (formal_sections (formals_of formals.now))) }
@@ -194,13 +206,13 @@ pub(crate) fn add_formals(
         return Ok(());
     };
     for s in sections {
-        add_names(out, &s.names)?;
+        append_names(out, &s.names)?;
     }
     Ok(())
 }
 
 /// Appends the tokens of the procedures' names.
-fn add_procedures(out: &mut Vec<usize>, procedures: &[Procedure]) -> Result<(), AllocError>
+fn append_procedure_names(out: &mut Vec<usize>, procedures: &[Procedure]) -> Result<(), AllocError>
     ensures { OnOk result
         (out.new.items ≡ out.old.items ++ procedure_names (items_of procedure_of procedures.now)) }
 {
@@ -211,27 +223,27 @@ fn add_procedures(out: &mut Vec<usize>, procedures: &[Procedure]) -> Result<(), 
 }
 
 /// Appends the tokens of the names that a block declares, without its procedure's parameters.
-pub(crate) fn add_block(out: &mut Vec<usize>, b: &Block) -> Result<(), AllocError>
+pub(crate) fn append_block_names(out: &mut Vec<usize>, b: &Block) -> Result<(), AllocError>
     ensures { OnOk result (out.new.items ≡ out.old.items ++ block_names (block_of b.now)) }
 {
-    add_constants(out, &b.constants)?;
-    add_types(out, &b.types)?;
-    add_variables(out, &b.variables)?;
-    add_procedures(out, &b.procedures)
+    append_constant_names(out, &b.constants)?;
+    append_type_names(out, &b.types)?;
+    append_variable_names(out, &b.variables)?;
+    append_procedure_names(out, &b.procedures)
 }
 
-impl Checks {
+impl FoundFaults {
     /// Returns the faults found so far.
     fn into_faults(self) -> Vec<Fault>
         ensures { result.items ≡ self }
     {
-        let Checks { alloc: _, faults } = self;
+        let FoundFaults { alloc: _, faults } = self;
         faults
     }
 
     /// Reports the fault if the condition doesn't hold.
-    fn expect(&mut self, holds: bool, fault: Fault) -> Result<(), AllocError>
-        ensures { OnOk result (self.new ≡ self.old ++ unless holds fault) }
+    fn report_unless(&mut self, holds: bool, fault: Fault) -> Result<(), AllocError>
+        ensures { OnOk result (self.new ≡ self.old ++ fault_unless holds fault) }
     {
         if !holds {
             self.faults.push(fault)?;
@@ -241,59 +253,67 @@ impl Checks {
 
     /// Reports a closing name that isn't the name of its module or procedure.
     fn closing(&mut self, tokens: &Tokens, name: usize, closing: usize) -> Result<(), AllocError>
-        ensures { OnOk result (self.new ≡ self.old ++ closing_other tokens.now name closing) }
+        ensures { OnOk result (self.new ≡ self.old ++ closing_name_faults tokens.now name closing) }
     {
         let fault = Fault {
-            code: Code::EndName,
+            code: FaultCode::EndName,
             span: token_span(tokens, closing),
         };
-        self.expect(is_same(tokens, name, closing), fault)
+        self.report_unless(have_same_spelling(tokens, name, closing), fault)
     }
 
     /// Reports each name that equals an earlier one.
-    fn distinct(&mut self, tokens: &Tokens, names: &[usize]) -> Result<(), AllocError>
-        ensures { OnOk result (self.new ≡ self.old ++ again tokens.now [] names.now) }
+    fn report_duplicates(&mut self, tokens: &Tokens, names: &[usize]) -> Result<(), AllocError>
+        ensures { OnOk result (self.new ≡ self.old ++ duplicate_faults tokens.now [] names.now) }
     {
-        if names.len() <= FEW {
-            self.distinct_few(tokens, names)
+        if names.len() <= MAX_PAIRWISE {
+            self.report_duplicates_pairwise(tokens, names)
         } else {
-            self.distinct_many(tokens, names)
+            self.report_duplicates_by_set(tokens, names)
         }
     }
 
     /// Reports each name that equals an earlier one. Each name is compared with all names before
     /// it, so there should be few.
-    fn distinct_few(&mut self, tokens: &Tokens, names: &[usize]) -> Result<(), AllocError>
-        ensures { OnOk result (self.new ≡ self.old ++ again tokens.now [] names.now) }
+    fn report_duplicates_pairwise(
+        &mut self,
+        tokens: &Tokens,
+        names: &[usize],
+    ) -> Result<(), AllocError>
+        ensures { OnOk result (self.new ≡ self.old ++ duplicate_faults tokens.now [] names.now) }
     {
         for (index, name) in names.iter().enumerate() {
-            let is_second = is_written(tokens, &names[..index], text_at(tokens, *name));
-            self.expect(!is_second, duplicate_at(tokens, *name))?;
+            let is_second = contains_spelling(tokens, &names[..index], text_at(tokens, *name));
+            self.report_unless(!is_second, duplicate_fault(tokens, *name))?;
         }
         Ok(())
     }
 
     /// Reports each name that equals an earlier one. Each name is looked up in the set of the names
     /// before it.
-    fn distinct_many(&mut self, tokens: &Tokens, names: &[usize]) -> Result<(), AllocError>
-        ensures { OnOk result (self.new ≡ self.old ++ again tokens.now [] names.now) }
+    fn report_duplicates_by_set(
+        &mut self,
+        tokens: &Tokens,
+        names: &[usize],
+    ) -> Result<(), AllocError>
+        ensures { OnOk result (self.new ≡ self.old ++ duplicate_faults tokens.now [] names.now) }
     {
         let mut seen = BTreeSet::new(self.alloc);
         for name in names {
             let added = seen.insert(text_at(tokens, *name))?;
-            self.expect(added, duplicate_at(tokens, *name))?;
+            self.report_unless(added, duplicate_fault(tokens, *name))?;
         }
         Ok(())
     }
 
     /// Reports the duplicate fields of the records in a written type.
     #[cycle(types)]
-    fn written_type(&mut self, tokens: &Tokens, t: &WrittenType) -> Result<(), AllocError>
-        ensures { OnOk result (self.new ≡ self.old ++ fields_twice tokens.now (type_of t.now)) }
+    fn check_type_fields(&mut self, tokens: &Tokens, t: &WrittenType) -> Result<(), AllocError>
+        ensures { OnOk result (self.new ≡ self.old ++ duplicate_fields tokens.now (type_of t.now)) }
     {
         match t {
             WrittenType::Named(_) => Ok(()),
-            WrittenType::Array(a) => self.written_type(tokens, &a.element),
+            WrittenType::Array(a) => self.check_type_fields(tokens, &a.element),
             WrittenType::Record(r) => self.record(tokens, r),
         }
     }
@@ -301,13 +321,13 @@ impl Checks {
     /// Reports the duplicate fields of a record, and of the records in it.
     #[cycle(types)]
     fn record(&mut self, tokens: &Tokens, r: &RecordType) -> Result<(), AllocError>
-        ensures { OnOk result (self.new ≡ self.old ++ fields_twice tokens.now (record_in r.now)) }
+        ensures { OnOk result (self.new ≡ self.old ++ duplicate_fields tokens.now (record_type_of r.now)) }
     {
-        let mut names = Vec::with_capacity(self.alloc, FEW)?;
+        let mut names = Vec::with_capacity(self.alloc, MAX_PAIRWISE)?;
         for group in &r.groups {
-            add_fields(&mut names, group)?;
+            append_field_names(&mut names, group)?;
         }
-        self.distinct(tokens, &names)?;
+        self.report_duplicates(tokens, &names)?;
         for group in &r.groups {
             self.group(tokens, group)?;
         }
@@ -317,11 +337,11 @@ impl Checks {
     /// Reports the duplicate fields of the records in the type of a group of fields.
     #[cycle(types)]
     fn group(&mut self, tokens: &Tokens, f: &Fields) -> Result<(), AllocError>
-        ensures { OnOk result (self.new ≡ self.old ++ group_twice tokens.now (fields_of f.now)) }
+        ensures { OnOk result (self.new ≡ self.old ++ duplicate_fields_in_group tokens.now (fields_of f.now)) }
     {
         match f {
             Fields::Empty => Ok(()),
-            Fields::Listed(l) => self.written_type(tokens, &l.written),
+            Fields::Listed(l) => self.check_type_fields(tokens, &l.written),
         }
     }
 
@@ -332,11 +352,11 @@ impl Checks {
         section: &Option<Vec<TypeDeclaration>>,
     ) -> Result<(), AllocError>
         ensures { OnOk result
-            (self.new ≡ self.old ++ types_twice tokens.now (section_types (types_of section.now))) }
+            (self.new ≡ self.old ++ duplicate_fields_in_types tokens.now (section_types (types_of section.now))) }
     {
         if let Some(types) = section {
             for t in types {
-                self.written_type(tokens, &t.written)?;
+                self.check_type_fields(tokens, &t.written)?;
             }
         }
         Ok(())
@@ -346,28 +366,32 @@ impl Checks {
     fn variables(
         &mut self,
         tokens: &Tokens,
-        section: &Option<Vec<Variables>>,
+        section: &Option<Vec<VariableDeclaration>>,
     ) -> Result<(), AllocError>
         ensures { OnOk result (self.new
             ≡ self.old
-            ++ variables_twice tokens.now (section_variables (variables_of section.now))) }
+            ++ duplicate_fields_in_variables tokens.now (section_variables (variables_of section.now))) }
     {
         if let Some(variables) = section {
             for v in variables {
-                self.written_type(tokens, &v.written)?;
+                self.check_type_fields(tokens, &v.written)?;
             }
         }
         Ok(())
     }
 
     /// Reports the duplicate fields of the records in the types of formal parameters.
-    fn formals(&mut self, tokens: &Tokens, formals: &Option<Vec<Section>>) -> Result<(), AllocError>
+    fn formals(
+        &mut self,
+        tokens: &Tokens,
+        formals: &Option<Vec<ParameterSection>>,
+    ) -> Result<(), AllocError>
         ensures { OnOk result (self.new
-            ≡ self.old ++ formals_twice tokens.now (formal_sections (formals_of formals.now))) }
+            ≡ self.old ++ duplicate_fields_in_formals tokens.now (formal_sections (formals_of formals.now))) }
     {
         if let Some(sections) = formals {
             for s in sections {
-                self.written_type(tokens, &s.written)?;
+                self.check_type_fields(tokens, &s.written)?;
             }
         }
         Ok(())
@@ -375,14 +399,14 @@ impl Checks {
 
     /// Reports the wrong closing name and the duplicate declarations of a procedure and of the blocks inside it.
     #[cycle(blocks)]
-    fn procedure(&mut self, tokens: &Tokens, p: &Procedure) -> Result<(), AllocError>
+    fn check_procedure(&mut self, tokens: &Tokens, p: &Procedure) -> Result<(), AllocError>
         ensures { OnOk result
-            (self.new ≡ self.old ++ procedure_twice tokens.now (procedure_of p.now)) }
+            (self.new ≡ self.old ++ procedure_declaration_faults tokens.now (procedure_of p.now)) }
     {
         self.closing(tokens, p.name, p.closing)?;
         self.formals(tokens, &p.formals)?;
-        let mut own = Vec::with_capacity(self.alloc, FEW)?;
-        add_formals(&mut own, &p.formals)?;
+        let mut own = Vec::with_capacity(self.alloc, MAX_PAIRWISE)?;
+        append_formal_names(&mut own, &p.formals)?;
         self.block(tokens, own, &p.block)
     }
 
@@ -391,18 +415,18 @@ impl Checks {
     #[cycle(blocks)]
     fn block(&mut self, tokens: &Tokens, own: Vec<usize>, b: &Block) -> Result<(), AllocError>
         ensures { OnOk result
-            (self.new ≡ self.old ++ block_twice tokens.now own.items (block_of b.now)) }
+            (self.new ≡ self.old ++ block_declaration_faults tokens.now own.items (block_of b.now)) }
     {
         let mut names = own;
-        add_constants(&mut names, &b.constants)?;
-        add_types(&mut names, &b.types)?;
-        add_variables(&mut names, &b.variables)?;
-        add_procedures(&mut names, &b.procedures)?;
-        self.distinct(tokens, &names)?;
+        append_constant_names(&mut names, &b.constants)?;
+        append_type_names(&mut names, &b.types)?;
+        append_variable_names(&mut names, &b.variables)?;
+        append_procedure_names(&mut names, &b.procedures)?;
+        self.report_duplicates(tokens, &names)?;
         self.types(tokens, &b.types)?;
         self.variables(tokens, &b.variables)?;
         for p in &b.procedures {
-            self.procedure(tokens, p)?;
+            self.check_procedure(tokens, p)?;
         }
         Ok(())
     }

@@ -8,9 +8,9 @@ ghost use Rattle.std.specs.Prelude.{◌≡◌, ◌≤◌, IfOk, false, length, n
 ghost use Rattle.std.specs.List.{position_from};
 ghost use Rattle.std.specs.List.Sorted.{IsNonDecreasingBy, IsPartitionPoint};
 ghost use Rattle.ob0_scan.specs.declared.lexeme.Token as token;
-ghost use Rattle.ob0_tree.specs.Order.{AreIdentifiers, Ascending};
-ghost use Rattle.ob0_scope.specs.Listing.{TokensAreApart, first_token, is_identifier, is_name_on, omitted_token, tokens_from};
-ghost use Rattle.ob0_scope.specs.NamesAtPlaces.{IsRenamedAt, name_on, tokens_bound};
+ghost use Rattle.ob0_tree.specs.Order.{AreIdentifierTokens, AreAscending};
+ghost use Rattle.ob0_scope.specs.Listing.{TokensAreApart, first_bound_token, is_identifier, is_identifier_on, omitted_token, tokens_bound_from};
+ghost use Rattle.ob0_scope.specs.NamesAtPlaces.{IsRenamedAt, name_on, tokens_bound_to};
 
 use ob0_scan::{Token, TokenKind};
 use ob0_scope_table::{OrdinalEntry, Resolved, same_ordinal};
@@ -32,7 +32,7 @@ pub fn name_at(names: &Resolved, offset: usize) -> Option<Named>
     let tokens = names.module().tokens();
     // The proof needs the contract of this call.
     let _scanned = tokens.text();
-    match first_on(tokens.tokens(), offset) {
+    match first_identifier_on(tokens.tokens(), offset) {
         Some(token) => match names.ordinal_at(token) {
             Some(ordinal) => Some(Named { token, ordinal }),
             None => None,
@@ -43,22 +43,22 @@ pub fn name_at(names: &Resolved, offset: usize) -> Option<Named>
 
 /// Returns the tokens that are bound to a declaration, in text order, including a procedure's closing name. The
 /// declaring token is one of them only if `include` is true.
-pub fn tokens_bound(
+pub fn tokens_bound_to(
     alloc: Global,
     names: &Resolved,
     declaration: usize,
     include: bool,
 ) -> Result<Vec<usize>, AllocError>
     ensures { IfOk result
-        (λ found. found.items ≡ tokens_bound names.now.module_read declaration include) }
+        (λ found. found.items ≡ tokens_bound_to names.now.module_read declaration include) }
 {
     // The proof needs the contract of this call.
     let _ = names.module();
     let declaring = names.declaring_token(declaration);
-    tokens_from(
+    tokens_bound_from(
         alloc,
         names.ordinals(),
-        first_token(declaring),
+        first_bound_token(declaring),
         declaration,
         omitted_token(include, declaring),
     )
@@ -72,8 +72,8 @@ fn omitted_token(include: bool, declaring: Option<usize>) -> Option<usize>
 }
 
 /// Returns the first token that can refer to a declaration: the declaring token, or 0 for a predeclared name.
-fn first_token(declaring: Option<usize>) -> usize
-    ensures { result ≡ first_token declaring }
+fn first_bound_token(declaring: Option<usize>) -> usize
+    ensures { result ≡ first_bound_token declaring }
 {
     match declaring {
         Some(token) => token,
@@ -82,7 +82,7 @@ fn first_token(declaring: Option<usize>) -> usize
 }
 
 /// Returns the tokens from `first` upwards that a table binds to a declaration, without the omitted token.
-fn tokens_from(
+fn tokens_bound_from(
     alloc: Global,
     ordinals: &[OrdinalEntry],
     first: usize,
@@ -90,7 +90,7 @@ fn tokens_from(
     omitted: Option<usize>,
 ) -> Result<Vec<usize>, AllocError>
     ensures { IfOk result
-        (λ found. found.items ≡ tokens_from omitted declaration first ordinals.now) }
+        (λ found. found.items ≡ tokens_bound_from omitted declaration first ordinals.now) }
 {
     let mut found = Vec::new(alloc);
     for token in first..ordinals.len() {
@@ -103,51 +103,51 @@ fn tokens_from(
 
 /// Returns the tokens at which renaming a declaration changes the text: the declaring token, a procedure's closing
 /// name, and the occurrences bound to the declaration.
-pub fn renamed_tokens(
+pub fn tokens_changed_by_rename(
     alloc: Global,
     names: &Resolved,
     declaration: usize,
 ) -> Result<Vec<usize>, AllocError>
     ensures bound { IfOk result
-        (λ found. found.items ≡ tokens_bound names.now.module_read declaration true) }
+        (λ found. found.items ≡ tokens_bound_to names.now.module_read declaration true) }
     ensures ascend { IfOk result
-        (λ found. Ascending 0 found.items (length names.now.module_read.source.tokens)) }
+        (λ found. AreAscending 0 found.items (length names.now.module_read.source.tokens)) }
     ensures are_identifiers { IfOk result
-        (λ found. AreIdentifiers names.now.module_read.source.tokens found.items) }
+        (λ found. AreIdentifierTokens names.now.module_read.source.tokens found.items) }
     ensures renamed { IfOk result
         (λ found. IsRenamedAt names.now.module_read declaration found.items) }
 {
     // The proof needs the contract of this call.
     let _ = names.module();
-    tokens_bound(alloc, names, declaration, true)
+    tokens_bound_to(alloc, names, declaration, true)
 }
 
 /// Returns the index of the first identifier that contains a place or ends there, found by binary
 /// search. Only the first token that doesn't end before the place, and the token after it, can be
 /// that identifier. Returns None if neither of them is such an identifier.
-fn first_on(tokens: &[Token], offset: usize) -> Option<usize>
+fn first_identifier_on(tokens: &[Token], offset: usize) -> Option<usize>
     ensures { TokensAreApart 0 tokens.now
-        → result ≡ position_from (is_name_on offset) 0 tokens.now }
+        → result ≡ position_from (is_identifier_on offset) 0 tokens.now }
 {
-    let place = ended_before(tokens, offset);
+    let place = count_ended_before(tokens, offset);
     if place >= tokens.len() {
         return None;
     }
-    if is_name_on(&tokens[place], offset) {
+    if is_identifier_on(&tokens[place], offset) {
         return Some(place);
     }
     let next = place + 1;
     if next >= tokens.len() {
         return None;
     }
-    if is_name_on(&tokens[next], offset) {
+    if is_identifier_on(&tokens[next], offset) {
         return Some(next);
     }
     None
 }
 
 /// Returns the number of tokens that end before a place.
-fn ended_before(tokens: &[Token], offset: usize) -> usize
+fn count_ended_before(tokens: &[Token], offset: usize) -> usize
     ensures bound { result ≤ length tokens.now }
     ensures point { IsNonDecreasingBy (λ (t : token.Token). t.span.end) tokens.now
         → IsPartitionPoint (λ (t : token.Token). nat_lt t.span.end offset ≡ true)
@@ -157,8 +157,8 @@ fn ended_before(tokens: &[Token], offset: usize) -> usize
 }
 
 /// Returns true if the token is an identifier that contains the place, as a byte offset, or ends there.
-fn is_name_on(token: &Token, offset: usize) -> bool
-    ensures { result ≡ is_name_on offset token.now }
+fn is_identifier_on(token: &Token, offset: usize) -> bool
+    ensures { result ≡ is_identifier_on offset token.now }
 {
     is_identifier(token.kind)
         && token.span.start as usize <= offset
@@ -171,7 +171,7 @@ fn is_identifier(kind: TokenKind) -> bool
 {
     match kind {
         TokenKind::Identifier => true,
-        TokenKind::Reserved(_) => false,
+        TokenKind::ReservedWord(_) => false,
         TokenKind::Integer(_) => false,
         TokenKind::Symbol(_) => false,
     }

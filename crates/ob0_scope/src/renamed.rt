@@ -1,13 +1,13 @@
 //! Finds the bindings of a module's names after a declaration is renamed.
 
 ghost use Rattle.std.specs.Prelude.{◌≡◌, IfOk, map};
-ghost use Rattle.ob0_tree.specs.Parsed.{named_tree_of};
+ghost use Rattle.ob0_tree.specs.ParsedModule.{named_tree_of};
 ghost use Rattle.ob0_language_names.specs.Occurrences.{bindings, label_ordinal};
 ghost use Rattle.ob0_language_names.specs.Scopes.{renamed};
 ghost use Rattle.ob0_scope.specs.Renames.{IsRenumbering};
 ghost use Rattle.ob0_scope_table.specs.Resolution.{IsResolution, ordinal_in};
 
-use ob0_scope_numbering::{Writing, number};
+use ob0_scope_numbering::{Spellings, number_identifiers};
 use ob0_scope_table::{OrdinalEntry, Resolved, ordinal_at};
 use std::alloc::{AllocError, Global};
 
@@ -25,7 +25,7 @@ pub fn resolve_renamed(
         (bindings (renamed (named_tree_of names.now.module_read) declaration new.now))) }
 {
     let ordinals = renumber(alloc, names, declaration, new)?;
-    ordinals_of(alloc, &ordinals, names.occurrences())
+    ordinals_at(alloc, &ordinals, names.occurrences())
 }
 
 /// Returns the table of ordinals, by token, after a declaration is renamed to `new`.
@@ -39,19 +39,19 @@ pub(crate) fn renumber(
         (λ ordinals. IsRenumbering names.now declaration new.now ordinals.items) }
     ensures resolved { IsResolution names.now }
 {
-    let writing = Writing {
+    let writing = Spellings {
         tokens: names.tokens(),
         ordinals: names.ordinals(),
         declaration: Some(declaration),
         new,
     };
-    let numbering = number(alloc, names.module(), writing)?;
+    let numbering = number_identifiers(alloc, names.module(), writing)?;
     let (_declarations, _occurrences, ordinals) = numbering.into_parts();
     Ok(ordinals)
 }
 
 /// Returns the ordinals that a table has at these tokens.
-pub(crate) fn ordinals_of(
+pub(crate) fn ordinals_at(
     alloc: Global,
     ordinals: &[OrdinalEntry],
     tokens: &[usize],

@@ -1,9 +1,9 @@
 //! Reports the undeclared names.
 
 ghost use Rattle.std.specs.Prelude.{◌≡◌, ◌++◌, OnOk};
-ghost use Rattle.ob0_scope_table.specs.Resolution.{undeclared_at};
+ghost use Rattle.ob0_scope_table.specs.Resolution.{undeclared_faults_by_table};
 
-use ob0_scan::{Code, Fault, Tokens};
+use ob0_scan::{Fault, FaultCode, Tokens};
 use ob0_scope_table::{OrdinalEntry, ordinal_at, token_span};
 use std::alloc::AllocError;
 
@@ -15,12 +15,12 @@ pub(crate) fn report_undeclared(
     occurrences: &[usize],
 ) -> Result<(), AllocError>
     ensures { OnOk result (faults.new.items
-        ≡ faults.old.items ++ undeclared_at tokens.now ordinals.now occurrences.now) }
+        ≡ faults.old.items ++ undeclared_faults_by_table tokens.now ordinals.now occurrences.now) }
 {
     for token in occurrences {
         if ordinal_at(ordinals, *token).is_none() {
             faults.push(Fault {
-                code: Code::Undeclared,
+                code: FaultCode::Undeclared,
                 span: token_span(tokens, *token),
             })?;
         }

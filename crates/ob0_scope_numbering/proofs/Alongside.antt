@@ -4,14 +4,14 @@
 use Rattle.std.proofs.Common.{◌≡◌, ℕ, zero, suc, ◌+◌, ◌-◌, Bool, true, Option, Some, None, List, [], ◌∷◌, ◌++◌, map, length, drop, refl, sym, ap, ◌∙◌, subst, append_assoc, append-nil}
 use Rattle.ob0_tree.specs.declared.tree.Role.{Role}
 use Rattle.ob0_tree.specs.declared.tree.Role.TheVariants as role
-use Rattle.ob0_tree.specs.Order.{leaves, names_only}
+use Rattle.ob0_tree.specs.Order.{leaves, names_without_roles}
 use Rattle.ob0_tree.specs.Tree.{Sort, Tree, block, constant, constants, declares, declares_constant, declares_constants, declares_procedure, declares_type, declares_types, declares_variable, declares_variables, end, formals, further_name, further_section, has_body, identifiers, item, items, listed, maybe, more, names, no_formals, none, one, procedure, section, some_formals, then_name, then_section, type_name, type_names, value_section, variable, variable_section, variables}
-use Rattle.ob0_language_names.specs.Names.{as_names}
-use Rattle.ob0_language_names.specs.Parts.{further_names, names_listed}
+use Rattle.ob0_language_names.specs.Names.{naming_by_spelling}
+use Rattle.ob0_language_names.specs.Parts.{further_names, names_in_list}
 use Rattle.ob0_language_names.specs.Scopes.{declare_names, ordinal_of}
-use Rattle.ob0_scope_numbering.specs.Marking.{Visit, after_heading, found, found_all, leave_block, left_to, marked, numbered_all, numbered_at, used, visible_from, visit_block, visit_constant, visit_constant_section, visit_constants, visit_formals, visit_procedure, visit_procedures, visit_section, visit_sections, visit_type, visit_type_section, visit_types, visit_variable, visit_variable_section, visit_variables}
+use Rattle.ob0_scope_numbering.specs.MarkWalk.{WalkState, state_after_heading, visit_identifier, visit_identifiers, leave_block, truncate_scope, with_mark, number_declarations, number_declaration, visit_part, show_declarations_from, visit_block, visit_constant, visit_constant_section, visit_constants, visit_formals, visit_procedure, visit_procedures, visit_section, visit_sections, visit_type, visit_type_section, visit_types, visit_variable, visit_variable_section, visit_variables}
 use Rattle.ob0_scope_numbering.specs.Marks.{OrdinalMark}
-use Rattle.ob0_scope_numbering.specs.Written.{Writing, name_at}
+use Rattle.ob0_scope_numbering.specs.Written.{Spellings, spelling_at}
 
 -- holds if all of some tokens pass a test
 abbrev pub AllOut : (ℕ → Bool) → List ℕ → Type 0
@@ -27,7 +27,7 @@ out_split out [] ys h = (tt, h)
 out_split out (x ∷ xs) ys h = let rest = out_split out xs ys h.1 in ((h.0, rest.0), rest.1)
 
 -- If all tokens of two parts together pass a test, the tokens of each part do.
-pub out_parts : (out : ℕ → Bool) (xs ys : List (Role × ℕ)) → AllOut out (names_only (xs ++ ys)) → AllOut out (names_only xs) × AllOut out (names_only ys)
+pub out_parts : (out : ℕ → Bool) (xs ys : List (Role × ℕ)) → AllOut out (names_without_roles (xs ++ ys)) → AllOut out (names_without_roles xs) × AllOut out (names_without_roles ys)
 out_parts out [] ys h = (tt, h)
 out_parts out (x ∷ xs) ys h = let rest = out_parts out xs ys h.1 in ((h.0, rest.0), rest.1)
 
@@ -50,10 +50,10 @@ alike_both out [] (n ∷ b) c d h g = absurd h
 alike_both out (m ∷ a) [] c d h g = absurd h
 alike_both out (m ∷ a) (n ∷ b) c d h g = (h.0, (h.1.0, alike_both out a b c d h.1.1 g))
 
-module _ (out : ℕ → Bool) (a b : Writing) (same_name : (i : ℕ) → out i ≡ true → name_at a i ≡ name_at b i) where
+module _ (out : ℕ → Bool) (a b : Spellings) (same_name : (i : ℕ) → out i ≡ true → spelling_at a i ≡ spelling_at b i) where
   -- states that two walks are at the same place: the same names are visible, and the declarations
   -- so far are the same
-  pub record Beside (x y : Visit) : Type 0 where
+  pub record Beside (x y : WalkState) : Type 0 where
     pub first : x.writing ≡ a
     pub second : y.writing ≡ b
     pub scope : x.scope ≡ y.scope
@@ -61,7 +61,7 @@ module _ (out : ℕ → Bool) (a b : Writing) (same_name : (i : ℕ) → out i �
     pub outside : AllOut out x.declarations
 
   -- states that the marks that two walks add are alike
-  pub record Adds (x y x' y' : Visit) : Type 0 where
+  pub record Adds (x y x' y' : WalkState) : Type 0 where
     pub firsts : List OrdinalMark
     pub seconds : List OrdinalMark
     pub first_is : x'.marks ≡ x.marks ++ firsts
@@ -69,14 +69,14 @@ module _ (out : ℕ → Bool) (a b : Writing) (same_name : (i : ℕ) → out i �
     pub alike : Alike out firsts seconds
 
   -- states that two walks through the same part end at the same place and add marks that are alike
-  pub record Goes (x y x' y' : Visit) : Type 0 where
+  pub record Goes (x y x' y' : WalkState) : Type 0 where
     pub at : Beside x' y'
     pub adds : Adds x y x' y'
 
-  pub adds_nothing : (x y : Visit) → Adds x y x y
+  pub adds_nothing : (x y : WalkState) → Adds x y x y
   adds_nothing x y = record { firsts = []; seconds = []; first_is = sym (append-nil x.marks); second_is = sym (append-nil y.marks); alike = tt }
 
-  abbrev pub adds_then : {x y x' y' x'' y'' : Visit} → Adds x y x' y' → Adds x' y' x'' y'' → Adds x y x'' y''
+  abbrev pub adds_then : {x y x' y' x'' y'' : WalkState} → Adds x y x' y' → Adds x' y' x'' y'' → Adds x y x'' y''
   adds_then {x = x} {y = y} p q = record {
     firsts = p.firsts ++ q.firsts;
     seconds = p.seconds ++ q.seconds;
@@ -85,7 +85,7 @@ module _ (out : ℕ → Bool) (a b : Writing) (same_name : (i : ℕ) → out i �
     alike = alike_both out p.firsts p.seconds q.firsts q.seconds p.alike q.alike;
   }
 
-  adds_one : (x y x' y' : Visit) (i : ℕ) (o p : Option ℕ) → x'.marks ≡ x.marks ++ (record { token = i; ordinal = o } ∷ []) → y'.marks ≡ y.marks ++ (record { token = i; ordinal = p } ∷ []) → (out i ≡ true → o ≡ p) → Adds x y x' y'
+  adds_one : (x y x' y' : WalkState) (i : ℕ) (o p : Option ℕ) → x'.marks ≡ x.marks ++ (record { token = i; ordinal = o } ∷ []) → y'.marks ≡ y.marks ++ (record { token = i; ordinal = p } ∷ []) → (out i ≡ true → o ≡ p) → Adds x y x' y'
   adds_one x y x' y' i o p e f same = record {
     firsts = record { token = i; ordinal = o } ∷ [];
     seconds = record { token = i; ordinal = p } ∷ [];
@@ -94,65 +94,65 @@ module _ (out : ℕ → Bool) (a b : Writing) (same_name : (i : ℕ) → out i �
     alike = (refl, (same, tt));
   }
 
-  abbrev pub goes_then : {x y x' y' x'' y'' : Visit} → Goes x y x' y' → Goes x' y' x'' y'' → Goes x y x'' y''
+  abbrev pub goes_then : {x y x' y' x'' y'' : WalkState} → Goes x y x' y' → Goes x' y' x'' y'' → Goes x y x'' y''
   goes_then p q = record { at = q.at; adds = adds_then p.adds q.adds }
 
-  goes_nowhere : (x y : Visit) → Beside x y → Goes x y x y
+  goes_nowhere : (x y : WalkState) → Beside x y → Goes x y x y
   goes_nowhere x y at = record { at = at; adds = adds_nothing x y }
 
   -- ---- parts that declare nothing
 
   -- states that two walks see the same names
-  pub record Sees (x y : Visit) : Type 0 where
+  pub record Sees (x y : WalkState) : Type 0 where
     pub first : x.writing ≡ a
     pub second : y.writing ≡ b
     pub scope : x.scope ≡ y.scope
 
-  pub sees : (x y : Visit) → Beside x y → Sees x y
+  pub sees : (x y : WalkState) → Beside x y → Sees x y
   sees x y at = record { first = at.first; second = at.second; scope = at.scope }
 
-  found_adds : (r : Role) (i : ℕ) (x y : Visit) → Sees x y → Adds x y (found r i x) (found r i y)
+  found_adds : (r : Role) (i : ℕ) (x y : WalkState) → Sees x y → Adds x y (visit_identifier r i x) (visit_identifier r i y)
   found_adds role.LookedUp i x y at =
-      adds_one x y (found role.LookedUp i x) (found role.LookedUp i y) i (ordinal_of as_names x.scope (name_at x.writing i)) (ordinal_of as_names y.scope (name_at y.writing i)) refl refl
-      (λ e. (λ j. ordinal_of as_names (at.scope j) (name_at (at.first j) i)) ∙ (ap (ordinal_of as_names y.scope) (same_name i e) ∙ ap (λ w. ordinal_of as_names y.scope (name_at w i)) (sym at.second)))
-  found_adds role.Declaring i x y at = adds_one x y (found role.Declaring i x) (found role.Declaring i y) i None None refl refl (λ e. refl)
-  found_adds role.ClosingName i x y at = adds_one x y (found role.ClosingName i x) (found role.ClosingName i y) i None None refl refl (λ e. refl)
-  found_adds role.FieldName i x y at = adds_one x y (found role.FieldName i x) (found role.FieldName i y) i None None refl refl (λ e. refl)
-  found_adds role.ModuleName i x y at = adds_one x y (found role.ModuleName i x) (found role.ModuleName i y) i None None refl refl (λ e. refl)
+      adds_one x y (visit_identifier role.LookedUp i x) (visit_identifier role.LookedUp i y) i (ordinal_of naming_by_spelling x.scope (spelling_at x.writing i)) (ordinal_of naming_by_spelling y.scope (spelling_at y.writing i)) refl refl
+      (λ e. (λ j. ordinal_of naming_by_spelling (at.scope j) (spelling_at (at.first j) i)) ∙ (ap (ordinal_of naming_by_spelling y.scope) (same_name i e) ∙ ap (λ w. ordinal_of naming_by_spelling y.scope (spelling_at w i)) (sym at.second)))
+  found_adds role.Declaring i x y at = adds_one x y (visit_identifier role.Declaring i x) (visit_identifier role.Declaring i y) i None None refl refl (λ e. refl)
+  found_adds role.ClosingName i x y at = adds_one x y (visit_identifier role.ClosingName i x) (visit_identifier role.ClosingName i y) i None None refl refl (λ e. refl)
+  found_adds role.FieldName i x y at = adds_one x y (visit_identifier role.FieldName i x) (visit_identifier role.FieldName i y) i None None refl refl (λ e. refl)
+  found_adds role.ModuleName i x y at = adds_one x y (visit_identifier role.ModuleName i x) (visit_identifier role.ModuleName i y) i None None refl refl (λ e. refl)
 
   -- states that a step changes neither the visible names nor the declarations
-  pub record Keeps (x x' : Visit) : Type 0 where
+  pub record Keeps (x x' : WalkState) : Type 0 where
     pub writing : x'.writing ≡ x.writing
     pub scope : x'.scope ≡ x.scope
     pub declarations : x'.declarations ≡ x.declarations
 
-  found_keeps : (r : Role) (i : ℕ) (x : Visit) → Keeps x (found r i x)
+  found_keeps : (r : Role) (i : ℕ) (x : WalkState) → Keeps x (visit_identifier r i x)
   found_keeps role.LookedUp i x = record { writing = refl; scope = refl; declarations = refl }
   found_keeps role.Declaring i x = record { writing = refl; scope = refl; declarations = refl }
   found_keeps role.ClosingName i x = record { writing = refl; scope = refl; declarations = refl }
   found_keeps role.FieldName i x = record { writing = refl; scope = refl; declarations = refl }
   found_keeps role.ModuleName i x = record { writing = refl; scope = refl; declarations = refl }
 
-  all_keep : (xs : List (Role × ℕ)) (x : Visit) → Keeps x (found_all xs x)
+  all_keep : (xs : List (Role × ℕ)) (x : WalkState) → Keeps x (visit_identifiers xs x)
   all_keep [] x = record { writing = refl; scope = refl; declarations = refl }
   all_keep (r ∷ rs) x =
       let one = found_keeps r.0 r.1 x in
-      let rest = all_keep rs (found r.0 r.1 x) in
+      let rest = all_keep rs (visit_identifier r.0 r.1 x) in
       record { writing = rest.writing ∙ one.writing; scope = rest.scope ∙ one.scope; declarations = rest.declarations ∙ one.declarations }
 
-  all_see : (x y x' y' : Visit) → Sees x y → Keeps x x' → Keeps y y' → Sees x' y'
+  all_see : (x y x' y' : WalkState) → Sees x y → Keeps x x' → Keeps y y' → Sees x' y'
   all_see x y x' y' at k l = record { first = k.writing ∙ at.first; second = l.writing ∙ at.second; scope = k.scope ∙ (at.scope ∙ sym l.scope) }
 
-  all_add : (xs : List (Role × ℕ)) (x y : Visit) → Sees x y → Adds x y (found_all xs x) (found_all xs y)
+  all_add : (xs : List (Role × ℕ)) (x y : WalkState) → Sees x y → Adds x y (visit_identifiers xs x) (visit_identifiers xs y)
   all_add [] x y at = adds_nothing x y
   all_add (r ∷ rs) x y at =
       adds_then (found_adds r.0 r.1 x y at)
-      (all_add rs (found r.0 r.1 x) (found r.0 r.1 y) (all_see x y (found r.0 r.1 x) (found r.0 r.1 y) at (found_keeps r.0 r.1 x) (found_keeps r.0 r.1 y)))
+      (all_add rs (visit_identifier r.0 r.1 x) (visit_identifier r.0 r.1 y) (all_see x y (visit_identifier r.0 r.1 x) (visit_identifier r.0 r.1 y) at (found_keeps r.0 r.1 x) (found_keeps r.0 r.1 y)))
 
-  pub used_adds : {s : Sort} (t : Tree ℕ s) (x y : Visit) → Sees x y → Adds x y (used t x) (used t y)
+  pub used_adds : {s : Sort} (t : Tree ℕ s) (x y : WalkState) → Sees x y → Adds x y (visit_part t x) (visit_part t y)
   used_adds t x y at = all_add (identifiers role.Declaring t) x y at
 
-  pub used_goes : {s : Sort} (t : Tree ℕ s) (x y : Visit) → Beside x y → Goes x y (used t x) (used t y)
+  pub used_goes : {s : Sort} (t : Tree ℕ s) (x y : WalkState) → Beside x y → Goes x y (visit_part t x) (visit_part t y)
   used_goes t x y at =
       let k = all_keep (identifiers role.Declaring t) x in
       let l = all_keep (identifiers role.Declaring t) y in
@@ -169,92 +169,92 @@ module _ (out : ℕ → Bool) (a b : Writing) (same_name : (i : ℕ) → out i �
 
   -- ---- declarations
 
-  pub marked_goes : (i : ℕ) (o p : Option ℕ) (x y : Visit) → o ≡ p → Beside x y → Goes x y (marked i o x) (marked i p y)
+  pub marked_goes : (i : ℕ) (o p : Option ℕ) (x y : WalkState) → o ≡ p → Beside x y → Goes x y (with_mark i o x) (with_mark i p y)
   marked_goes i o p x y e at = record {
     at = record { first = at.first; second = at.second; scope = at.scope; declarations = at.declarations; outside = at.outside };
-    adds = adds_one x y (marked i o x) (marked i p y) i o p refl refl (λ h. e);
+    adds = adds_one x y (with_mark i o x) (with_mark i p y) i o p refl refl (λ h. e);
   }
 
-  pub numbered_goes : (i : ℕ) (x y : Visit) → out i ≡ true → Beside x y → Goes x y (numbered_at i x) (numbered_at i y)
+  pub numbered_goes : (i : ℕ) (x y : WalkState) → out i ≡ true → Beside x y → Goes x y (number_declaration i x) (number_declaration i y)
   numbered_goes i x y o at = record {
     at = record { first = at.first; second = at.second; scope = at.scope; declarations = ap (λ ds. ds ++ (i ∷ [])) at.declarations; outside = out_both out x.declarations (i ∷ []) at.outside (o, tt) };
-    adds = adds_one x y (numbered_at i x) (numbered_at i y) i (Some (7 + length x.declarations)) (Some (7 + length y.declarations)) refl refl (λ h. ap (λ ds. Some (7 + length ds)) at.declarations);
+    adds = adds_one x y (number_declaration i x) (number_declaration i y) i (Some (7 + length x.declarations)) (Some (7 + length y.declarations)) refl refl (λ h. ap (λ ds. Some (7 + length ds)) at.declarations);
   }
 
-  all_numbered : (is : List ℕ) (x y : Visit) → AllOut out is → Beside x y → Goes x y (numbered_all is x) (numbered_all is y)
+  all_numbered : (is : List ℕ) (x y : WalkState) → AllOut out is → Beside x y → Goes x y (number_declarations is x) (number_declarations is y)
   all_numbered [] x y o at = goes_nowhere x y at
   all_numbered (i ∷ is) x y o at =
       let one = numbered_goes i x y o.0 at in
-      goes_then one (all_numbered is (numbered_at i x) (numbered_at i y) o.1 one.at)
+      goes_then one (all_numbered is (number_declaration i x) (number_declaration i y) o.1 one.at)
 
-  names_same : (is : List ℕ) → AllOut out is → map (name_at a) is ≡ map (name_at b) is
+  names_same : (is : List ℕ) → AllOut out is → map (spelling_at a) is ≡ map (spelling_at b) is
   names_same [] o = refl
   names_same (i ∷ is) o = λ j. same_name i o.0 j ∷ names_same is o.1 j
 
   -- Making the declarations visible, starting at one of them, keeps two walks at the same place.
-  shown_goes : (n m : ℕ) (x y : Visit) → n ≡ m → Beside x y → Beside (visible_from n x) (visible_from m y)
+  shown_goes : (n m : ℕ) (x y : WalkState) → n ≡ m → Beside x y → Beside (show_declarations_from n x) (show_declarations_from m y)
   shown_goes n m x y e at =
       let later = out_later out n x.declarations at.outside in
       record {
         first = at.first;
         second = at.second;
-        scope = (λ j. declare_names (7 + n) (map (name_at (at.first j)) (drop n x.declarations)) (at.scope j))
+        scope = (λ j. declare_names (7 + n) (map (spelling_at (at.first j)) (drop n x.declarations)) (at.scope j))
             ∙ (ap (λ ns. declare_names (7 + n) ns y.scope) (names_same (drop n x.declarations) later)
-            ∙ (λ j. declare_names (7 + e j) (map (name_at (sym at.second j)) (drop (e j) (at.declarations j))) y.scope));
+            ∙ (λ j. declare_names (7 + e j) (map (spelling_at (sym at.second j)) (drop (e j) (at.declarations j))) y.scope));
         declarations = at.declarations;
         outside = at.outside;
       }
 
-  then_shown : (n m : ℕ) {x y x' y' : Visit} → n ≡ m → Goes x y x' y' → Goes x y (visible_from n x') (visible_from m y')
+  then_shown : (n m : ℕ) {x y x' y' : WalkState} → n ≡ m → Goes x y x' y' → Goes x y (show_declarations_from n x') (show_declarations_from m y')
   then_shown n m {x' = x'} {y' = y'} e p = record { at = shown_goes n m x' y' e p.at; adds = record { firsts = p.adds.firsts; seconds = p.adds.seconds; first_is = p.adds.first_is; second_is = p.adds.second_is; alike = p.adds.alike } }
 
-  group_goes : {s : Sort} (is : List ℕ) (t : Tree ℕ s) (x y : Visit) → AllOut out is → Beside x y
-      → Goes x y (visible_from (length x.declarations) (used t (numbered_all is x))) (visible_from (length y.declarations) (used t (numbered_all is y)))
+  group_goes : {s : Sort} (is : List ℕ) (t : Tree ℕ s) (x y : WalkState) → AllOut out is → Beside x y
+      → Goes x y (show_declarations_from (length x.declarations) (visit_part t (number_declarations is x))) (show_declarations_from (length y.declarations) (visit_part t (number_declarations is y)))
   group_goes is t x y o at =
       let one = all_numbered is x y o at in
-      then_shown (length x.declarations) (length y.declarations) (ap length at.declarations) (goes_then one (used_goes t (numbered_all is x) (numbered_all is y) one.at))
+      then_shown (length x.declarations) (length y.declarations) (ap length at.declarations) (goes_then one (used_goes t (number_declarations is x) (number_declarations is y) one.at))
 
   further_out : (ns : Tree ℕ (items further_name)) → AllOut out (leaves ns) → AllOut out (further_names ns)
   further_out end o = tt
   further_out (more (then_name x) rest) o = (o.0, further_out rest o.1)
 
-  listed_out : (ns : Tree ℕ names) → AllOut out (leaves ns) → AllOut out (names_listed ns)
+  listed_out : (ns : Tree ℕ names) → AllOut out (leaves ns) → AllOut out (names_in_list ns)
   listed_out (listed x rest) o = (o.0, further_out rest o.1)
 
-  constants_go : (cs : Tree ℕ (items constant)) (x y : Visit) → AllOut out (leaves cs) → Beside x y → Goes x y (visit_constants cs x) (visit_constants cs y)
+  constants_go : (cs : Tree ℕ (items constant)) (x y : WalkState) → AllOut out (leaves cs) → Beside x y → Goes x y (visit_constants cs x) (visit_constants cs y)
   constants_go end x y o at = goes_nowhere x y at
   constants_go (more (declares_constant n e) cs) x y o at =
       let parts = out_parts out (identifiers role.Declaring (declares_constant n e)) (identifiers role.Declaring cs) o in
       let one = group_goes (n ∷ []) e x y (parts.0.0, tt) at in
       goes_then one (constants_go cs (visit_constant (declares_constant n e) x) (visit_constant (declares_constant n e) y) parts.1 one.at)
 
-  types_go : (ts : Tree ℕ (items type_name)) (x y : Visit) → AllOut out (leaves ts) → Beside x y → Goes x y (visit_types ts x) (visit_types ts y)
+  types_go : (ts : Tree ℕ (items type_name)) (x y : WalkState) → AllOut out (leaves ts) → Beside x y → Goes x y (visit_types ts x) (visit_types ts y)
   types_go end x y o at = goes_nowhere x y at
   types_go (more (declares_type n t) ts) x y o at =
       let parts = out_parts out (identifiers role.Declaring (declares_type n t)) (identifiers role.Declaring ts) o in
       let one = group_goes (n ∷ []) t x y (parts.0.0, tt) at in
       goes_then one (types_go ts (visit_type (declares_type n t) x) (visit_type (declares_type n t) y) parts.1 one.at)
 
-  variables_go : (gs : Tree ℕ (items variable)) (x y : Visit) → AllOut out (leaves gs) → Beside x y → Goes x y (visit_variables gs x) (visit_variables gs y)
+  variables_go : (gs : Tree ℕ (items variable)) (x y : WalkState) → AllOut out (leaves gs) → Beside x y → Goes x y (visit_variables gs x) (visit_variables gs y)
   variables_go end x y o at = goes_nowhere x y at
   variables_go (more (declares_variable ns t) gs) x y o at =
       let parts = out_parts out (identifiers role.Declaring (declares_variable ns t)) (identifiers role.Declaring gs) o in
       let named = out_parts out (identifiers role.Declaring ns) (identifiers role.Declaring t) parts.0 in
-      let one = group_goes (names_listed ns) t x y (listed_out ns named.0) at in
+      let one = group_goes (names_in_list ns) t x y (listed_out ns named.0) at in
       goes_then one (variables_go gs (visit_variable (declares_variable ns t) x) (visit_variable (declares_variable ns t) y) parts.1 one.at)
 
-  section_goes : (f : Tree ℕ section) (x y : Visit) → AllOut out (leaves f) → Beside x y → Goes x y (visit_section f x) (visit_section f y)
-  section_goes (value_section ns t) x y o at = group_goes (names_listed ns) t x y (listed_out ns (out_parts out (identifiers role.Declaring ns) (identifiers role.Declaring t) o).0) at
-  section_goes (variable_section ns t) x y o at = group_goes (names_listed ns) t x y (listed_out ns (out_parts out (identifiers role.Declaring ns) (identifiers role.Declaring t) o).0) at
+  section_goes : (f : Tree ℕ section) (x y : WalkState) → AllOut out (leaves f) → Beside x y → Goes x y (visit_section f x) (visit_section f y)
+  section_goes (value_section ns t) x y o at = group_goes (names_in_list ns) t x y (listed_out ns (out_parts out (identifiers role.Declaring ns) (identifiers role.Declaring t) o).0) at
+  section_goes (variable_section ns t) x y o at = group_goes (names_in_list ns) t x y (listed_out ns (out_parts out (identifiers role.Declaring ns) (identifiers role.Declaring t) o).0) at
 
-  sections_go : (fs : Tree ℕ (items further_section)) (x y : Visit) → AllOut out (leaves fs) → Beside x y → Goes x y (visit_sections fs x) (visit_sections fs y)
+  sections_go : (fs : Tree ℕ (items further_section)) (x y : WalkState) → AllOut out (leaves fs) → Beside x y → Goes x y (visit_sections fs x) (visit_sections fs y)
   sections_go end x y o at = goes_nowhere x y at
   sections_go (more (then_section f) fs) x y o at =
       let parts = out_parts out (identifiers role.Declaring f) (identifiers role.Declaring fs) o in
       let one = section_goes f x y parts.0 at in
       goes_then one (sections_go fs (visit_section f x) (visit_section f y) parts.1 one.at)
 
-  pub formals_go : (fs : Tree ℕ (maybe formals)) (x y : Visit) → AllOut out (leaves fs) → Beside x y → Goes x y (visit_formals fs x) (visit_formals fs y)
+  pub formals_go : (fs : Tree ℕ (maybe formals)) (x y : WalkState) → AllOut out (leaves fs) → Beside x y → Goes x y (visit_formals fs x) (visit_formals fs y)
   formals_go none x y o at = goes_nowhere x y at
   formals_go (one no_formals) x y o at = goes_nowhere x y at
   formals_go (one (some_formals f fs)) x y o at =
@@ -262,22 +262,22 @@ module _ (out : ℕ → Bool) (a b : Writing) (same_name : (i : ℕ) → out i �
       let one = section_goes f x y parts.0 at in
       goes_then one (sections_go fs (visit_section f x) (visit_section f y) parts.1 one.at)
 
-  pub constant_section_goes : (cs : Tree ℕ (maybe constants)) (x y : Visit) → AllOut out (leaves cs) → Beside x y → Goes x y (visit_constant_section cs x) (visit_constant_section cs y)
+  pub constant_section_goes : (cs : Tree ℕ (maybe constants)) (x y : WalkState) → AllOut out (leaves cs) → Beside x y → Goes x y (visit_constant_section cs x) (visit_constant_section cs y)
   constant_section_goes none x y o at = goes_nowhere x y at
   constant_section_goes (one (declares_constants cs)) x y o at = constants_go cs x y o at
 
-  pub type_section_goes : (ts : Tree ℕ (maybe type_names)) (x y : Visit) → AllOut out (leaves ts) → Beside x y → Goes x y (visit_type_section ts x) (visit_type_section ts y)
+  pub type_section_goes : (ts : Tree ℕ (maybe type_names)) (x y : WalkState) → AllOut out (leaves ts) → Beside x y → Goes x y (visit_type_section ts x) (visit_type_section ts y)
   type_section_goes none x y o at = goes_nowhere x y at
   type_section_goes (one (declares_types ts)) x y o at = types_go ts x y o at
 
-  pub variable_section_goes : (vs : Tree ℕ (maybe variables)) (x y : Visit) → AllOut out (leaves vs) → Beside x y → Goes x y (visit_variable_section vs x) (visit_variable_section vs y)
+  pub variable_section_goes : (vs : Tree ℕ (maybe variables)) (x y : WalkState) → AllOut out (leaves vs) → Beside x y → Goes x y (visit_variable_section vs x) (visit_variable_section vs y)
   variable_section_goes none x y o at = goes_nowhere x y at
   variable_section_goes (one (declares_variables vs)) x y o at = variables_go vs x y o at
 
   -- ---- blocks
 
   -- Two walks through the sections of a block end at the same place.
-  pub declared_goes : (cs : Tree ℕ (maybe constants)) (ts : Tree ℕ (maybe type_names)) (vs : Tree ℕ (maybe variables)) (x y : Visit) → AllOut out (leaves cs) → AllOut out (leaves ts) → AllOut out (leaves vs) → Beside x y
+  pub declared_goes : (cs : Tree ℕ (maybe constants)) (ts : Tree ℕ (maybe type_names)) (vs : Tree ℕ (maybe variables)) (x y : WalkState) → AllOut out (leaves cs) → AllOut out (leaves ts) → AllOut out (leaves vs) → Beside x y
       → Goes x y (visit_variable_section vs (visit_type_section ts (visit_constant_section cs x))) (visit_variable_section vs (visit_type_section ts (visit_constant_section cs y)))
   declared_goes cs ts vs x y c t v at =
       let p = constant_section_goes cs x y c at in
@@ -285,31 +285,31 @@ module _ (out : ℕ → Bool) (a b : Writing) (same_name : (i : ℕ) → out i �
       let r = variable_section_goes vs (visit_type_section ts (visit_constant_section cs x)) (visit_type_section ts (visit_constant_section cs y)) v q.at in
       goes_then p (goes_then q r)
 
-  left_goes : (n m : ℕ) (x y : Visit) → n ≡ m → Beside x y → Beside (left_to n x) (left_to m y)
+  left_goes : (n m : ℕ) (x y : WalkState) → n ≡ m → Beside x y → Beside (truncate_scope n x) (truncate_scope m y)
   left_goes n m x y e at = record { first = at.first; second = at.second; scope = λ j. drop (length (at.scope j) - e j) (at.scope j); declarations = at.declarations; outside = at.outside }
 
   -- Two walks through a procedure's name and parameters end at the same place.
-  pub heading_goes : (n : ℕ) (fs : Tree ℕ (maybe formals)) (x y : Visit) → out n ≡ true → AllOut out (leaves fs) → Beside x y
-      → Goes x y (after_heading (length x.declarations) (length x.scope) (visit_formals fs (numbered_at n x))) (after_heading (length y.declarations) (length y.scope) (visit_formals fs (numbered_at n y)))
+  pub heading_goes : (n : ℕ) (fs : Tree ℕ (maybe formals)) (x y : WalkState) → out n ≡ true → AllOut out (leaves fs) → Beside x y
+      → Goes x y (state_after_heading (length x.declarations) (length x.scope) (visit_formals fs (number_declaration n x))) (state_after_heading (length y.declarations) (length y.scope) (visit_formals fs (number_declaration n y)))
   heading_goes n fs x y o f at =
       let p = numbered_goes n x y o at in
-      let q = goes_then p (formals_go fs (numbered_at n x) (numbered_at n y) f p.at) in
-      let x₁ = visit_formals fs (numbered_at n x) in
-      let y₁ = visit_formals fs (numbered_at n y) in
+      let q = goes_then p (formals_go fs (number_declaration n x) (number_declaration n y) f p.at) in
+      let x₁ = visit_formals fs (number_declaration n x) in
+      let y₁ = visit_formals fs (number_declaration n y) in
       let left = left_goes (length x.scope) (length y.scope) x₁ y₁ (ap length at.scope) q.at in
-      let kept : Goes x y (left_to (length x.scope) x₁) (left_to (length y.scope) y₁) = record { at = left; adds = record { firsts = q.adds.firsts; seconds = q.adds.seconds; first_is = q.adds.first_is; second_is = q.adds.second_is; alike = q.adds.alike } } in
+      let kept : Goes x y (truncate_scope (length x.scope) x₁) (truncate_scope (length y.scope) y₁) = record { at = left; adds = record { firsts = q.adds.firsts; seconds = q.adds.seconds; first_is = q.adds.first_is; second_is = q.adds.second_is; alike = q.adds.alike } } in
       then_shown (length x.declarations) (length y.declarations) (ap length at.declarations) kept
 
   -- Two walks over the end of a procedure's block end at the same place. Its name is visible again,
   -- and its closing name is marked.
-  pub ending_goes : (n closing k l outer out_too : ℕ) (x y : Visit) → out n ≡ true → k ≡ l → outer ≡ out_too → Beside x y
-      → Goes x y (marked closing (Some k) (leave_block n k outer x)) (marked closing (Some l) (leave_block n l out_too y))
+  pub ending_goes : (n closing k l outer out_too : ℕ) (x y : WalkState) → out n ≡ true → k ≡ l → outer ≡ out_too → Beside x y
+      → Goes x y (with_mark closing (Some k) (leave_block n k outer x)) (with_mark closing (Some l) (leave_block n l out_too y))
   ending_goes n closing k l outer out_too x y o e f at =
       let left = left_goes outer out_too x y f at in
       let shown : Beside (leave_block n k outer x) (leave_block n l out_too y) = record {
         first = at.first;
         second = at.second;
-        scope = λ j. ((ap (λ w. name_at w n) at.first ∙ (same_name n o ∙ ap (λ w. name_at w n) (sym at.second))) j, e j) ∷ left.scope j;
+        scope = λ j. ((ap (λ w. spelling_at w n) at.first ∙ (same_name n o ∙ ap (λ w. spelling_at w n) (sym at.second))) j, e j) ∷ left.scope j;
         declarations = at.declarations;
         outside = at.outside;
       } in
@@ -317,7 +317,7 @@ module _ (out : ℕ → Bool) (a b : Writing) (same_name : (i : ℕ) → out i �
       record { at = last.at; adds = record { firsts = last.adds.firsts; seconds = last.adds.seconds; first_is = last.adds.first_is; second_is = last.adds.second_is; alike = last.adds.alike } }
 
   mutual
-    pub block_goes : (t : Tree ℕ block) (x y : Visit) → AllOut out (leaves t) → Beside x y → Goes x y (visit_block t x) (visit_block t y)
+    pub block_goes : (t : Tree ℕ block) (x y : WalkState) → AllOut out (leaves t) → Beside x y → Goes x y (visit_block t x) (visit_block t y)
     block_goes (has_body (declares cs ts vs ps) statements) x y o at =
         let whole = out_parts out (identifiers role.Declaring (declares cs ts vs ps)) (identifiers role.Declaring statements) o in
         let c = out_parts out (identifiers role.Declaring cs) (identifiers role.Declaring ts ++ (identifiers role.Declaring vs ++ identifiers role.Declaring ps)) whole.0 in
@@ -329,19 +329,19 @@ module _ (out : ℕ → Bool) (a b : Writing) (same_name : (i : ℕ) → out i �
         let q = procedures_go ps x₁ y₁ v.1 p.at in
         goes_then p (goes_then q (used_goes statements (visit_procedures ps x₁) (visit_procedures ps y₁) q.at))
 
-    pub procedures_go : (ps : Tree ℕ (items procedure)) (x y : Visit) → AllOut out (leaves ps) → Beside x y → Goes x y (visit_procedures ps x) (visit_procedures ps y)
+    pub procedures_go : (ps : Tree ℕ (items procedure)) (x y : WalkState) → AllOut out (leaves ps) → Beside x y → Goes x y (visit_procedures ps x) (visit_procedures ps y)
     procedures_go end x y o at = goes_nowhere x y at
     procedures_go (more p ps) x y o at =
         let parts = out_parts out (identifiers role.Declaring p) (identifiers role.Declaring ps) o in
         let one = procedure_goes p x y parts.0 at in
         goes_then one (procedures_go ps (visit_procedure p x) (visit_procedure p y) parts.1 one.at)
 
-    pub procedure_goes : (p : Tree ℕ (item procedure)) (x y : Visit) → AllOut out (leaves p) → Beside x y → Goes x y (visit_procedure p x) (visit_procedure p y)
+    pub procedure_goes : (p : Tree ℕ (item procedure)) (x y : WalkState) → AllOut out (leaves p) → Beside x y → Goes x y (visit_procedure p x) (visit_procedure p y)
     procedure_goes (declares_procedure n fs t closing) x y o at =
         let f = out_parts out (identifiers role.Declaring fs) (identifiers role.Declaring t ++ ((role.ClosingName, closing) ∷ [])) o.1 in
         let g = out_parts out (identifiers role.Declaring t) ((role.ClosingName, closing) ∷ []) f.1 in
         let h = heading_goes n fs x y o.0 f.0 at in
-        let x₁ = after_heading (length x.declarations) (length x.scope) (visit_formals fs (numbered_at n x)) in
-        let y₁ = after_heading (length y.declarations) (length y.scope) (visit_formals fs (numbered_at n y)) in
+        let x₁ = state_after_heading (length x.declarations) (length x.scope) (visit_formals fs (number_declaration n x)) in
+        let y₁ = state_after_heading (length y.declarations) (length y.scope) (visit_formals fs (number_declaration n y)) in
         let i = block_goes t x₁ y₁ g.0 h.at in
         goes_then h (goes_then i (ending_goes n closing (7 + length x.declarations) (7 + length y.declarations) (length x.scope) (length y.scope) (visit_block t x₁) (visit_block t y₁) o.0 (ap (λ ds. 7 + length ds) at.declarations) (ap length at.scope) i.at))

@@ -7,18 +7,18 @@ use Rattle.std.proofs.Math.Seq.{drop-append_seam}
 use Rattle.std.proofs.lemmas.Bool.{and_parts, lt-ltb}
 use Rattle.ob0_tree.specs.declared.tree.Role.{Role}
 use Rattle.ob0_tree.specs.declared.tree.Role.TheVariants as role
-use Rattle.ob0_tree.specs.Order.{Ascending, leaves, names_only}
+use Rattle.ob0_tree.specs.Order.{AreAscending, leaves, names_without_roles}
 use Rattle.ob0_tree.specs.Tree.{Tree, block, body, declares, declares_procedure, end, has_body, identifiers, is_module, item, items, maybe, module_text, more, procedure}
 use Rattle.ob0_tree.proofs.AscendingNumbers.{AllBelow, ascend_first, ascend_past, ascend_second, before_one, below_more, below_second, leaves_append}
 use Rattle.ob0_language_names.specs.Names.{Name}
 use Rattle.ob0_language_names.specs.Parts.{procedure_name}
-use Rattle.ob0_scope_table.specs.OneBody.{closing_name, is_in_block, is_in_body, is_in_procedure, is_in_procedures, is_out}
-use Rattle.ob0_scope_table.specs.Resolution.{declaring_only}
-use Rattle.ob0_scope_table.proofs.Plain.{declares_nothing, declaring_only-append}
-use Rattle.ob0_scope_numbering.specs.Marking.{Visit, after_heading, marked, numbered_at, put, started, used, visit_block, visit_constant_section, visit_formals, visit_module, visit_procedure, visit_procedures, visit_type_section, visit_variable_section}
+use Rattle.ob0_scope_table.specs.OneBody.{closing_name, is_in_block, is_in_body, is_in_procedure, is_in_procedures, is_outside}
+use Rattle.ob0_scope_table.specs.Resolution.{declaring_names}
+use Rattle.ob0_scope_table.proofs.Plain.{declares_nothing, declaring_names-append}
+use Rattle.ob0_scope_numbering.specs.MarkWalk.{WalkState, state_after_heading, with_mark, number_declaration, put_ordinal, initial_walk, visit_part, visit_block, visit_constant_section, visit_formals, visit_module, visit_procedure, visit_procedures, visit_type_section, visit_variable_section}
 use Rattle.ob0_scope_numbering.specs.Marks.{OrdinalMark}
-use Rattle.ob0_scope_numbering.specs.Renumbering.{caught_up, first_before, passed_over, renumber_block, renumber_procedure, renumber_procedures}
-use Rattle.ob0_scope_numbering.specs.Written.{Writing, name_at}
+use Rattle.ob0_scope_numbering.specs.BodyWalk.{with_declarations_before, prefix_before, with_procedure_skipped, renumber_block, renumber_procedure, renumber_procedures}
+use Rattle.ob0_scope_numbering.specs.Written.{Spellings, spelling_at}
 use Rattle.ob0_scope_numbering.proofs.Alongside.{Adds, Alike, AllOut, Beside, Goes, adds_then, declared_goes, ending_goes, goes_then, heading_goes, marked_goes, out_parts, out_split, procedure_goes, procedures_go, used_adds, used_goes}
 use Rattle.ob0_scope_numbering.proofs.Covered.{Covers, above_out, below_block, below_out, below_procedures, covers_all, covers_both, covers_more, covers_none, covers_same, is_above_out}
 use Rattle.ob0_scope_numbering.proofs.Tabled.{marks_again}
@@ -51,23 +51,23 @@ not_itself x = one (nat_lt x x) refl
     one true e = absurd (grind (arith, nat_tests))
 
 -- The tokens listed before x are the tokens before x, if all of them are below x.
-stops_at : (x : ℕ) (xs extra : List ℕ) → AllBelow x xs → first_before x (xs ++ (x ∷ extra)) ≡ xs
-stops_at x [] extra h = ap (λ b. if b then x ∷ first_before x extra else []) (not_itself x)
+stops_at : (x : ℕ) (xs extra : List ℕ) → AllBelow x xs → prefix_before x (xs ++ (x ∷ extra)) ≡ xs
+stops_at x [] extra h = ap (λ b. if b then x ∷ prefix_before x extra else []) (not_itself x)
 stops_at x (y ∷ ys) extra h =
-    ap (λ b. if b then y ∷ first_before x (ys ++ (x ∷ extra)) else []) (lt-ltb y x h.0) ∙ ap (λ l. y ∷ l) (stops_at x ys extra h.1)
+    ap (λ b. if b then y ∷ prefix_before x (ys ++ (x ∷ extra)) else []) (lt-ltb y x h.0) ∙ ap (λ l. y ∷ l) (stops_at x ys extra h.1)
 
 -- ---- a procedure's tokens end with its closing name
 
 -- returns the identifiers of a procedure except its closing name
 abbrev inside : Tree ℕ (item procedure) → List ℕ
-inside (declares_procedure x fs b closing) = x ∷ names_only (identifiers role.Declaring fs ++ identifiers role.Declaring b)
+inside (declares_procedure x fs b closing) = x ∷ names_without_roles (identifiers role.Declaring fs ++ identifiers role.Declaring b)
 
 procedure_ends : (p : Tree ℕ (item procedure)) → leaves p ≡ inside p ++ (closing_name p ∷ [])
 procedure_ends (declares_procedure x fs b closing) = simp (leaves_append, append_assoc)
 
-procedure_below : (low : ℕ) (p : Tree ℕ (item procedure)) (from to : ℕ) → closing_name p < low → Ascending from (leaves p) to → AllBelow low (leaves p)
+procedure_below : (low : ℕ) (p : Tree ℕ (item procedure)) (from to : ℕ) → closing_name p < low → AreAscending from (leaves p) to → AllBelow low (leaves p)
 procedure_below low p from to less h =
-    let ends = before_one from (inside p) (closing_name p) [] to (subst (λ l. Ascending from l to) (procedure_ends p) h) in
+    let ends = before_one from (inside p) (closing_name p) [] to (subst (λ l. AreAscending from l to) (procedure_ends p) h) in
     subst (AllBelow low) (sym (procedure_ends p)) (both (inside p) (below_more (closing_name p) low (inside p) (omega (arith, less)) ends))
   where
     both : (xs : List ℕ) → AllBelow low xs → AllBelow low (xs ++ (closing_name p ∷ []))
@@ -75,69 +75,69 @@ procedure_below low p from to less h =
     both (x ∷ xs) h = (h.0, both xs h.1)
 
 -- The tokens after a procedure ascend from its closing name.
-ascend_after : (p : Tree ℕ (item procedure)) (rest : List ℕ) (from to : ℕ) → Ascending from (leaves p ++ rest) to → Ascending (closing_name p + 1) rest to
+ascend_after : (p : Tree ℕ (item procedure)) (rest : List ℕ) (from to : ℕ) → AreAscending from (leaves p ++ rest) to → AreAscending (closing_name p + 1) rest to
 ascend_after p rest from to h =
     let split : leaves p ++ rest ≡ inside p ++ (closing_name p ∷ rest) = ap (λ l. l ++ rest) (procedure_ends p) ∙ append_assoc (inside p) (closing_name p ∷ []) rest in
-    ascend_past from (inside p) (closing_name p) rest to (subst (λ l. Ascending from l to) split h)
+    ascend_past from (inside p) (closing_name p) rest to (subst (λ l. AreAscending from l to) split h)
 
 -- ---- the walks
 
-module _ (old new : Writing) (all : List ℕ) (bound low high : ℕ) (same : (i : ℕ) → is_out low high i ≡ true → name_at old i ≡ name_at new i) (rise : Ascending 0 all bound) where
+module _ (old new : Spellings) (all : List ℕ) (bound low high : ℕ) (same : (i : ℕ) → is_outside low high i ≡ true → spelling_at old i ≡ spelling_at new i) (rise : AreAscending 0 all bound) where
   abbrev out : ℕ → Bool
-  out = is_out low high
+  out = is_outside low high
 
   -- holds if the complete walks through the old text and through the new one are at the same place
-  abbrev pub Near : Visit → Visit → Type 0
+  abbrev pub Near : WalkState → WalkState → Type 0
   Near = Beside out old new same
 
-  abbrev pub NearGoes : Visit → Visit → Visit → Visit → Type 0
+  abbrev pub NearGoes : WalkState → WalkState → WalkState → WalkState → Type 0
   NearGoes = Goes out old new same
 
-  pub nothing_new : (i : ℕ) → true ≡ true → name_at new i ≡ name_at new i
+  pub nothing_new : (i : ℕ) → true ≡ true → spelling_at new i ≡ spelling_at new i
   nothing_new i e = refl
 
   -- holds if the walk to the body and the complete walk through the new text are at the same place
-  abbrev pub On : Visit → Visit → Type 0
+  abbrev pub On : WalkState → WalkState → Type 0
   On = Beside (λ i. true) new new nothing_new
 
   -- states that the walk to the body hasn't counted some declarations yet
-  pub record Behind (v w : Visit) : Type 0 where
+  pub record Behind (v w : WalkState) : Type 0 where
     pub first : v.writing ≡ new
     pub second : w.writing ≡ new
     pub scope : v.scope ≡ w.scope
     pub behind : List ℕ
     pub is : w.declarations ≡ v.declarations ++ behind
 
-  abbrev Itself : Visit → Type 0
+  abbrev Itself : WalkState → Type 0
   Itself w = At w new w.scope (7 + length w.declarations)
 
   -- states that the walk to the body adds the same marks as the complete walk, except at tokens
   -- outside the range
-  pub record Reaches (o w v o' w' v' : Visit) : Type 0 where
+  pub record Reaches (o w v o' w' v' : WalkState) : Type 0 where
     pub near : NearGoes o w o' w'
     pub added : List OrdinalMark
     pub is : v'.marks ≡ v.marks ++ added
     pub covers : Covers out near.adds.seconds added
 
-  on_behind : (v w : Visit) → On v w → Behind v w
+  on_behind : (v w : WalkState) → On v w → Behind v w
   on_behind v w at = record { first = at.first; second = at.second; scope = at.scope; behind = []; is = sym at.declarations ∙ sym (append-nil v.declarations) }
 
-  caught : (x : ℕ) (extra : List ℕ) (v w : Visit) → Behind v w → all ≡ w.declarations ++ (x ∷ extra) → On (caught_up all x v) w
+  caught : (x : ℕ) (extra : List ℕ) (v w : WalkState) → Behind v w → all ≡ w.declarations ++ (x ∷ extra) → On (with_declarations_before all x v) w
   caught x extra v w at e =
       let split : all ≡ v.declarations ++ (at.behind ++ (x ∷ extra)) = e ∙ (ap (λ ds. ds ++ (x ∷ extra)) at.is ∙ append_assoc v.declarations at.behind (x ∷ extra)) in
       let rest : drop (length v.declarations) all ≡ at.behind ++ (x ∷ extra) = ap (drop (length v.declarations)) split ∙ drop-append_seam v.declarations (at.behind ++ (x ∷ extra)) in
-      let low_ones = before_one 0 w.declarations x extra bound (subst (λ l. Ascending 0 l bound) e rise) in
+      let low_ones = before_one 0 w.declarations x extra bound (subst (λ l. AreAscending 0 l bound) e rise) in
       let below = below_second x v.declarations at.behind (subst (AllBelow x) at.is low_ones) in
       record {
         first = at.first;
         second = at.second;
         scope = at.scope;
-        declarations = ap (λ l. v.declarations ++ first_before x l) rest ∙ (ap (λ l. v.declarations ++ l) (stops_at x at.behind extra below) ∙ sym at.is);
-        outside = all_in (v.declarations ++ first_before x (drop (length v.declarations) all));
+        declarations = ap (λ l. v.declarations ++ prefix_before x l) rest ∙ (ap (λ l. v.declarations ++ l) (stops_at x at.behind extra below) ∙ sym at.is);
+        outside = all_in (v.declarations ++ prefix_before x (drop (length v.declarations) all));
       }
 
   -- Two walks through the same part from the same place make the same marks.
-  covers_part : (o w o' w' v v' : Visit) (near : Adds out old new same o w o' w') (on : Adds (λ i. true) new new nothing_new v w v' w') → Covers out near.seconds on.firsts
+  covers_part : (o w o' w' v v' : WalkState) (near : Adds out old new same o w o' w') (on : Adds (λ i. true) new new nothing_new v w v' w') → Covers out near.seconds on.firsts
   covers_part o w o' w' v v' near on =
       subst (Covers out near.seconds) (same_added w.marks w'.marks near.seconds on.seconds near.second_is on.second_is ∙ sym (alike_is on.firsts on.seconds on.alike)) (covers_same out near.seconds)
 
@@ -152,7 +152,7 @@ module _ (old new : Writing) (all : List ℕ) (bound low high : ℕ) (same : (i 
   value i = i
 
   -- Reaching the body in the second of two parts reaches it in both together.
-  joined_reach : (o w v o₁ w₁ v₁ o₂ w₂ v₂ : Visit) (near : NearGoes o w o₁ w₁) (on : Adds (λ i. true) new new nothing_new v w v₁ w₁) → Reaches o₁ w₁ v₁ o₂ w₂ v₂ → Reaches o w v o₂ w₂ v₂
+  joined_reach : (o w v o₁ w₁ v₁ o₂ w₂ v₂ : WalkState) (near : NearGoes o w o₁ w₁) (on : Adds (λ i. true) new new nothing_new v w v₁ w₁) → Reaches o₁ w₁ v₁ o₂ w₂ v₂ → Reaches o w v o₂ w₂ v₂
   joined_reach o w v o₁ w₁ v₁ o₂ w₂ v₂ near on r = record {
     near = goes_then out old new same near r.near;
     added = on.firsts ++ r.added;
@@ -162,68 +162,68 @@ module _ (old new : Writing) (all : List ℕ) (bound low high : ℕ) (same : (i 
 
   -- returns the declaring tokens in a procedure after its name
   abbrev others_declared : Tree ℕ (item procedure) → List ℕ
-  others_declared (declares_procedure x fs b closing) = declaring_only (identifiers role.Declaring fs ++ (identifiers role.Declaring b ++ ((role.ClosingName, closing) ∷ [])))
+  others_declared (declares_procedure x fs b closing) = declaring_names (identifiers role.Declaring fs ++ (identifiers role.Declaring b ++ ((role.ClosingName, closing) ∷ [])))
 
-  name_first : (q : Tree ℕ (item procedure)) → declaring_only (identifiers role.Declaring q) ≡ procedure_name q ∷ others_declared q
+  name_first : (q : Tree ℕ (item procedure)) → declaring_names (identifiers role.Declaring q) ≡ procedure_name q ∷ others_declared q
   name_first (declares_procedure x fs b closing) = refl
 
-  name_passed : (q : Tree ℕ (item procedure)) (w : Visit) → (procedure_name (spelled nowhere written new value q), 7 + length w.declarations) ∷ w.scope ≡ (name_at new (procedure_name q), 7 + length w.declarations) ∷ w.scope
+  name_passed : (q : Tree ℕ (item procedure)) (w : WalkState) → (procedure_name (spelled nowhere written new value q), 7 + length w.declarations) ∷ w.scope ≡ (spelling_at new (procedure_name q), 7 + length w.declarations) ∷ w.scope
   name_passed (declares_procedure x fs b closing) w = refl
 
-  statements_declare_nothing : (t : Tree ℕ (maybe body)) → declaring_only (identifiers role.Declaring t) ≡ []
+  statements_declare_nothing : (t : Tree ℕ (maybe body)) → declaring_names (identifiers role.Declaring t) ≡ []
   statements_declare_nothing t = (declares_nothing tt t).plain
 
   -- states that the walk through procedures and statements reaches the body; `Here` states it for
   -- one procedure
   abbrev Rest : Tree ℕ (items procedure) → Tree ℕ (maybe body) → Type 0
   Rest ps statements =
-      (o w v : Visit) (from to : ℕ) (extra : List ℕ) → is_in_procedures low high ps statements ≡ true → Ascending from (leaves ps ++ leaves statements) to
-      → all ≡ w.declarations ++ (declaring_only (identifiers role.Declaring ps) ++ extra) → Itself w → Near o w → Behind v w
-      → Reaches o w v (used statements (visit_procedures ps o)) (used statements (visit_procedures ps w)) (renumber_procedures put all low ps statements v)
+      (o w v : WalkState) (from to : ℕ) (extra : List ℕ) → is_in_procedures low high ps statements ≡ true → AreAscending from (leaves ps ++ leaves statements) to
+      → all ≡ w.declarations ++ (declaring_names (identifiers role.Declaring ps) ++ extra) → Itself w → Near o w → Behind v w
+      → Reaches o w v (visit_part statements (visit_procedures ps o)) (visit_part statements (visit_procedures ps w)) (renumber_procedures put_ordinal all low ps statements v)
 
   abbrev Here : Tree ℕ (item procedure) → Type 0
   Here q =
-      (o w v : Visit) (from to : ℕ) (extra : List ℕ) → is_in_procedure low high q ≡ true → high ≤ closing_name q → Ascending from (leaves q) to
-      → all ≡ w.declarations ++ (declaring_only (identifiers role.Declaring q) ++ extra) → Itself w → Near o w → On v w
-      → Reaches o w v (visit_procedure q o) (visit_procedure q w) (renumber_procedure put all low q v)
+      (o w v : WalkState) (from to : ℕ) (extra : List ℕ) → is_in_procedure low high q ≡ true → high ≤ closing_name q → AreAscending from (leaves q) to
+      → all ≡ w.declarations ++ (declaring_names (identifiers role.Declaring q) ++ extra) → Itself w → Near o w → On v w
+      → Reaches o w v (visit_procedure q o) (visit_procedure q w) (renumber_procedure put_ordinal all low q v)
 
   -- One more procedure is either skipped, or has the body in it.
-  one_procedure : (q : Tree ℕ (item procedure)) (ps : Tree ℕ (items procedure)) (statements : Tree ℕ (maybe body)) (o w v : Visit) (from to : ℕ) (rest : List ℕ) → Rest ps statements → Here q
-      → all ≡ w.declarations ++ (declaring_only (identifiers role.Declaring q) ++ (declaring_only (identifiers role.Declaring ps) ++ rest)) → Itself w → Near o w → On (caught_up all (procedure_name q) v) w
-      → Ascending from (leaves q ++ (leaves ps ++ leaves statements)) to → (b : Bool) → nat_lt (closing_name q) low ≡ b
+  one_procedure : (q : Tree ℕ (item procedure)) (ps : Tree ℕ (items procedure)) (statements : Tree ℕ (maybe body)) (o w v : WalkState) (from to : ℕ) (rest : List ℕ) → Rest ps statements → Here q
+      → all ≡ w.declarations ++ (declaring_names (identifiers role.Declaring q) ++ (declaring_names (identifiers role.Declaring ps) ++ rest)) → Itself w → Near o w → On (with_declarations_before all (procedure_name q) v) w
+      → AreAscending from (leaves q ++ (leaves ps ++ leaves statements)) to → (b : Bool) → nat_lt (closing_name q) low ≡ b
       → (if b then is_in_procedures low high ps statements else nat_le high (closing_name q) && is_in_procedure low high q) ≡ true
-      → Reaches o w v (used statements (visit_procedures ps (visit_procedure q o))) (used statements (visit_procedures ps (visit_procedure q w)))
-      (if b then renumber_procedures put all low ps statements (passed_over (procedure_name q) (caught_up all (procedure_name q) v)) else renumber_procedure put all low q (caught_up all (procedure_name q) v))
+      → Reaches o w v (visit_part statements (visit_procedures ps (visit_procedure q o))) (visit_part statements (visit_procedures ps (visit_procedure q w)))
+      (if b then renumber_procedures put_ordinal all low ps statements (with_procedure_skipped (procedure_name q) (with_declarations_before all (procedure_name q) v)) else renumber_procedure put_ordinal all low q (with_declarations_before all (procedure_name q) v))
   one_procedure q ps statements o w v from to rest later here first at near on parts true e inside_them =
       let x = procedure_name q in
-      let v₁ = caught_up all x v in
+      let v₁ = with_declarations_before all x v in
       let w₁ = visit_procedure q w in
       let passed = procedure_passed nowhere written new value q w w.scope (7 + length w.declarations) at in
-      let next : all ≡ w₁.declarations ++ (declaring_only (identifiers role.Declaring ps) ++ rest) =
+      let next : all ≡ w₁.declarations ++ (declaring_names (identifiers role.Declaring ps) ++ rest) =
       first
-      ∙ (sym (append_assoc w.declarations (declaring_only (identifiers role.Declaring q)) (declaring_only (identifiers role.Declaring ps) ++ rest))
-      ∙ ap (λ l. l ++ (declaring_only (identifiers role.Declaring ps) ++ rest)) (sym passed.declared)) in
+      ∙ (sym (append_assoc w.declarations (declaring_names (identifiers role.Declaring q)) (declaring_names (identifiers role.Declaring ps) ++ rest))
+      ∙ ap (λ l. l ++ (declaring_names (identifiers role.Declaring ps) ++ rest)) (sym passed.declared)) in
       let less : closing_name q < low = grind (arith, nat_tests) in
       let outside = below_out low high (leaves q) (procedure_below low q from to less (ascend_first from (leaves q) (leaves ps ++ leaves statements) to parts)) in
       let n = procedure_goes out old new same q o w outside near in
-      let behind₁ : Behind (passed_over x v₁) w₁ = record {
+      let behind₁ : Behind (with_procedure_skipped x v₁) w₁ = record {
         first = on.first;
         second = passed.at.writing;
-        scope = (λ j. (name_at (on.first j) x, 7 + length (on.declarations j)) ∷ on.scope j) ∙ sym (passed.at.scope ∙ name_passed q w);
-        behind = declaring_only (identifiers role.Declaring q);
-        is = passed.declared ∙ ap (λ ds. ds ++ declaring_only (identifiers role.Declaring q)) (sym on.declarations);
+        scope = (λ j. (spelling_at (on.first j) x, 7 + length (on.declarations j)) ∷ on.scope j) ∙ sym (passed.at.scope ∙ name_passed q w);
+        behind = declaring_names (identifiers role.Declaring q);
+        is = passed.declared ∙ ap (λ ds. ds ++ declaring_names (identifiers role.Declaring q)) (sym on.declarations);
       } in
       let tokens : tokens_of n.adds.seconds ≡ leaves q = tokens_added w.marks w₁.marks n.adds.seconds (leaves q) n.adds.second_is passed.tokens in
       let covered = covers_all out n.adds.seconds (subst (AllOut out) (sym tokens) outside) in
-      let r = later (visit_procedure q o) w₁ (passed_over x v₁) from to rest inside_them (ascend_second from (leaves q) (leaves ps ++ leaves statements) to parts) next (at_itself passed.at) n.at behind₁ in
+      let r = later (visit_procedure q o) w₁ (with_procedure_skipped x v₁) from to rest inside_them (ascend_second from (leaves q) (leaves ps ++ leaves statements) to parts) next (at_itself passed.at) n.at behind₁ in
       record { near = goes_then out old new same n r.near; added = r.added; is = r.is; covers = covers_both out covered r.covers }
   one_procedure q ps statements o w v from to rest later here first at near on parts false e inside_it =
-      let v₁ = caught_up all (procedure_name q) v in
+      let v₁ = with_declarations_before all (procedure_name q) v in
       let both = and_parts (nat_le high (closing_name q)) (is_in_procedure low high q) inside_it in
       let reaches_end = both.0 in
       let le : high ≤ closing_name q = grind (arith, nat_tests) in
       let passed = procedure_passed nowhere written new value q w w.scope (7 + length w.declarations) at in
-      let h = here o w v₁ from to (declaring_only (identifiers role.Declaring ps) ++ rest) both.1 le (ascend_first from (leaves q) (leaves ps ++ leaves statements) to parts) first at near on in
+      let h = here o w v₁ from to (declaring_names (identifiers role.Declaring ps) ++ rest) both.1 le (ascend_first from (leaves q) (leaves ps ++ leaves statements) to parts) first at near on in
       let w₁ = visit_procedure q w in
       let w₂ = visit_procedures ps w₁ in
       let beyond = ascend_after q (leaves ps ++ leaves statements) from to parts in
@@ -233,7 +233,7 @@ module _ (old new : Writing) (all : List ℕ) (bound low high : ℕ) (same : (i 
       let p₁ = procedures_passed nowhere written new value ps w₁ w₁.scope (7 + length w₁.declarations) (at_itself passed.at) in
       let p₂ = used_passed nowhere written new value statements w₂ w₂.scope (7 + length w₂.declarations) tt (at_itself p₁.at) in
       let t₁ : tokens_of n.adds.seconds ≡ leaves ps = tokens_added w₁.marks w₂.marks n.adds.seconds (leaves ps) n.adds.second_is p₁.tokens in
-      let t₂ : tokens_of m.adds.seconds ≡ leaves statements = tokens_added w₂.marks (used statements w₂).marks m.adds.seconds (leaves statements) m.adds.second_is p₂.tokens in
+      let t₂ : tokens_of m.adds.seconds ≡ leaves statements = tokens_added w₂.marks (visit_part statements w₂).marks m.adds.seconds (leaves statements) m.adds.second_is p₂.tokens in
       let c₁ = covers_all out n.adds.seconds (subst (AllOut out) (sym t₁) outside.0) in
       let c₂ = covers_all out m.adds.seconds (subst (AllOut out) (sym t₂) outside.1) in
       record {
@@ -244,17 +244,17 @@ module _ (old new : Writing) (all : List ℕ) (bound low high : ℕ) (same : (i 
       }
 
   mutual
-    pub block_reached : (b : Tree ℕ block) (o w v : Visit) (from to : ℕ) (extra : List ℕ) → is_in_block low high b ≡ true → Ascending from (leaves b) to
-        → all ≡ w.declarations ++ (declaring_only (identifiers role.Declaring b) ++ extra) → Itself w → Near o w → On v w → Reaches o w v (visit_block b o) (visit_block b w) (renumber_block put all low b v)
+    pub block_reached : (b : Tree ℕ block) (o w v : WalkState) (from to : ℕ) (extra : List ℕ) → is_in_block low high b ≡ true → AreAscending from (leaves b) to
+        → all ≡ w.declarations ++ (declaring_names (identifiers role.Declaring b) ++ extra) → Itself w → Near o w → On v w → Reaches o w v (visit_block b o) (visit_block b w) (renumber_block put_ordinal all low b v)
     block_reached (has_body (declares cs ts vs ps) statements) o w v from to extra inside_it rising declared at near on =
         let c = identifiers role.Declaring cs in
         let t = identifiers role.Declaring ts in
         let g = identifiers role.Declaring vs in
         let p = identifiers role.Declaring ps in
         let s = identifiers role.Declaring statements in
-        let split : names_only ((c ++ (t ++ (g ++ p))) ++ s) ≡ names_only (c ++ (t ++ g)) ++ (names_only p ++ names_only s) = simp (leaves_append, append_assoc) in
-        let parts = subst (λ l. Ascending from l to) split rising in
-        let before = below_out low high (names_only (c ++ (t ++ g))) (below_procedures low high ps statements (names_only (c ++ (t ++ g))) from to inside_it parts) in
+        let split : names_without_roles ((c ++ (t ++ (g ++ p))) ++ s) ≡ names_without_roles (c ++ (t ++ g)) ++ (names_without_roles p ++ names_without_roles s) = simp (leaves_append, append_assoc) in
+        let parts = subst (λ l. AreAscending from l to) split rising in
+        let before = below_out low high (names_without_roles (c ++ (t ++ g))) (below_procedures low high ps statements (names_without_roles (c ++ (t ++ g))) from to inside_it parts) in
         let oc = out_parts out c (t ++ g) before in
         let ot = out_parts out t g oc.1 in
         let n = declared_goes out old new same cs ts vs o w oc.0 ot.0 ot.1 near in
@@ -266,68 +266,68 @@ module _ (old new : Writing) (all : List ℕ) (bound low high : ℕ) (same : (i 
         let a₂ = type_section_passed nowhere written new value ts w₁ _ _ a.at in
         let a₃ = variable_section_passed nowhere written new value vs w₂ _ _ a₂.at in
         let passed = pass_then nowhere written new value a (pass_then nowhere written new value a₂ a₃) in
-        let d : (xs ys : List (Role × ℕ)) → declaring_only (xs ++ ys) ≡ declaring_only xs ++ declaring_only ys = declaring_only-append in
-        let none : declaring_only s ≡ [] = statements_declare_nothing statements in
-        let lists : declaring_only ((c ++ (t ++ (g ++ p))) ++ s) ≡ declaring_only (c ++ (t ++ g)) ++ declaring_only p = simp (declaring_only-append, append_assoc, none, append-nil) in
-        let here : all ≡ w₃.declarations ++ (declaring_only p ++ extra) =
+        let d : (xs ys : List (Role × ℕ)) → declaring_names (xs ++ ys) ≡ declaring_names xs ++ declaring_names ys = declaring_names-append in
+        let none : declaring_names s ≡ [] = statements_declare_nothing statements in
+        let lists : declaring_names ((c ++ (t ++ (g ++ p))) ++ s) ≡ declaring_names (c ++ (t ++ g)) ++ declaring_names p = simp (declaring_names-append, append_assoc, none, append-nil) in
+        let here : all ≡ w₃.declarations ++ (declaring_names p ++ extra) =
         declared
         ∙ (ap (λ l. w.declarations ++ (l ++ extra)) lists
-        ∙ (ap (λ l. w.declarations ++ l) (append_assoc (declaring_only (c ++ (t ++ g))) (declaring_only p) extra)
-        ∙ (sym (append_assoc w.declarations (declaring_only (c ++ (t ++ g))) (declaring_only p ++ extra))
-        ∙ ap (λ l. l ++ (declaring_only p ++ extra)) (sym passed.declared)))) in
+        ∙ (ap (λ l. w.declarations ++ l) (append_assoc (declaring_names (c ++ (t ++ g))) (declaring_names p) extra)
+        ∙ (sym (append_assoc w.declarations (declaring_names (c ++ (t ++ g))) (declaring_names p ++ extra))
+        ∙ ap (λ l. l ++ (declaring_names p ++ extra)) (sym passed.declared)))) in
         let o₃ = visit_variable_section vs (visit_type_section ts (visit_constant_section cs o)) in
         let v₃ = visit_variable_section vs (visit_type_section ts (visit_constant_section cs v)) in
-        let rest = procedures_reached ps statements o₃ w₃ v₃ from to extra inside_it (ascend_second from (names_only (c ++ (t ++ g))) (names_only p ++ names_only s) to parts) here (at_itself passed.at) n.at (on_behind v₃ w₃ m.at) in
+        let rest = procedures_reached ps statements o₃ w₃ v₃ from to extra inside_it (ascend_second from (names_without_roles (c ++ (t ++ g))) (names_without_roles p ++ names_without_roles s) to parts) here (at_itself passed.at) n.at (on_behind v₃ w₃ m.at) in
         joined_reach o w v o₃ w₃ v₃ _ _ _ n m.adds rest
 
-    pub procedures_reached : (ps : Tree ℕ (items procedure)) (statements : Tree ℕ (maybe body)) (o w v : Visit) (from to : ℕ) (extra : List ℕ) → is_in_procedures low high ps statements ≡ true → Ascending from (leaves ps ++ leaves statements) to
-        → all ≡ w.declarations ++ (declaring_only (identifiers role.Declaring ps) ++ extra) → Itself w → Near o w → Behind v w
-        → Reaches o w v (used statements (visit_procedures ps o)) (used statements (visit_procedures ps w)) (renumber_procedures put all low ps statements v)
+    pub procedures_reached : (ps : Tree ℕ (items procedure)) (statements : Tree ℕ (maybe body)) (o w v : WalkState) (from to : ℕ) (extra : List ℕ) → is_in_procedures low high ps statements ≡ true → AreAscending from (leaves ps ++ leaves statements) to
+        → all ≡ w.declarations ++ (declaring_names (identifiers role.Declaring ps) ++ extra) → Itself w → Near o w → Behind v w
+        → Reaches o w v (visit_part statements (visit_procedures ps o)) (visit_part statements (visit_procedures ps w)) (renumber_procedures put_ordinal all low ps statements v)
     procedures_reached end statements o w v from to extra inside_it rising declared at near behind =
         let n = used_goes out old new same statements o w near in
         let m = used_adds (λ i. true) new new nothing_new statements v w (record { first = behind.first; second = behind.second; scope = behind.scope }) in
-        record { near = n; added = m.firsts; is = m.first_is; covers = covers_part o w (used statements o) (used statements w) v (used statements v) n.adds m }
+        record { near = n; added = m.firsts; is = m.first_is; covers = covers_part o w (visit_part statements o) (visit_part statements w) v (visit_part statements v) n.adds m }
     procedures_reached (more q ps) statements o w v from to rest inside_it rising declared at near behind =
         let iq = identifiers role.Declaring q in
         let ips = identifiers role.Declaring ps in
-        let split : names_only (iq ++ ips) ++ leaves statements ≡ leaves q ++ (leaves ps ++ leaves statements) = simp (leaves_append, append_assoc) in
-        let parts = subst (λ l. Ascending from l to) split rising in
-        let first : all ≡ w.declarations ++ (declaring_only iq ++ (declaring_only ips ++ rest)) =
-        declared ∙ (ap (λ l. w.declarations ++ (l ++ rest)) (declaring_only-append iq ips) ∙ ap (λ l. w.declarations ++ l) (append_assoc (declaring_only iq) (declaring_only ips) rest)) in
-        let on = caught (procedure_name q) (others_declared q ++ (declaring_only ips ++ rest)) v w behind (first ∙ ap (λ l. w.declarations ++ (l ++ (declaring_only ips ++ rest))) (name_first q)) in
+        let split : names_without_roles (iq ++ ips) ++ leaves statements ≡ leaves q ++ (leaves ps ++ leaves statements) = simp (leaves_append, append_assoc) in
+        let parts = subst (λ l. AreAscending from l to) split rising in
+        let first : all ≡ w.declarations ++ (declaring_names iq ++ (declaring_names ips ++ rest)) =
+        declared ∙ (ap (λ l. w.declarations ++ (l ++ rest)) (declaring_names-append iq ips) ∙ ap (λ l. w.declarations ++ l) (append_assoc (declaring_names iq) (declaring_names ips) rest)) in
+        let on = caught (procedure_name q) (others_declared q ++ (declaring_names ips ++ rest)) v w behind (first ∙ ap (λ l. w.declarations ++ (l ++ (declaring_names ips ++ rest))) (name_first q)) in
         one_procedure q ps statements o w v from to rest (procedures_reached ps statements) (procedure_reached q) first at near on parts (nat_lt (closing_name q) low) refl inside_it
 
-    pub procedure_reached : (q : Tree ℕ (item procedure)) (o w v : Visit) (from to : ℕ) (extra : List ℕ) → is_in_procedure low high q ≡ true → high ≤ closing_name q → Ascending from (leaves q) to
-        → all ≡ w.declarations ++ (declaring_only (identifiers role.Declaring q) ++ extra) → Itself w → Near o w → On v w
-        → Reaches o w v (visit_procedure q o) (visit_procedure q w) (renumber_procedure put all low q v)
+    pub procedure_reached : (q : Tree ℕ (item procedure)) (o w v : WalkState) (from to : ℕ) (extra : List ℕ) → is_in_procedure low high q ≡ true → high ≤ closing_name q → AreAscending from (leaves q) to
+        → all ≡ w.declarations ++ (declaring_names (identifiers role.Declaring q) ++ extra) → Itself w → Near o w → On v w
+        → Reaches o w v (visit_procedure q o) (visit_procedure q w) (renumber_procedure put_ordinal all low q v)
     procedure_reached (declares_procedure x fs b closing) o w v from to extra inside_it le rising declared at near on =
         let f = identifiers role.Declaring fs in
         let i = identifiers role.Declaring b in
         let last : List (Role × ℕ) = (role.ClosingName, closing) ∷ [] in
-        let split : x ∷ names_only (f ++ (i ++ last)) ≡ (x ∷ names_only f) ++ (names_only i ++ (closing ∷ [])) = simp (leaves_append, append_assoc) in
-        let parts = subst (λ l. Ascending from l to) split rising in
-        let own = ascend_first from (names_only i) (closing ∷ []) to (ascend_second from (x ∷ names_only f) (names_only i ++ (closing ∷ [])) to parts) in
-        let joined : (x ∷ names_only f) ++ (names_only i ++ (closing ∷ [])) ≡ ((x ∷ names_only f) ++ names_only i) ++ (closing ∷ []) = sym (append_assoc (x ∷ names_only f) (names_only i) (closing ∷ [])) in
-        let before = below_out low high (x ∷ names_only f) (below_block low high b (x ∷ names_only f) from to inside_it (ascend_first from ((x ∷ names_only f) ++ names_only i) (closing ∷ []) to (subst (λ l. Ascending from l to) joined parts))) in
+        let split : x ∷ names_without_roles (f ++ (i ++ last)) ≡ (x ∷ names_without_roles f) ++ (names_without_roles i ++ (closing ∷ [])) = simp (leaves_append, append_assoc) in
+        let parts = subst (λ l. AreAscending from l to) split rising in
+        let own = ascend_first from (names_without_roles i) (closing ∷ []) to (ascend_second from (x ∷ names_without_roles f) (names_without_roles i ++ (closing ∷ [])) to parts) in
+        let joined : (x ∷ names_without_roles f) ++ (names_without_roles i ++ (closing ∷ [])) ≡ ((x ∷ names_without_roles f) ++ names_without_roles i) ++ (closing ∷ []) = sym (append_assoc (x ∷ names_without_roles f) (names_without_roles i) (closing ∷ [])) in
+        let before = below_out low high (x ∷ names_without_roles f) (below_block low high b (x ∷ names_without_roles f) from to inside_it (ascend_first from ((x ∷ names_without_roles f) ++ names_without_roles i) (closing ∷ []) to (subst (λ l. AreAscending from l to) joined parts))) in
         let n = heading_goes out old new same x fs o w before.0 before.1 near in
         let m = heading_goes (λ i. true) new new nothing_new x fs v w refl (all_in (leaves fs)) on in
         let passed = heading_passed nowhere written new value x fs w w.scope (7 + length w.declarations) at in
-        let o₁ = after_heading (length o.declarations) (length o.scope) (visit_formals fs (numbered_at x o)) in
-        let w₁ = after_heading (length w.declarations) (length w.scope) (visit_formals fs (numbered_at x w)) in
-        let v₁ = after_heading (length v.declarations) (length v.scope) (visit_formals fs (numbered_at x v)) in
-        let lists : declaring_only ((role.Declaring, x) ∷ (f ++ (i ++ last))) ≡ declaring_only ((role.Declaring, x) ∷ f) ++ declaring_only i = simp (declaring_only-append, append-nil) in
-        let here : all ≡ w₁.declarations ++ (declaring_only i ++ extra) =
+        let o₁ = state_after_heading (length o.declarations) (length o.scope) (visit_formals fs (number_declaration x o)) in
+        let w₁ = state_after_heading (length w.declarations) (length w.scope) (visit_formals fs (number_declaration x w)) in
+        let v₁ = state_after_heading (length v.declarations) (length v.scope) (visit_formals fs (number_declaration x v)) in
+        let lists : declaring_names ((role.Declaring, x) ∷ (f ++ (i ++ last))) ≡ declaring_names ((role.Declaring, x) ∷ f) ++ declaring_names i = simp (declaring_names-append, append-nil) in
+        let here : all ≡ w₁.declarations ++ (declaring_names i ++ extra) =
         declared
         ∙ (ap (λ l. w.declarations ++ (l ++ extra)) lists
-        ∙ (ap (λ l. w.declarations ++ l) (append_assoc (declaring_only ((role.Declaring, x) ∷ f)) (declaring_only i) extra)
-        ∙ (sym (append_assoc w.declarations (declaring_only ((role.Declaring, x) ∷ f)) (declaring_only i ++ extra))
-        ∙ ap (λ l. l ++ (declaring_only i ++ extra)) (sym passed.declared)))) in
+        ∙ (ap (λ l. w.declarations ++ l) (append_assoc (declaring_names ((role.Declaring, x) ∷ f)) (declaring_names i) extra)
+        ∙ (sym (append_assoc w.declarations (declaring_names ((role.Declaring, x) ∷ f)) (declaring_names i ++ extra))
+        ∙ ap (λ l. l ++ (declaring_names i ++ extra)) (sym passed.declared)))) in
         let r = block_reached b o₁ w₁ v₁ from to extra inside_it own here (at_itself passed.at) n.at m.at in
         let e = ending_goes out old new same x closing (7 + length o.declarations) (7 + length w.declarations) (length o.scope) (length w.scope) (visit_block b o₁) (visit_block b w₁) before.0 (ap (λ ds. 7 + length ds) near.declarations) (ap length near.scope) r.near.at in
         let mark : OrdinalMark = record { token = closing; ordinal = Some (7 + length w.declarations) } in
         let ends : e.adds.seconds ≡ mark ∷ [] = same_added (visit_block b w₁).marks ((visit_block b w₁).marks ++ (mark ∷ [])) e.adds.seconds (mark ∷ []) e.adds.second_is refl in
         let closed = subst (λ ms. Covers out ms []) (sym ends) (covers_more mark (is_above_out low high closing le) covers_none) in
-        let reached = joined_reach o w v o₁ w₁ v₁ (visit_block b o₁) (visit_block b w₁) (renumber_block put all low b v₁) n m.adds r in
+        let reached = joined_reach o w v o₁ w₁ v₁ (visit_block b o₁) (visit_block b w₁) (renumber_block put_ordinal all low b v₁) n m.adds r in
         record {
           near = goes_then out old new same reached.near e;
           added = reached.added;
@@ -339,28 +339,28 @@ module _ (old new : Writing) (all : List ℕ) (bound low high : ℕ) (same : (i 
 
   -- states how the marks of all three walks through a module agree
   pub record Marked (m : Tree ℕ module_text) : Type 0 where
-    pub alike : Alike out (visit_module m (started old)).marks (visit_module m (started new)).marks
-    pub covers : Covers out (visit_module m (started new)).marks (marks_again all low m new)
+    pub alike : Alike out (visit_module m (initial_walk old)).marks (visit_module m (initial_walk new)).marks
+    pub covers : Covers out (visit_module m (initial_walk new)).marks (marks_again all low m new)
 
-  pub module_marked : (m : Tree ℕ module_text) (to : ℕ) → is_in_body low high m ≡ true → Ascending 0 (leaves m) to → all ≡ declaring_only (identifiers role.Declaring m) → Marked m
+  pub module_marked : (m : Tree ℕ module_text) (to : ℕ) → is_in_body low high m ≡ true → AreAscending 0 (leaves m) to → all ≡ declaring_names (identifiers role.Declaring m) → Marked m
   module_marked (is_module x b closing) to lies rising declared =
       let i = identifiers role.Declaring b in
       let last : List (Role × ℕ) = (role.ModuleName, closing) ∷ [] in
       let both = and_parts (nat_le high closing) (is_in_block low high b) lies in
       let le : high ≤ closing = grind (arith, nat_tests) in
-      let o = started old in
-      let w = started new in
+      let o = initial_walk old in
+      let w = initial_walk new in
       let near : Near o w = record { first = refl; second = refl; scope = refl; declarations = refl; outside = tt } in
       let n = marked_goes out old new same x None None o w refl near in
-      let o₁ = marked x None o in
-      let w₁ = marked x None w in
+      let o₁ = with_mark x None o in
+      let w₁ = with_mark x None w in
       let at : Itself w₁ = record { writing = refl; scope = refl; next = refl; before = (at_start new).before } in
       let on : On w w₁ = record { first = refl; second = refl; scope = refl; declarations = refl; outside = tt } in
-      let split : names_only (i ++ last) ≡ names_only i ++ (closing ∷ []) = leaves_append i last in
-      let parts : Ascending 0 ((x ∷ names_only i) ++ (closing ∷ [])) to = subst (λ l. Ascending 0 (x ∷ l) to) split rising in
-      let own : Ascending 0 (x ∷ names_only i) to = ascend_first 0 (x ∷ names_only i) (closing ∷ []) to parts in
+      let split : names_without_roles (i ++ last) ≡ names_without_roles i ++ (closing ∷ []) = leaves_append i last in
+      let parts : AreAscending 0 ((x ∷ names_without_roles i) ++ (closing ∷ [])) to = subst (λ l. AreAscending 0 (x ∷ l) to) split rising in
+      let own : AreAscending 0 (x ∷ names_without_roles i) to = ascend_first 0 (x ∷ names_without_roles i) (closing ∷ []) to parts in
       let before = below_block low high b (x ∷ []) 0 to both.1 own in
-      let here : all ≡ [] ++ (declaring_only i ++ []) = declared ∙ declaring_only-append i last in
+      let here : all ≡ [] ++ (declaring_names i ++ []) = declared ∙ declaring_names-append i last in
       let r = block_reached b o₁ w₁ w (x + 1) to [] both.1 own.1 here at n.at on in
       let e = marked_goes out old new same closing None None (visit_block b o₁) (visit_block b w₁) refl r.near.at in
       let whole = adds_then out old new same n.adds (adds_then out old new same r.near.adds e.adds) in
@@ -373,5 +373,5 @@ module _ (old new : Writing) (all : List ℕ) (bound low high : ℕ) (same : (i 
       let covered : Covers out whole.seconds (r.added ++ []) = covers_both out opened (covers_both out r.covers closed) in
       record {
         alike = subst (λ ms. Alike out ms (visit_module (is_module x b closing) w).marks) (sym whole.first_is) (subst (λ ms. Alike out whole.firsts ms) (sym whole.second_is) whole.alike);
-        covers = subst (λ ms. Covers out ms (renumber_block put all low b w).marks) (sym whole.second_is) (subst (Covers out whole.seconds) (append-nil r.added ∙ sym r.is) covered);
+        covers = subst (λ ms. Covers out ms (renumber_block put_ordinal all low b w).marks) (sym whole.second_is) (subst (Covers out whole.seconds) (append-nil r.added ∙ sym r.is) covered);
       }

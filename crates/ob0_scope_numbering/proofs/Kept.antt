@@ -2,25 +2,25 @@
 -- ordinals of all marks.
 use Rattle.std.proofs.Common.{◌≡◌, ℕ, suc, ◌+◌, ◌≤◌, Option, Some, None, List, [], ◌∷◌, length, replicate, set, refl, sym, ap, ◌∙◌, subst, arith, append-nil}
 use Rattle.std.proofs.Math.Nat.{min-eq_left}
-use Rattle.ob0_scan.specs.Scanned.{IsScan}
+use Rattle.ob0_scan.specs.TextWithTokens.{IsScan}
 use Rattle.ob0_tree.specs.declared.tree.Role.{Role}
 use Rattle.ob0_tree.specs.declared.tree.Role.TheVariants as role
-use Rattle.ob0_tree.specs.Order.{Ascending, names_only}
-use Rattle.ob0_tree.specs.Parsed.{IsParsed, Parsed, tree_of}
+use Rattle.ob0_tree.specs.Order.{AreAscending, names_without_roles}
+use Rattle.ob0_tree.specs.ParsedModule.{IsParsed, ParsedModule, tree_of}
 use Rattle.ob0_tree.specs.Tree.{identifiers}
 use Rattle.ob0_tree.proofs.Leaves.{leaves_ascend}
-use Rattle.ob0_scope_table.specs.Entries.{greatest, kept}
-use Rattle.ob0_language_names.specs.Names.{as_names}
+use Rattle.ob0_scope_table.specs.Entries.{greatest_ordinal, stored_ordinal}
+use Rattle.ob0_language_names.specs.Names.{naming_by_spelling}
 use Rattle.ob0_scope_table.specs.Resolution.{ordinal_in}
 use Rattle.ob0_scope_table.proofs.FewTokens.{few_tokens}
-use Rattle.ob0_language_names.specs.Scopes.{as_label}
-use Rattle.ob0_scope_numbering.specs.Marking.{started, visit_module}
+use Rattle.ob0_language_names.specs.Scopes.{label_from_ordinal}
+use Rattle.ob0_scope_numbering.specs.MarkWalk.{initial_walk, visit_module}
 use Rattle.ob0_scope_numbering.specs.Marks.{OrdinalMark, with_marks}
-use Rattle.ob0_scope_numbering.specs.Written.{Writing}
+use Rattle.ob0_scope_numbering.specs.Written.{Spellings}
 use Rattle.ob0_scope_numbering.proofs.Passing.{AreInOrder, HasMarks, IsBefore, at_start, module_passed, tokens_of}
 use Rattle.ob0_scope_numbering.proofs.Tables.{marks_in_table}
 
-few_between : (low : ℕ) (xs : List ℕ) (high : ℕ) → Ascending low xs high → low + length xs ≤ high
+few_between : (low : ℕ) (xs : List ℕ) (high : ℕ) → AreAscending low xs high → low + length xs ≤ high
 few_between low [] high h = omega (arith, h)
 few_between low (x ∷ xs) high h = let more = few_between (x + 1) xs high h.1 in omega (arith, h.0, more)
 
@@ -42,7 +42,7 @@ module _ (table : ℕ → Option ℕ) (n : ℕ) where
   AreMarksBefore [] = Unit {0}
   AreMarksBefore (m ∷ ms) = IsBefore n m.ordinal × AreMarksBefore ms
 
-  before_at : (k : ℕ) (xs : List (Role × ℕ)) → AreInOrder table k xs → k + length (names_only xs) ≤ n → AreBeforeAt (names_only xs)
+  before_at : (k : ℕ) (xs : List (Role × ℕ)) → AreInOrder table k xs → k + length (names_without_roles xs) ≤ n → AreBeforeAt (names_without_roles xs)
   before_at k [] h le = tt
   before_at k ((role.Declaring, i) ∷ xs) h le =
       let here : IsBefore n (Some k) = omega (arith, le) in
@@ -61,42 +61,42 @@ module _ (table : ℕ → Option ℕ) (n : ℕ) where
 -- returns a table after the entry of each mark was written at its token
 abbrev pub with_entries : List (Option ℕ) → List OrdinalMark → List (Option ℕ)
 with_entries table [] = table
-with_entries table (m ∷ ms) = with_entries (set table m.token (kept m.ordinal)) ms
+with_entries table (m ∷ ms) = with_entries (set table m.token (stored_ordinal m.ordinal)) ms
 
-kept_before : (n : ℕ) (o : Option ℕ) → n ≤ greatest → IsBefore n o → kept o ≡ o
+kept_before : (n : ℕ) (o : Option ℕ) → n ≤ greatest_ordinal → IsBefore n o → stored_ordinal o ≡ o
 kept_before n None le h = refl
-kept_before n (Some j) le h = ap Some (min-eq_left (let below : j ≤ greatest = omega (arith, le, h) in below))
+kept_before n (Some j) le h = ap Some (min-eq_left (let below : j ≤ greatest_ordinal = omega (arith, le, h) in below))
 
-pub entries_kept : (read : ℕ → Option ℕ) (n : ℕ) (ms : List OrdinalMark) (table : List (Option ℕ)) → n ≤ greatest → AreMarksBefore read n ms → with_entries table ms ≡ with_marks table ms
+pub entries_kept : (read : ℕ → Option ℕ) (n : ℕ) (ms : List OrdinalMark) (table : List (Option ℕ)) → n ≤ greatest_ordinal → AreMarksBefore read n ms → with_entries table ms ≡ with_marks table ms
 entries_kept read n [] table le h = refl
 entries_kept read n (m ∷ ms) table le h =
     ap (λ o. with_entries (set table m.token o) ms) (kept_before n m.ordinal le h.0) ∙ entries_kept read n ms (set table m.token m.ordinal) le h.1
 
 -- states that the marks of a module are below a number that an entry can hold
-pub record MarksFew (m : Parsed) (w : Writing) : Type 0 where
+pub record MarksFew (m : ParsedModule) (w : Spellings) : Type 0 where
   pub read : ℕ → Option ℕ
   pub bound : ℕ
-  pub small : bound ≤ greatest
-  pub before : AreMarksBefore read bound (visit_module (tree_of m) (started w)).marks
+  pub small : bound ≤ greatest_ordinal
+  pub before : AreMarksBefore read bound (visit_module (tree_of m) (initial_walk w)).marks
 
-pub marks_few : (m : Parsed) (w : Writing) → IsParsed m → IsScan m.source → MarksFew m w
+pub marks_few : (m : ParsedModule) (w : Spellings) → IsParsed m → IsScan m.source → MarksFew m w
 marks_few m w parsed scan =
-    let v = visit_module (tree_of m) (started w) in
+    let v = visit_module (tree_of m) (initial_walk w) in
     let ids = identifiers role.Declaring (tree_of m) in
     let nothing : List (Option ℕ) = replicate (length m.source.tokens) None in
     let read = ordinal_in (with_marks nothing v.marks) in
     let has : HasMarks read v.marks = marks_in_table m w v (with_marks nothing v.marks) parsed refl refl in
-    let passed = module_passed read (as_label as_names) w (tree_of m) (started w) (at_start w) in
+    let passed = module_passed read (label_from_ordinal naming_by_spelling) w (tree_of m) (initial_walk w) (at_start w) in
     let order : AreInOrder read 7 ids = subst (AreInOrder read 7) (append-nil ids) (passed.in_order has [] tt) in
-    let few = few_between 0 (names_only ids) (length m.source.tokens) (leaves_ascend m parsed) in
+    let few = few_between 0 (names_without_roles ids) (length m.source.tokens) (leaves_ascend m parsed) in
     let tokens = few_tokens m.source scan in
-    let n = 7 + length (names_only ids) in
+    let n = 7 + length (names_without_roles ids) in
     let before = before_at read n 7 ids order (omega arith) in
     record { read = read; bound = n; small = omega (arith, few, tokens); before = marks_before read n v.marks (subst (AreBeforeAt read n) (sym passed.tokens) before) has }
 
 -- Entries have the ordinals of all marks of a module.
-pub all_kept : (m : Parsed) (w : Writing) (table : List (Option ℕ)) → IsParsed m → IsScan m.source
-    → with_entries table (visit_module (tree_of m) (started w)).marks ≡ with_marks table (visit_module (tree_of m) (started w)).marks
+pub all_kept : (m : ParsedModule) (w : Spellings) (table : List (Option ℕ)) → IsParsed m → IsScan m.source
+    → with_entries table (visit_module (tree_of m) (initial_walk w)).marks ≡ with_marks table (visit_module (tree_of m) (initial_walk w)).marks
 all_kept m w table parsed scan =
     let few = marks_few m w parsed scan in
-    entries_kept few.read few.bound (visit_module (tree_of m) (started w)).marks table few.small few.before
+    entries_kept few.read few.bound (visit_module (tree_of m) (initial_walk w)).marks table few.small few.before

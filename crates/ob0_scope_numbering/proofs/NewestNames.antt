@@ -11,10 +11,10 @@ use Rattle.std.specs.Cmp.{nat_cmp_is}
 use Rattle.std.specs.Cmp.Lexicographic.{slice_cmp}
 use Rattle.std.specs.Ordering.{nat_cmp, ordering_then}
 use Rattle.ob0_scope_numbering.specs.declared.newest.BoundName.{BoundName}
-use Rattle.ob0_scope_numbering.specs.Keys.{Key, compare_keys, compare_name, number_of}
+use Rattle.ob0_scope_numbering.specs.Keys.{Key, compare_keys, compare_name_with_key, suffix_number}
 use Rattle.ob0_language_names.specs.Names.{Name, same_name}
 use Rattle.ob0_language_names.proofs.NameEquality.{same_name-comm, same_name-refl}
-use Rattle.ob0_scope_numbering.specs.NewestNames.{ArePlaces, IsRenewed, KeepsNewest, newest_in, place_of}
+use Rattle.ob0_scope_numbering.specs.NewestNames.{ArePlaces, SetsNewest, KeepsNewest, newest_binding_in, place_of}
 
 -- If a look-up finds position 0, the first name is the one looked up.
 first_place : (same : Bool) (o : Option ℕ) → (if same then Some zero else option_map suc o) ≡ Some zero → same ≡ true
@@ -44,23 +44,23 @@ if_false false v w e = refl
 pub record IsAtIndex (es : List BoundName) (x : Name) (i : ℕ) (d : BoundName) : Type 0 where
   pub below : i < length es
   pub named : (get_or es i d).name.now ≡ x
-  pub newest : newest_in es x ≡ (get_or es i d).newest
+  pub newest : newest_binding_in es x ≡ (get_or es i d).newest
 
 pub place_holds : (es : List BoundName) (x : Name) (i : ℕ) (d : BoundName) → place_of es x ≡ Some i → IsAtIndex es x i d
 place_holds [] x i d h = absurd (cc)
 place_holds (e ∷ es) x zero d h =
     let same = first_place (same_name x e.name.now) (place_of es x) h in
-    record { below = omega arith; named = sym ((bytes_eq-Decides x e.name.now).0 same); newest = if_true (same_name x e.name.now) e.newest (newest_in es x) same }
+    record { below = omega arith; named = sym ((bytes_eq-Decides x e.name.now).0 same); newest = if_true (same_name x e.name.now) e.newest (newest_binding_in es x) same }
 place_holds (e ∷ es) x (suc i) d h =
     let later = later_place (same_name x e.name.now) (place_of es x) i h in
     let r = place_holds es x i d later.1 in
-    record { below = let b = r.below in omega (arith, b); named = r.named; newest = if_false (same_name x e.name.now) e.newest (newest_in es x) later.0 ∙ r.newest }
+    record { below = let b = r.below in omega (arith, b); named = r.named; newest = if_false (same_name x e.name.now) e.newest (newest_binding_in es x) later.0 ∙ r.newest }
 
-pub newest_none : (es : List BoundName) (x : Name) → place_of es x ≡ None → newest_in es x ≡ None
+pub newest_none : (es : List BoundName) (x : Name) → place_of es x ≡ None → newest_binding_in es x ≡ None
 newest_none [] x h = refl
 newest_none (e ∷ es) x h =
     let n = no_place (same_name x e.name.now) (place_of es x) h in
-    if_false (same_name x e.name.now) e.newest (newest_in es x) n.0 ∙ newest_none es x n.1
+    if_false (same_name x e.name.now) e.newest (newest_binding_in es x) n.0 ∙ newest_none es x n.1
 
 -- Setting an entry changes the look-up at that entry, and not at one before it.
 here_renewed : (a b c : Bool) (v w r : Option ℕ) → a ≡ b → c ≡ b → (if a then v else r) ≡ (if b then v else (if c then w else r))
@@ -88,15 +88,15 @@ there_placed false false n o s f g = ap (option_map suc) g
 apart : (x y n : Name) → same_name x n ≡ false → same_name x y ≡ true → same_name y n ≡ false
 apart x y n e same = subst (λ z. same_name z n ≡ false) ((bytes_eq-Decides x y).0 same) e
 
-pub renewed : (es : List BoundName) (x : Name) (i : ℕ) (r : BoundName) → r.name.now ≡ x → place_of es x ≡ Some i → IsRenewed es (set es i r) x r.newest
+pub renewed : (es : List BoundName) (x : Name) (i : ℕ) (r : BoundName) → r.name.now ≡ x → place_of es x ≡ Some i → SetsNewest es (set es i r) x r.newest
 renewed [] x i r named h = absurd (cc)
 renewed (e ∷ es) x zero r named h = λ y.
     let is : x ≡ e.name.now = (bytes_eq-Decides x e.name.now).0 (first_place (same_name x e.name.now) (place_of es x) h) in
-    here_renewed (same_name y r.name.now) (same_name x y) (same_name y e.name.now) r.newest e.newest (newest_in es y)
+    here_renewed (same_name y r.name.now) (same_name x y) (same_name y e.name.now) r.newest e.newest (newest_binding_in es y)
     (ap (same_name y) named ∙ same_name-comm y x) (ap (same_name y) (sym is) ∙ same_name-comm y x)
 renewed (e ∷ es) x (suc i) r named h = λ y.
     let later = later_place (same_name x e.name.now) (place_of es x) i h in
-    there_renewed (same_name x y) (same_name y e.name.now) r.newest e.newest (newest_in es y) (newest_in (set es i r) y)
+    there_renewed (same_name x y) (same_name y e.name.now) r.newest e.newest (newest_binding_in es y) (newest_binding_in (set es i r) y)
     (apart x y e.name.now later.0) (renewed es x i r named later.1 y)
 
 pub place_renewed : (es : List BoundName) (x : Name) (i : ℕ) (r : BoundName) → r.name.now ≡ x → place_of es x ≡ Some i → (y : Name) → place_of (set es i r) y ≡ place_of es y
@@ -108,11 +108,11 @@ place_renewed (e ∷ es) x (suc i) r named h y =
     let later = later_place (same_name x e.name.now) (place_of es x) i h in
     ap (λ o. if same_name y e.name.now then Some zero else option_map suc o) (place_renewed es x i r named later.1 y)
 
-pub added : (es : List BoundName) (r : BoundName) → place_of es r.name.now ≡ None → IsRenewed es (es ++ (r ∷ [])) r.name.now r.newest
+pub added : (es : List BoundName) (r : BoundName) → place_of es r.name.now ≡ None → SetsNewest es (es ++ (r ∷ [])) r.name.now r.newest
 added [] r h = λ y. ap (λ b. if b then r.newest else None) (same_name-comm y r.name.now)
 added (e ∷ es) r h = λ y.
     let n = no_place (same_name r.name.now e.name.now) (place_of es r.name.now) h in
-    there_renewed (same_name r.name.now y) (same_name y e.name.now) r.newest e.newest (newest_in es y) (newest_in (es ++ (r ∷ [])) y)
+    there_renewed (same_name r.name.now y) (same_name y e.name.now) r.newest e.newest (newest_binding_in es y) (newest_binding_in (es ++ (r ∷ [])) y)
     (apart r.name.now y e.name.now n.0) (added es r n.1 y)
 
 pub place_added : (es : List BoundName) (r : BoundName) → place_of es r.name.now ≡ None → (y : Name) → place_of (es ++ (r ∷ [])) y ≡ (if same_name r.name.now y then Some (length es) else place_of es y)
@@ -142,13 +142,13 @@ then_apart Equal p e = e
 then_apart Greater p e = refl
 
 -- Two names have the same key exactly if they are equal.
-same_key : (a x : Name) → is_eq (ordering_then (nat_cmp (number_of a) (number_of x)) (slice_cmp nat_cmp a x)) ≡ bytes_eq a x
+same_key : (a x : Name) → is_eq (ordering_then (nat_cmp (suffix_number a) (suffix_number x)) (slice_cmp nat_cmp a x)) ≡ bytes_eq a x
 same_key a x =
     ⊎_elim
     (λ y.
-    let numbers : nat_cmp (number_of a) (number_of x) ≡ Equal = sym (nat_cmp_is (number_of a) (number_of x) Equal (ap number_of ((bytes_eq-Decides a x).0 y))) in
+    let numbers : nat_cmp (suffix_number a) (suffix_number x) ≡ Equal = sym (nat_cmp_is (suffix_number a) (suffix_number x) Equal (ap suffix_number ((bytes_eq-Decides a x).0 y))) in
     ap (λ o. is_eq (ordering_then o (slice_cmp nat_cmp a x))) numbers ∙ is_eq-slice_cmp a x)
-    (λ n. then_apart (nat_cmp (number_of a) (number_of x)) (slice_cmp nat_cmp a x) (is_eq-slice_cmp a x ∙ n) ∙ sym n)
+    (λ n. then_apart (nat_cmp (suffix_number a) (suffix_number x)) (slice_cmp nat_cmp a x) (is_eq-slice_cmp a x ∙ n) ∙ sym n)
     (cases_Bool (bytes_eq a x))
 
 -- holds if a map results from setting the value of a key
@@ -156,13 +156,13 @@ abbrev pub Renews : Key → BTreeMap Key ℕ → BTreeMap Key ℕ → Option ℕ
 Renews key places next value = UpdatesBy compare_keys (compare_keys key) places next value
 
 abbrev pub key_of : Bor Name → Key
-key_of name = (number_of name.now, name)
+key_of name = (suffix_number name.now, name)
 
 renewed_at : (name : Bor Name) (places next : BTreeMap Key ℕ) (value : Option ℕ) → Renews (key_of name) places next value
-    → (x : Name) → get_by (compare_name x) next ≡ cond (bytes_eq name.now x) value (get_by (compare_name x) places)
+    → (x : Name) → get_by (compare_name_with_key x) next ≡ cond (bytes_eq name.now x) value (get_by (compare_name_with_key x) places)
 renewed_at name places next value h x =
-    let key : Key = (number_of x, record { ref_ptr = name.ref_ptr; now = x }) in
-    h.0 key ∙ ap (λ same. cond same value (get_by (compare_name x) places)) (same_key name.now x)
+    let key : Key = (suffix_number x, record { ref_ptr = name.ref_ptr; now = x }) in
+    h.0 key ∙ ap (λ same. cond same value (get_by (compare_name_with_key x) places)) (same_key name.now x)
 
 some_apart : (o : Option ℕ) (i : ℕ) → o ≡ Some i → o ≡ None → false ≡ true
 some_apart o i e f = absurd (cc)
@@ -204,6 +204,6 @@ places_added places next es r h renews w =
 pub none_newer : (es : List BoundName) (r : BoundName) → r.newest ≡ None → place_of es r.name.now ≡ None → KeepsNewest es (es ++ (r ∷ []))
 none_newer es r e absent = λ y. added es r absent y ∙ one y (same_name r.name.now y) refl
   where
-    one : (y : Name) (b : Bool) → same_name r.name.now y ≡ b → (if b then r.newest else newest_in es y) ≡ newest_in es y
-    one y true same = e ∙ (sym (newest_none es r.name.now absent) ∙ ap (newest_in es) ((bytes_eq-Decides r.name.now y).0 same))
+    one : (y : Name) (b : Bool) → same_name r.name.now y ≡ b → (if b then r.newest else newest_binding_in es y) ≡ newest_binding_in es y
+    one y true same = e ∙ (sym (newest_none es r.name.now absent) ∙ ap (newest_binding_in es) ((bytes_eq-Decides r.name.now y).0 same))
     one y false same = refl

@@ -6,10 +6,10 @@ use Rattle.std.proofs.Math.Seq.{get_or-append_seam}
 use Rattle.std.proofs.lemmas.Slice.Eq.{bytes_eq-Decides}
 use Rattle.ob0_scope_numbering.specs.declared.newest.BoundName.{BoundName}
 use Rattle.ob0_scope_numbering.specs.declared.visible.Binding.{Binding}
-use Rattle.ob0_language_names.specs.Names.{Name, as_names, same_name}
-use Rattle.ob0_scope_numbering.specs.NewestNames.{IsRenewed, KeepsNewest, KeepsPlaces, newest_in, place_of}
+use Rattle.ob0_language_names.specs.Names.{Name, naming_by_spelling, same_name}
+use Rattle.ob0_scope_numbering.specs.NewestNames.{SetsNewest, KeepsNewest, KeepsPlaces, newest_binding_in, place_of}
 use Rattle.ob0_language_names.specs.Scopes.{ordinal_of}
-use Rattle.ob0_scope_numbering.specs.Shadowing.{AreHidden, ArePlaced, IsNewest, latest, scope_of}
+use Rattle.ob0_scope_numbering.specs.StoredScopes.{HaveHiddenIndexes, HaveNamePlaces, HasNewestBindings, newest_binding_index, scope_of}
 use Rattle.ob0_language_names.proofs.NameEquality.{same_name-comm}
 
 abbrev pub shown : Binding → Name × ℕ
@@ -19,10 +19,10 @@ latest_step : (same : Bool) (n i : ℕ) (rest : Option ℕ) → (if same then So
 latest_step true n i rest e = inl (refl, cc)
 latest_step false n i rest e = inr (refl, e)
 
-pub latest_below : (x : Name) (bs : List Binding) (i : ℕ) → latest x bs ≡ Some i → i < length bs
+pub latest_below : (x : Name) (bs : List Binding) (i : ℕ) → newest_binding_index x bs ≡ Some i → i < length bs
 latest_below x [] i e = absurd (cc)
 latest_below x (b ∷ bs) i e =
-    elim (latest_step (same_name x b.name.now) (length bs) i (latest x bs) e) [ inl h ↦ omega arith | inr h ↦ let l = latest_below x bs i h.1 in omega arith ]
+    elim (latest_step (same_name x b.name.now) (length bs) i (newest_binding_index x bs) e) [ inl h ↦ omega arith | inr h ↦ let l = latest_below x bs i h.1 in omega arith ]
 
 ordinal_here : (same : Bool) (k : ℕ) (rest : Option ℕ) → same ≡ true → (elim same [ true ↦ Some k | false ↦ rest ]) ≡ Some k
 ordinal_here true k rest e = refl
@@ -39,25 +39,25 @@ none_step false n rest e = (refl, e)
 flipped : (b : Binding) (bs : List Binding) → reverse (b ∷ bs) ≡ reverse bs ++ (b ∷ [])
 flipped b bs = reverse-append (b ∷ []) bs
 
-pub latest_ordinal : (x : Name) (bs : List Binding) (i : ℕ) (d : Binding) → latest x bs ≡ Some i → ordinal_of as_names (map shown bs) x ≡ Some ((get_or (reverse bs) i d).ordinal)
+pub latest_ordinal : (x : Name) (bs : List Binding) (i : ℕ) (d : Binding) → newest_binding_index x bs ≡ Some i → ordinal_of naming_by_spelling (map shown bs) x ≡ Some ((get_or (reverse bs) i d).ordinal)
 latest_ordinal x [] i d e = absurd (cc)
 latest_ordinal x (b ∷ bs) i d e =
-    elim (latest_step (same_name x b.name.now) (length bs) i (latest x bs) e) [
+    elim (latest_step (same_name x b.name.now) (length bs) i (newest_binding_index x bs) e) [
       | inl h ↦
           let here : get_or (reverse (b ∷ bs)) i d ≡ b =
           ap (λ l. get_or l i d) (flipped b bs) ∙ (ap (λ n. get_or (reverse bs ++ (b ∷ [])) n d) (sym (length-reverse bs ∙ h.1)) ∙ get_or-append_seam (reverse bs) b [] d) in
-          ordinal_here (same_name x b.name.now) b.ordinal (ordinal_of as_names (map shown bs) x) h.0 ∙ ap (λ (z : Binding). Some z.ordinal) (sym here)
+          ordinal_here (same_name x b.name.now) b.ordinal (ordinal_of naming_by_spelling (map shown bs) x) h.0 ∙ ap (λ (z : Binding). Some z.ordinal) (sym here)
       | inr h ↦
           let below : i < length (reverse bs) = subst (λ n. i < n) (sym (length-reverse bs)) (latest_below x bs i h.1) in
           let there : get_or (reverse (b ∷ bs)) i d ≡ get_or (reverse bs) i d = ap (λ l. get_or l i d) (flipped b bs) ∙ get_or-append (reverse bs) (b ∷ []) d i below in
-          ordinal_there (same_name x b.name.now) b.ordinal (ordinal_of as_names (map shown bs) x) h.0 ∙ (latest_ordinal x bs i d h.1 ∙ ap (λ (z : Binding). Some z.ordinal) (sym there))
+          ordinal_there (same_name x b.name.now) b.ordinal (ordinal_of naming_by_spelling (map shown bs) x) h.0 ∙ (latest_ordinal x bs i d h.1 ∙ ap (λ (z : Binding). Some z.ordinal) (sym there))
     ]
 
-pub latest_none : (x : Name) (bs : List Binding) → latest x bs ≡ None → ordinal_of as_names (map shown bs) x ≡ None
+pub latest_none : (x : Name) (bs : List Binding) → newest_binding_index x bs ≡ None → ordinal_of naming_by_spelling (map shown bs) x ≡ None
 latest_none x [] e = refl
 latest_none x (b ∷ bs) e =
-    let h = none_step (same_name x b.name.now) (length bs) (latest x bs) e in
-    ordinal_there (same_name x b.name.now) b.ordinal (ordinal_of as_names (map shown bs) x) h.0 ∙ latest_none x bs h.1
+    let h = none_step (same_name x b.name.now) (length bs) (newest_binding_index x bs) e in
+    ordinal_there (same_name x b.name.now) b.ordinal (ordinal_of naming_by_spelling (map shown bs) x) h.0 ∙ latest_none x bs h.1
 
 chosen : (p q : Bool) (a b c d : Option ℕ) → p ≡ q → a ≡ c → b ≡ d → (if p then a else b) ≡ (if q then c else d)
 chosen true true a b c d e f g = f
@@ -65,15 +65,15 @@ chosen true false a b c d e f g = absurd (cc)
 chosen false true a b c d e f g = absurd (cc)
 chosen false false a b c d e f g = g
 
-pub bound_again : (newest next : List BoundName) (items : List Binding) (b : Binding) → IsNewest newest items → b.hidden ≡ latest b.name.now (reverse items)
-    → IsRenewed newest next b.name.now (Some (length items)) → IsNewest next (items ++ (b ∷ []))
+pub bound_again : (newest next : List BoundName) (items : List Binding) (b : Binding) → HasNewestBindings newest items → b.hidden ≡ newest_binding_index b.name.now (reverse items)
+    → SetsNewest newest next b.name.now (Some (length items)) → HasNewestBindings next (items ++ (b ∷ []))
 bound_again newest next items b w hidden renewed =
     let turned : reverse (items ++ (b ∷ [])) ≡ b ∷ reverse items = reverse-append items (b ∷ []) in
     record {
       found = λ x. renewed x
-          ∙ (chosen (same_name b.name.now x) (same_name x b.name.now) (Some (length items)) (newest_in newest x) (Some (length (reverse items))) (latest x (reverse items)) (same_name-comm b.name.now x) (ap Some (sym (length-reverse items))) (w.found x)
-          ∙ ap (latest x) (sym turned));
-      hidden = subst AreHidden (sym turned) (hidden, w.hidden);
+          ∙ (chosen (same_name b.name.now x) (same_name x b.name.now) (Some (length items)) (newest_binding_in newest x) (Some (length (reverse items))) (newest_binding_index x (reverse items)) (same_name-comm b.name.now x) (ap Some (sym (length-reverse items))) (w.found x)
+          ∙ ap (newest_binding_index x) (sym turned));
+      hidden = subst HaveHiddenIndexes (sym turned) (hidden, w.hidden);
     }
 
 left_step : (p q : Bool) (a b c : Option ℕ) (n : ℕ) → p ≡ q → (p ≡ true → a ≡ c) → b ≡ (if q then Some n else c) → (if p then a else b) ≡ c
@@ -82,41 +82,41 @@ left_step true false a b c n e f g = absurd (cc)
 left_step false true a b c n e f g = absurd (cc)
 left_step false false a b c n e f g = g
 
-pub binding_dropped : (newest next : List BoundName) (items : List Binding) (b : Binding) → IsNewest newest (items ++ (b ∷ [])) → IsRenewed newest next b.name.now b.hidden → IsNewest next items
+pub binding_dropped : (newest next : List BoundName) (items : List Binding) (b : Binding) → HasNewestBindings newest (items ++ (b ∷ [])) → SetsNewest newest next b.name.now b.hidden → HasNewestBindings next items
 binding_dropped newest next items b w renewed =
     let turned : reverse (items ++ (b ∷ [])) ≡ b ∷ reverse items = reverse-append items (b ∷ []) in
-    let trail : AreHidden (b ∷ reverse items) = subst AreHidden turned w.hidden in
+    let trail : HaveHiddenIndexes (b ∷ reverse items) = subst HaveHiddenIndexes turned w.hidden in
     record {
       found = λ x. renewed x
-          ∙ left_step (same_name b.name.now x) (same_name x b.name.now) b.hidden (newest_in newest x) (latest x (reverse items)) (length (reverse items)) (same_name-comm b.name.now x)
-          (λ e. trail.0 ∙ ap (λ y. latest y (reverse items)) ((bytes_eq-Decides b.name.now x).0 e)) (w.found x ∙ ap (latest x) turned);
+          ∙ left_step (same_name b.name.now x) (same_name x b.name.now) b.hidden (newest_binding_in newest x) (newest_binding_index x (reverse items)) (length (reverse items)) (same_name-comm b.name.now x)
+          (λ e. trail.0 ∙ ap (λ y. newest_binding_index y (reverse items)) ((bytes_eq-Decides b.name.now x).0 e)) (w.found x ∙ ap (newest_binding_index x) turned);
       hidden = trail.1;
     }
 
 -- Each binding still has its name's position after the list of names has changed.
-pub still_placed : (before after : List BoundName) (bs : List Binding) → KeepsPlaces before after → ArePlaced before bs → ArePlaced after bs
+pub still_placed : (before after : List BoundName) (bs : List Binding) → KeepsPlaces before after → HaveNamePlaces before bs → HaveNamePlaces after bs
 still_placed before after [] kept h = tt
 still_placed before after (b ∷ bs) kept h = (kept b.name.now b.place h.0, still_placed before after bs kept h.1)
 
-pub one_more_placed : (newest : List BoundName) (items : List Binding) (b : Binding) → ArePlaced newest items → place_of newest b.name.now ≡ Some b.place → ArePlaced newest (items ++ (b ∷ []))
+pub one_more_placed : (newest : List BoundName) (items : List Binding) (b : Binding) → HaveNamePlaces newest items → place_of newest b.name.now ≡ Some b.place → HaveNamePlaces newest (items ++ (b ∷ []))
 one_more_placed newest [] b h at = (at, tt)
 one_more_placed newest (x ∷ items) b h at = (h.0, one_more_placed newest items b h.1 at)
 
-pub one_less_placed : (newest : List BoundName) (items : List Binding) (b : Binding) → ArePlaced newest (items ++ (b ∷ [])) → ArePlaced newest items × (place_of newest b.name.now ≡ Some b.place)
+pub one_less_placed : (newest : List BoundName) (items : List Binding) (b : Binding) → HaveNamePlaces newest (items ++ (b ∷ [])) → HaveNamePlaces newest items × (place_of newest b.name.now ≡ Some b.place)
 one_less_placed newest [] b h = (tt, h.0)
 one_less_placed newest (x ∷ items) b h = let rest = one_less_placed newest items b h.1 in ((h.0, rest.0), rest.1)
 
 -- The newest bindings are right after names were added to the list.
-pub still_newest : (before after : List BoundName) (items : List Binding) → KeepsNewest before after → IsNewest before items → IsNewest after items
+pub still_newest : (before after : List BoundName) (items : List Binding) → KeepsNewest before after → HasNewestBindings before items → HasNewestBindings after items
 still_newest before after items kept w = record { found = λ x. kept x ∙ w.found x; hidden = w.hidden }
 
-pub looked_up_below : (newest : List BoundName) (items : List Binding) (x : Name) (i : ℕ) → IsNewest newest items → Some i ≡ newest_in newest x → i < length items
+pub looked_up_below : (newest : List BoundName) (items : List Binding) (x : Name) (i : ℕ) → HasNewestBindings newest items → Some i ≡ newest_binding_in newest x → i < length items
 looked_up_below newest items x i w e = subst (λ n. i < n) (length-reverse items) (latest_below x (reverse items) i (sym (w.found x) ∙ sym e))
 
-pub looked_up_some : (newest : List BoundName) (items : List Binding) (x : Name) (i : ℕ) (b : Binding) → IsNewest newest items → Some i ≡ newest_in newest x
-    → b ≡ get_or items i b → Some b.ordinal ≡ ordinal_of as_names (scope_of items) x
+pub looked_up_some : (newest : List BoundName) (items : List Binding) (x : Name) (i : ℕ) (b : Binding) → HasNewestBindings newest items → Some i ≡ newest_binding_in newest x
+    → b ≡ get_or items i b → Some b.ordinal ≡ ordinal_of naming_by_spelling (scope_of items) x
 looked_up_some newest items x i b w e here =
     ap (λ (z : Binding). Some z.ordinal) (here ∙ ap (λ l. get_or l i b) (sym (reverse-reverse items))) ∙ sym (latest_ordinal x (reverse items) i b (sym (w.found x) ∙ sym e))
 
-pub looked_up_none : (newest : List BoundName) (items : List Binding) (x : Name) → IsNewest newest items → None ≡ newest_in newest x → None ≡ ordinal_of as_names (scope_of items) x
+pub looked_up_none : (newest : List BoundName) (items : List Binding) (x : Name) → HasNewestBindings newest items → None ≡ newest_binding_in newest x → None ≡ ordinal_of naming_by_spelling (scope_of items) x
 looked_up_none newest items x w e = sym (latest_none x (reverse items) (sym (w.found x) ∙ sym e))

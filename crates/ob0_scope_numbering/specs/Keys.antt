@@ -10,17 +10,17 @@ use Rattle.ob0_language_names.specs.Names.{Name}
 
 -- Appends a byte to a number as its last digit. Digits count to the base 256, and the result is
 -- reduced modulo 2^64.
-abbrev pub with_byte : ℕ → ℕ → ℕ
-with_byte number byte = (number * 256 % 2 ^ 64 + byte) % 2 ^ 64
+abbrev pub append_byte : ℕ → ℕ → ℕ
+append_byte number byte = (number * 256 % 2 ^ 64 + byte) % 2 ^ 64
 
 -- appends bytes to a number as its last digits; only the last eight bytes matter
-abbrev pub with_bytes : List ℕ → ℕ → ℕ
-with_bytes [] number = number
-with_bytes (byte ∷ bytes) number = with_bytes bytes (with_byte number byte)
+abbrev pub append_bytes : List ℕ → ℕ → ℕ
+append_bytes [] number = number
+append_bytes (byte ∷ bytes) number = append_bytes bytes (append_byte number byte)
 
 -- returns the number of a name, made of its last eight bytes
-abbrev pub number_of : Name → ℕ
-number_of x = with_bytes (drop (length x - 8) x) 0
+abbrev pub suffix_number : Name → ℕ
+suffix_number x = append_bytes (drop (length x - 8) x) 0
 
 -- a name preceded by its number
 abbrev pub Key : Type 0
@@ -31,5 +31,5 @@ abbrev pub compare_keys : Key → Key → Ordering
 compare_keys a b = ordering_then (nat_cmp a.0 b.0) (slice_cmp nat_cmp a.1.now b.1.now)
 
 -- compares a name with a key by their numbers, and by the names if the numbers are equal
-abbrev pub compare_name : Name → Key → Ordering
-compare_name x key = ordering_then (nat_cmp (number_of x) key.0) (slice_cmp nat_cmp x key.1.now)
+abbrev pub compare_name_with_key : Name → Key → Ordering
+compare_name_with_key x key = ordering_then (nat_cmp (suffix_number x) key.0) (slice_cmp nat_cmp x key.1.now)

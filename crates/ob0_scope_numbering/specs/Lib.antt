@@ -1,9 +1,9 @@
 pub mod Written
-pub mod Renumbering
-pub mod Visiting
+pub mod BodyWalk
+pub mod IdentifierWalk
 pub mod Marks
-pub mod Marking
-pub mod Tabling
+pub mod MarkWalk
+pub mod TableWalk
 pub mod Keys
 pub mod NewestNames
-pub mod Shadowing
+pub mod StoredScopes

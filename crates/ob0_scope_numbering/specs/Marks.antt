@@ -13,5 +13,5 @@ with_marks table [] = table
 with_marks table (m ∷ ms) = with_marks (slice_set table m.token m.ordinal) ms
 
 -- returns the mark of a token with ordinal 0
-abbrev pub first_at : ℕ → OrdinalMark
-first_at token = record { token = token; ordinal = Some 0 }
+abbrev pub zero_mark_at : ℕ → OrdinalMark
+zero_mark_at token = record { token = token; ordinal = Some 0 }

@@ -8,5 +8,5 @@ mod numbering;
 mod visible;
 mod writing;
 
-pub use numbering::{Numbering, number, number_body};
-pub use writing::Writing;
+pub use numbering::{Numbering, number_identifiers, renumber_body};
+pub use writing::Spellings;

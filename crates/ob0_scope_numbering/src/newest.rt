@@ -13,8 +13,8 @@
 //! about the table.
 
 ghost use Rattle.std.specs.Prelude.{◌≡◌, [], IfOk, IfSome, OnErr, OnOk, None, Some};
-ghost use Rattle.ob0_scope_numbering.specs.Keys.{number_of, with_byte, with_bytes};
-ghost use Rattle.ob0_scope_numbering.specs.NewestNames.{IsAdded, IsRenewed, KeepsNewest, KeepsPlaces, newest_in, place_of};
+ghost use Rattle.ob0_scope_numbering.specs.Keys.{suffix_number, append_byte, append_bytes};
+ghost use Rattle.ob0_scope_numbering.specs.NewestNames.{AppendsName, SetsNewest, KeepsNewest, KeepsPlaces, newest_binding_in, place_of};
 ghost use Rattle.ob0_language_names.specs.Names.{Name};
 
 use std::alloc::{AllocError, Global};
@@ -22,7 +22,7 @@ use std::collections::BTreeMap;
 use std::marker::Model;
 
 /// The number of slots of the table of recent names. It is a power of two.
-const RECENT: usize = 1024;
+const RECENT_SLOTS: usize = 1024;
 
 /// A name as a key of the map. The number before the name is made of its last bytes, which
 /// distinguish most names.
@@ -30,40 +30,40 @@ type Key<'t> = (u64, &'t str);
 
 /// Returns the key of a name.
 fn key_of<'t>(name: &'t str) -> (u64, &'t str)
-    ensures { result ≡ (number_of name.entry.now, name.entry) }
+    ensures { result ≡ (suffix_number name.entry.now, name.entry) }
 {
-    (number_of(name.as_bytes()), name)
+    (suffix_number(name.as_bytes()), name)
 }
 
 /// Returns the number that precedes a name in its key. It is made of the name's last eight bytes,
 /// so a long name costs no more than a short one.
-fn number_of(bytes: &[u8]) -> u64
-    ensures { result ≡ number_of bytes.now }
+fn suffix_number(bytes: &[u8]) -> u64
+    ensures { result ≡ suffix_number bytes.now }
 {
-    number_of_all(&bytes[bytes.len().saturating_sub(8)..])
+    number_of_bytes(&bytes[bytes.len().saturating_sub(8)..])
 }
 
 /// Returns the number whose digits to the base 256 are these bytes, modulo 2^64.
-fn number_of_all(bytes: &[u8]) -> u64
-    ensures { result ≡ with_bytes bytes.now 0 }
+fn number_of_bytes(bytes: &[u8]) -> u64
+    ensures { result ≡ append_bytes bytes.now 0 }
 {
     let mut number = 0;
     for byte in bytes {
-        number = with_byte(number, *byte);
+        number = append_byte(number, *byte);
     }
     number
 }
 
 /// Appends a byte to a number as its last digit to the base 256, modulo 2^64.
-fn with_byte(number: u64, byte: u8) -> u64
-    ensures { result ≡ with_byte number byte }
+fn append_byte(number: u64, byte: u8) -> u64
+    ensures { result ≡ append_byte number byte }
 {
     number.wrapping_mul(256).wrapping_add(u64::from(byte))
 }
 
 /// Returns the length of a name and a few of its bytes in one number, enough to distinguish most
 /// names. If the name has four bytes or more, these are the first byte and the last three.
-fn sketch(name: &str) -> u64 {
+fn name_fingerprint(name: &str) -> u64 {
     let bytes = name.as_bytes();
     let len = bytes.len();
     if len == 0 {
@@ -79,15 +79,15 @@ fn sketch(name: &str) -> u64 {
 }
 
 /// Returns the slot of a name in the table of recent names. The slot is the ten highest bits of a
-/// product, which depend on all bits of `sketch`.
+/// product, which depend on all bits of `name_fingerprint`.
 fn slot_of(name: &str) -> usize {
-    (sketch(name).wrapping_mul(0x9E37_79B9_7F4A_7C15) >> 54) as usize
+    (name_fingerprint(name).wrapping_mul(0x9E37_79B9_7F4A_7C15) >> 54) as usize
 }
 
 /// Returns a table of recent names with position 0 in each slot. An entry is used only if the
 /// sought name is at its position.
-fn no_recent(alloc: Global) -> Result<Vec<usize>, AllocError> {
-    vec![in alloc; 0; RECENT]
+fn empty_recent_slots(alloc: Global) -> Result<Vec<usize>, AllocError> {
+    vec![in alloc; 0; RECENT_SLOTS]
 }
 
 /// A name that was bound, with the index of its newest binding, if it still has one.
@@ -101,13 +101,13 @@ pub(crate) struct BoundName<'t> {
 /// name's position is found in logarithmic time, whatever the names are. A name that was looked up
 /// recently is usually found at once.
 #[derive(Drop)]
-pub(crate) struct Newest<'t> {
+pub(crate) struct NewestBindings<'t> {
     entries: Vec<BoundName<'t>>,
     places: BTreeMap<Key<'t>, usize>,
     recent: Vec<usize>,
 }
 
-impl<'t> Model for Newest<'t> {
+impl<'t> Model for NewestBindings<'t> {
     ghost use Rattle.std.specs.Prelude.{List};
     ghost use Rattle.ob0_scope_numbering.specs.declared.newest.BoundName.{BoundName};
     ghost use Rattle.ob0_scope_numbering.specs.NewestNames.{ArePlaces};
@@ -119,33 +119,33 @@ impl<'t> Model for Newest<'t> {
     ghost invariant = { λ t. ArePlaces t.places t.entries.items };
 }
 
-impl<'t> Newest<'t> {
+impl<'t> NewestBindings<'t> {
     /// Returns a list in which the name `first` has the first position and no name has a binding.
     /// The name `first` is found there without reading its text.
-    pub(crate) fn new(alloc: Global, first: &'t str) -> Result<Newest<'t>, AllocError>
-        ensures none { IfOk result (λ t. (x : Name) → newest_in t x ≡ None) }
+    pub(crate) fn new(alloc: Global, first: &'t str) -> Result<NewestBindings<'t>, AllocError>
+        ensures none { IfOk result (λ t. (x : Name) → newest_binding_in t x ≡ None) }
         ensures first { IfOk result (λ t. place_of t first.now ≡ Some 0) }
     {
-        let mut newest = Newest::with_no_names(alloc)?;
-        newest.add(first)?;
+        let mut newest = NewestBindings::with_no_names(alloc)?;
+        newest.add_name(first)?;
         Ok(newest)
     }
 
     /// Returns an empty list of names.
-    fn with_no_names(alloc: Global) -> Result<Newest<'t>, AllocError>
+    fn with_no_names(alloc: Global) -> Result<NewestBindings<'t>, AllocError>
         ensures { IfOk result (λ t. t ≡ []) }
     {
-        Ok(Newest {
+        Ok(NewestBindings {
             entries: Vec::new(alloc),
             places: BTreeMap::new(alloc),
-            recent: no_recent(alloc)?,
+            recent: empty_recent_slots(alloc)?,
         })
     }
 
     /// Returns the index of the newest binding of the name at the first position. Returns None if
     /// that name has no binding.
-    pub(crate) fn first(&self) -> Option<usize>
-        ensures { (x : Name) → place_of self.now x ≡ Some 0 → result ≡ newest_in self.now x }
+    pub(crate) fn first_newest_binding(&self) -> Option<usize>
+        ensures { (x : Name) → place_of self.now x ≡ Some 0 → result ≡ newest_binding_in self.now x }
     {
         if self.entries.is_empty() {
             return None;
@@ -155,7 +155,7 @@ impl<'t> Newest<'t> {
 
     /// Returns the position of a name if the recent names have it in this slot. Otherwise returns None.
     #[inline(always)]
-    fn find_entry(&self, slot: usize, name: &'t str) -> Option<usize>
+    fn find_in_recent(&self, slot: usize, name: &'t str) -> Option<usize>
         ensures { IfSome result (λ place. place_of self.now name.now ≡ Some place) }
     {
         let place = match self.recent.get(slot) {
@@ -170,7 +170,7 @@ impl<'t> Newest<'t> {
     }
 
     /// Enters the position of a name in a slot of the recent names.
-    fn remember(&mut self, slot: usize, place: usize)
+    fn remember_place(&mut self, slot: usize, place: usize)
         ensures { self.new ≡ self.old }
     {
         if slot < self.recent.len() {
@@ -180,21 +180,21 @@ impl<'t> Newest<'t> {
 
     /// Returns the position of a name, or None if the name isn't in the list.
     #[inline(always)]
-    fn find(&mut self, name: &'t str) -> Option<usize>
+    fn find_place(&mut self, name: &'t str) -> Option<usize>
         ensures found { result ≡ place_of self.old name.now }
         ensures same { self.new ≡ self.old }
     {
         let slot = slot_of(name);
-        match self.find_entry(slot, name) {
+        match self.find_in_recent(slot, name) {
             Some(place) => Some(place),
-            None => self.find_by_map(slot, name),
+            None => self.find_in_map(slot, name),
         }
     }
 
     /// Looks up the position of a name in the map, and remembers it for the next look-up. Returns
     /// None if the name isn't in the list.
     #[cold]
-    fn find_by_map(&mut self, slot: usize, name: &'t str) -> Option<usize>
+    fn find_in_map(&mut self, slot: usize, name: &'t str) -> Option<usize>
         ensures found { result ≡ place_of self.old name.now }
         ensures same { self.new ≡ self.old }
     {
@@ -202,15 +202,15 @@ impl<'t> Newest<'t> {
             None => return None,
             Some(place) => *place,
         };
-        self.remember(slot, place);
+        self.remember_place(slot, place);
         Some(place)
     }
 
     /// Adds a name that isn't in the list. It has no binding yet. If an allocation fails, the list
     /// is unchanged.
-    fn add(&mut self, name: &'t str) -> Result<(), AllocError>
+    fn add_name(&mut self, name: &'t str) -> Result<(), AllocError>
         requires { place_of self.old name.now ≡ None }
-        ensures added { OnOk result (IsAdded self.old self.new name.now) }
+        ensures added { OnOk result (AppendsName self.old self.new name.now) }
         ensures newest { OnOk result (KeepsNewest self.old self.new) }
         ensures same { OnErr result (self.new ≡ self.old) }
     {
@@ -222,49 +222,49 @@ impl<'t> Newest<'t> {
 
     /// Returns the position of a name, and adds the name first if it isn't in the list. If an
     /// allocation fails, the list is unchanged.
-    pub(crate) fn place(&mut self, name: &'t str) -> Result<usize, AllocError>
+    pub(crate) fn place_or_add(&mut self, name: &'t str) -> Result<usize, AllocError>
         ensures placed { IfOk result (λ place. place_of self.new name.now ≡ Some place) }
         ensures places { OnOk result (KeepsPlaces self.old self.new) }
         ensures newest { OnOk result (KeepsNewest self.old self.new) }
         ensures same { OnErr result (self.new ≡ self.old) }
     {
-        if let Some(place) = self.find(name) {
+        if let Some(place) = self.find_place(name) {
             return Ok(place);
         }
         let place = self.entries.len();
-        self.add(name)?;
-        self.remember(slot_of(name), place);
+        self.add_name(name)?;
+        self.remember_place(slot_of(name), place);
         Ok(place)
     }
 
     /// Returns the index of the newest binding of the name at a position. Returns None if that name
     /// has no binding.
-    pub(crate) fn newest_at(&self, place: usize, name: &'t str) -> Option<usize>
+    pub(crate) fn newest_binding_at(&self, place: usize, name: &'t str) -> Option<usize>
         requires { place_of self.now name.now ≡ Some place }
-        ensures { result ≡ newest_in self.now name.now }
+        ensures { result ≡ newest_binding_in self.now name.now }
     {
         self.entries[place].newest
     }
 
     /// Sets the index of the newest binding of the name at a position. None means that the name has
     /// no binding.
-    pub(crate) fn renew(&mut self, place: usize, name: &'t str, newest: Option<usize>)
+    pub(crate) fn set_newest(&mut self, place: usize, name: &'t str, newest: Option<usize>)
         requires { place_of self.old name.now ≡ Some place }
-        ensures renewed { IsRenewed self.old self.new name.now newest }
+        ensures renewed { SetsNewest self.old self.new name.now newest }
         ensures places { KeepsPlaces self.old self.new }
     {
         self.entries[place] = BoundName { name, newest };
     }
 
     /// Returns the index of a name's newest binding. Returns None if the name has no binding.
-    pub(crate) fn get(&mut self, name: &'t str) -> Option<usize>
-        ensures found { result ≡ newest_in self.old name.now }
+    pub(crate) fn newest_binding_of(&mut self, name: &'t str) -> Option<usize>
+        ensures found { result ≡ newest_binding_in self.old name.now }
         ensures same { self.new ≡ self.old }
     {
-        let place = match self.find(name) {
+        let place = match self.find_place(name) {
             None => return None,
             Some(place) => place,
         };
-        self.newest_at(place, name)
+        self.newest_binding_at(place, name)
     }
 }

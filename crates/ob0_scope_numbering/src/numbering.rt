@@ -6,14 +6,14 @@
 //! visit_constant c self.old`. With such clauses most descents and loops over declarations need no
 //! proof file.
 //!
-//! Names become visible in the order of their ordinals (`show_from`). This works for constants,
+//! Names become visible in the order of their ordinals (`show_names_from`). This works for constants,
 //! groups, and a procedure's heading. After a heading, the bindings of the parameters are removed.
-//! Then `show_from` binds the procedure and after it the parameters, so a parameter with the
+//! Then `show_names_from` binds the procedure and after it the parameters, so a parameter with the
 //! procedure's name hides the procedure.
 //!
 //! Each identifier's ordinal is written into the table at its token as soon as it is known. The
-//! entries of fields and of the module's name are None. The definition of the walk (`Visiting`)
-//! leaves open how ordinals are kept. `Tabling` has the table, like the code, and `Marking` a list
+//! entries of fields and of the module's name are None. The definition of the walk (`IdentifierWalk`)
+//! leaves open how ordinals are kept. `TableWalk` has the table, like the code, and `MarkWalk` a list
 //! of marks (token, ordinal). The contract says that the table results from entering the marks into
 //! an empty table. So all other proofs are about the marks, which are in the order of their tokens.
 //!
@@ -24,24 +24,25 @@
 
 ghost use Rattle.std.specs.Prelude.{◌≡◌, ◌+◌, ◌<◌, ◌^◌, [], OnOk, IfOk, length, Some, None};
 ghost use Rattle.ob0_tree.specs.declared.tree.Role.TheVariants as roles;
-ghost use Rattle.ob0_tree.specs.Parsed.{tree_of};
+ghost use Rattle.ob0_tree.specs.ParsedModule.{tree_of};
 ghost use Rattle.ob0_tree.specs.View.{names_of, constant_of, constants_of, type_declaration_of, types_of, variable_of, variables_of, section_of, formals_of, procedure_of, block_of};
-ghost use Rattle.ob0_language_names.specs.Names.{as_names};
-ghost use Rattle.ob0_language_names.specs.Parts.{names_listed};
+ghost use Rattle.ob0_language_names.specs.Names.{naming_by_spelling};
+ghost use Rattle.ob0_language_names.specs.Parts.{names_in_list};
 ghost use Rattle.ob0_scope_table.specs.Resolution.{ordinal_in};
 ghost use Rattle.ob0_language_names.specs.Scopes.{ordinal_of, predeclared_count, predeclared_scope};
-ghost use Rattle.ob0_scope_numbering.specs.Shadowing.{with_scope};
-ghost use Rattle.ob0_scope_numbering.specs.Written.{as_in, is_renamed, name_at};
-ghost use Rattle.ob0_scope_numbering.specs.Tabling.{marked, numbered_at, numbered_all, visible, visible_from, left_to, found, visit_constant, visit_constant_section, visit_type, visit_type_section, visit_variable, visit_variable_section, visit_section, visit_formals, visit_procedure, visit_block, visit_module, started, module_numbered, put};
-ghost use Rattle.ob0_scope_numbering.specs.Renumbering.{caught_up, counted, module_renumbered, passed_over, renumber_block, renumber_procedure, started_over};
+ghost use Rattle.ob0_scope_numbering.specs.StoredScopes.{with_scope};
+ghost use Rattle.ob0_scope_numbering.specs.Written.{original_spellings, is_renamed, spelling_at};
+ghost use Rattle.ob0_scope_numbering.specs.TableWalk.{with_mark, number_declaration, number_declarations, show_declaration, show_declarations_from, truncate_scope, visit_identifier, visit_constant, visit_constant_section, visit_type, visit_type_section, visit_variable, visit_variable_section, visit_section, visit_formals, visit_procedure, visit_block, visit_module, initial_walk, number_module, put_ordinal};
+ghost use Rattle.ob0_scope_numbering.specs.BodyWalk.{with_declarations_before, with_declaration, renumber_module, with_procedure_skipped, renumber_block, renumber_procedure, initial_walk_over};
 
-use crate::visible::Visible;
-use crate::writing::{Writing, is_renamed};
+use crate::visible::VisibleBindings;
+use crate::writing::{Spellings, is_renamed};
 use ob0_scan::Tokens;
-use ob0_scope_table::{OrdinalEntry, PREDECLARED, ordinal_at};
-use ob0_tree::walk::{Visitor, body, expression, written_type};
+use ob0_scope_table::{OrdinalEntry, PREDECLARED_COUNT, ordinal_at};
+use ob0_tree::walk::{Visitor, walk_body, walk_expression, walk_type};
 use ob0_tree::{
-    Block, Constant, Module, Names, Procedure, Role, Section, TypeDeclaration, Variables, text_at,
+    Block, Constant, Module, Names, ParameterSection, Procedure, Role, TypeDeclaration,
+    VariableDeclaration, text_at,
 };
 use std::alloc::{AllocError, Global};
 use std::marker::Model;
@@ -53,16 +54,16 @@ pub struct Numbering<'t> {
     tokens: &'t Tokens,
     ordinals: &'t [OrdinalEntry],
     declaration: Option<usize>,
-    visible: Visible<'t>,
+    visible: VisibleBindings<'t>,
     declarations: Vec<usize>,
     occurrences: Vec<usize>,
     table: Vec<OrdinalEntry>,
 }
 
 impl<'t> Model for Numbering<'t> {
-    ghost use Rattle.ob0_scope_numbering.specs.Tabling.{Visit};
+    ghost use Rattle.ob0_scope_numbering.specs.TableWalk.{WalkState};
 
-    ghost Value = { Visit };
+    ghost Value = { WalkState };
 
     ghost view = { λ n. record {
       writing = record {
@@ -80,18 +81,18 @@ impl<'t> Model for Numbering<'t> {
 
 /// Visits the identifiers in the parts that declare nothing.
 impl<'t> Visitor for Numbering<'t> {
-    ghost use Rattle.ob0_scope_numbering.specs.Tabling.{found};
+    ghost use Rattle.ob0_scope_numbering.specs.TableWalk.{visit_identifier};
 
-    ghost seen = { found };
+    ghost seen = { visit_identifier };
 
     #[inline(always)]
-    fn see(&mut self, role: Role, token: usize) -> Result<(), AllocError> {
+    fn see_identifier(&mut self, role: Role, token: usize) -> Result<(), AllocError> {
         match role {
             Role::LookedUp => self.look_up(token),
-            Role::Declaring => self.pass(token),
-            Role::ClosingName => self.pass(token),
-            Role::FieldName => self.pass(token),
-            Role::ModuleName => self.pass(token),
+            Role::Declaring => self.mark_unbound(token),
+            Role::ClosingName => self.mark_unbound(token),
+            Role::FieldName => self.mark_unbound(token),
+            Role::ModuleName => self.mark_unbound(token),
         }
     }
 }
@@ -101,24 +102,24 @@ fn ordinal_at_index(index: usize) -> usize
     requires { index < 2 ^ 63 }
     ensures { result ≡ predeclared_count + index }
 {
-    PREDECLARED + index
+    PREDECLARED_COUNT + index
 }
 
 /// Returns a scope in which the predeclared names are bound. It also has the new name of a renamed
 /// declaration, which isn't bound yet.
-fn predeclared_names<'t>(alloc: Global, new: &'t str) -> Result<Visible<'t>, AllocError>
+fn predeclared_names<'t>(alloc: Global, new: &'t str) -> Result<VisibleBindings<'t>, AllocError>
     ensures { IfOk result
-        (λ v. v ≡ record { new_name = new.entry.now; scope = predeclared_scope as_names }) }
+        (λ v. v ≡ record { new_name = new.entry.now; scope = predeclared_scope naming_by_spelling }) }
 {
-    let mut visible = Visible::new(alloc, new)?;
+    let mut visible = VisibleBindings::new(alloc, new)?;
     declare_predeclared(&mut visible)?;
     Ok(visible)
 }
 
 /// Makes the predeclared names visible in an empty scope.
-fn declare_predeclared(visible: &mut Visible<'_>) -> Result<(), AllocError>
+fn declare_predeclared(visible: &mut VisibleBindings<'_>) -> Result<(), AllocError>
     ensures { OnOk result (visible.old.scope ≡ []
-        → visible.new ≡ with_scope visible.old (predeclared_scope as_names)) }
+        → visible.new ≡ with_scope visible.old (predeclared_scope naming_by_spelling)) }
 {
     visible.declare("INTEGER", 0)?;
     visible.declare("BOOLEAN", 1)?;
@@ -134,9 +135,9 @@ fn declare_predeclared(visible: &mut Visible<'_>) -> Result<(), AllocError>
 fn visit_module<'t>(
     alloc: Global,
     read: &'t Module<'t>,
-    writing: Writing<'t>,
+    writing: Spellings<'t>,
 ) -> Result<Numbering<'t>, AllocError>
-    ensures { IfOk result (λ n. n ≡ visit_module (tree_of read.now) (started writing.entry)) }
+    ensures { IfOk result (λ n. n ≡ visit_module (tree_of read.now) (initial_walk writing.entry)) }
 {
     let table = vec![in alloc; OrdinalEntry::new(None); writing.tokens.tokens().len()]?;
     let mut numbering = Numbering {
@@ -149,14 +150,14 @@ fn visit_module<'t>(
         table,
     };
     numbering.mark(read.name(), None);
-    numbering.block(read.block())?;
-    numbering.mark(read.closing(), None);
+    numbering.walk_block(read.block())?;
+    numbering.mark(read.closing_name(), None);
     Ok(numbering)
 }
 
 /// Numbers the body that contains the token `low` again, and returns the table. The given table must have the ordinals
 /// of everything else. `all` has the module's declaring tokens.
-pub fn number_body(
+pub fn renumber_body(
     alloc: Global,
     read: &Module<'_>,
     table: Vec<OrdinalEntry>,
@@ -164,8 +165,8 @@ pub fn number_body(
     low: usize,
 ) -> Result<Vec<OrdinalEntry>, AllocError>
     ensures { IfOk result (λ ordinals. ordinals.items
-        ≡ (module_renumbered all.now low (tree_of read.now)
-        (started_over (as_in read.now.source) table.items)).marks) }
+        ≡ (renumber_module all.now low (tree_of read.now)
+        (initial_walk_over (original_spellings read.now.source) table.items)).marks) }
 {
     let mut numbering = Numbering {
         tokens: read.tokens(),
@@ -176,19 +177,19 @@ pub fn number_body(
         occurrences: Vec::new(alloc),
         table,
     };
-    numbering.block_again(read.block(), all, low)?;
+    numbering.revisit_block(read.block(), all, low)?;
     let (_declarations, _occurrences, ordinals) = numbering.into_parts();
     Ok(ordinals)
 }
 
 /// Numbers a module whose identifiers have the spellings `writing`, and returns the state after it. The table can hold
 /// every ordinal, because a text has no more declarations than bytes.
-pub fn number<'t>(
+pub fn number_identifiers<'t>(
     alloc: Global,
     read: &'t Module<'t>,
-    writing: Writing<'t>,
+    writing: Spellings<'t>,
 ) -> Result<Numbering<'t>, AllocError>
-    ensures { IfOk result (λ n. n ≡ module_numbered (tree_of read.now) writing.entry) }
+    ensures { IfOk result (λ n. n ≡ number_module (tree_of read.now) writing.entry) }
 {
     // The proof needs the contracts of these calls.
     let _scanned = read.tokens().text();
@@ -222,7 +223,7 @@ impl<'t> Numbering<'t> {
     }
 
     /// Returns the number of visible bindings, including hidden ones.
-    fn bindings(&self) -> usize
+    fn binding_count(&self) -> usize
         ensures { result ≡ length self.now.scope }
     {
         self.visible.len()
@@ -230,7 +231,7 @@ impl<'t> Numbering<'t> {
 
     /// Enters an ordinal into the table at a token.
     fn mark(&mut self, token: usize, ordinal: Option<usize>)
-        ensures { self.new ≡ marked token ordinal self.old }
+        ensures { self.new ≡ with_mark token ordinal self.old }
     {
         if token < self.table.len() {
             self.table[token] = OrdinalEntry::new(ordinal);
@@ -238,9 +239,9 @@ impl<'t> Numbering<'t> {
     }
 
     /// Gives a declaring name the next ordinal, and returns that ordinal. The name isn't visible yet.
-    fn number(&mut self, token: usize) -> Result<usize, AllocError>
+    fn number_name(&mut self, token: usize) -> Result<usize, AllocError>
         ensures next { IfOk result (λ ordinal. ordinal ≡ predeclared_count + length self.old.declarations) }
-        ensures numbered { OnOk result (self.new ≡ numbered_at token self.old) }
+        ensures numbered { OnOk result (self.new ≡ number_declaration token self.old) }
     {
         let ordinal = ordinal_at_index(self.declarations.len());
         self.declarations.push(token)?;
@@ -249,32 +250,32 @@ impl<'t> Numbering<'t> {
     }
 
     /// Makes the name at a token visible as the declaration with this ordinal.
-    fn show(&mut self, token: usize, ordinal: usize) -> Result<(), AllocError>
-        ensures { OnOk result (self.new ≡ visible token ordinal self.old) }
+    fn show_name(&mut self, token: usize, ordinal: usize) -> Result<(), AllocError>
+        ensures { OnOk result (self.new ≡ show_declaration token ordinal self.old) }
     {
         if self.is_renamed(token) {
-            self.visible.declare_new(ordinal)
+            self.visible.declare_new_name(ordinal)
         } else {
             self.visible.declare(text_at(self.tokens, token), ordinal)
         }
     }
 
     /// Makes the names of the declarations visible, starting at the declaration with the index `first`.
-    fn show_from(&mut self, first: usize) -> Result<(), AllocError>
-        ensures { OnOk result (self.new ≡ visible_from first self.old) }
+    fn show_names_from(&mut self, first: usize) -> Result<(), AllocError>
+        ensures { OnOk result (self.new ≡ show_declarations_from first self.old) }
     {
         for index in first..self.declarations.len() {
             let token = self.declarations[index];
-            self.show(token, ordinal_at_index(index))?;
+            self.show_name(token, ordinal_at_index(index))?;
         }
         Ok(())
     }
 
     /// Drops the newest bindings until `len` are left.
-    fn leave_to(&mut self, len: usize)
-        ensures { self.new ≡ left_to len self.old }
+    fn truncate_bindings(&mut self, len: usize)
+        ensures { self.new ≡ truncate_scope len self.old }
     {
-        self.visible.leave_to(len);
+        self.visible.truncate_bindings(len);
     }
 
     /// Returns true if an identifier has the new name, because its declaration is the renamed one.
@@ -287,13 +288,13 @@ impl<'t> Numbering<'t> {
 
     /// Returns the ordinal of the declaration to which the name at a token is bound. Returns None
     /// if the name is unbound.
-    fn ordinal_bound(&mut self, token: usize) -> Option<usize>
-        ensures found { result
-            ≡ ordinal_of as_names self.old.scope (name_at self.old.writing token) }
+    fn bound_ordinal(&mut self, token: usize) -> Option<usize>
+        ensures visit_identifier { result
+            ≡ ordinal_of naming_by_spelling self.old.scope (spelling_at self.old.writing token) }
         ensures same { self.new ≡ self.old }
     {
         if self.is_renamed(token) {
-            self.visible.look_up_new()
+            self.visible.look_up_new_name()
         } else {
             self.visible.look_up(text_at(self.tokens, token))
         }
@@ -301,8 +302,8 @@ impl<'t> Numbering<'t> {
 
     /// Marks an identifier as unbound.
     #[inline(always)]
-    fn pass(&mut self, token: usize) -> Result<(), AllocError>
-        ensures { OnOk result (self.new ≡ marked token None self.old) }
+    fn mark_unbound(&mut self, token: usize) -> Result<(), AllocError>
+        ensures { OnOk result (self.new ≡ with_mark token None self.old) }
     {
         self.mark(token, None);
         Ok(())
@@ -311,91 +312,97 @@ impl<'t> Numbering<'t> {
     /// Looks up a name, and marks it with the ordinal of its declaration or as unbound.
     #[inline(always)]
     fn look_up(&mut self, token: usize) -> Result<(), AllocError>
-        ensures { OnOk result (self.new ≡ found roles.LookedUp token self.old) }
+        ensures { OnOk result (self.new ≡ visit_identifier roles.LookedUp token self.old) }
     {
-        let ordinal = self.ordinal_bound(token);
+        let ordinal = self.bound_ordinal(token);
         self.occurrences.push(token)?;
         self.mark(token, ordinal);
         Ok(())
     }
 
     /// Gives each declaring name of a list the next ordinal. The names aren't visible yet.
-    fn names(&mut self, ns: &Names) -> Result<(), AllocError>
-        ensures { OnOk result (self.new ≡ numbered_all (names_listed (names_of ns.now)) self.old) }
+    fn number_names(&mut self, ns: &Names) -> Result<(), AllocError>
+        ensures { OnOk result (self.new ≡ number_declarations (names_in_list (names_of ns.now)) self.old) }
     {
-        self.number(ns.first)?;
+        self.number_name(ns.first)?;
         for name in &ns.more {
-            self.number(*name)?;
+            self.number_name(*name)?;
         }
         Ok(())
     }
 
-    fn constant(&mut self, c: &Constant) -> Result<(), AllocError>
+    fn walk_constant(&mut self, c: &Constant) -> Result<(), AllocError>
         ensures { OnOk result (self.new ≡ visit_constant (constant_of c.now) self.old) }
     {
         let first = self.declaration_count();
-        self.number(c.name)?;
-        expression(self, &c.value)?;
-        self.show_from(first)
+        self.number_name(c.name)?;
+        walk_expression(self, &c.value)?;
+        self.show_names_from(first)
     }
 
-    fn type_declaration(&mut self, t: &TypeDeclaration) -> Result<(), AllocError>
+    fn walk_type_declaration(&mut self, t: &TypeDeclaration) -> Result<(), AllocError>
         ensures { OnOk result (self.new ≡ visit_type (type_declaration_of t.now) self.old) }
     {
         let first = self.declaration_count();
-        self.number(t.name)?;
-        written_type(self, &t.written)?;
-        self.show_from(first)
+        self.number_name(t.name)?;
+        walk_type(self, &t.written)?;
+        self.show_names_from(first)
     }
 
-    fn variables(&mut self, v: &Variables) -> Result<(), AllocError>
+    fn walk_variables(&mut self, v: &VariableDeclaration) -> Result<(), AllocError>
         ensures { OnOk result (self.new ≡ visit_variable (variable_of v.now) self.old) }
     {
         let first = self.declaration_count();
-        self.names(&v.names)?;
-        written_type(self, &v.written)?;
-        self.show_from(first)
+        self.number_names(&v.names)?;
+        walk_type(self, &v.written)?;
+        self.show_names_from(first)
     }
 
-    fn section(&mut self, s: &Section) -> Result<(), AllocError>
+    fn walk_section(&mut self, s: &ParameterSection) -> Result<(), AllocError>
         ensures { OnOk result (self.new ≡ visit_section (section_of s.now) self.old) }
     {
         let first = self.declaration_count();
-        self.names(&s.names)?;
-        written_type(self, &s.written)?;
-        self.show_from(first)
+        self.number_names(&s.names)?;
+        walk_type(self, &s.written)?;
+        self.show_names_from(first)
     }
 
-    fn constants(&mut self, section: &Option<Vec<Constant>>) -> Result<(), AllocError>
+    fn walk_constant_section(&mut self, section: &Option<Vec<Constant>>) -> Result<(), AllocError>
         ensures { OnOk result
             (self.new ≡ visit_constant_section (constants_of section.now) self.old) }
     {
         if let Some(constants) = section {
             for c in constants {
-                self.constant(c)?;
+                self.walk_constant(c)?;
             }
         }
         Ok(())
     }
 
-    fn types(&mut self, section: &Option<Vec<TypeDeclaration>>) -> Result<(), AllocError>
+    fn walk_type_section(
+        &mut self,
+        section: &Option<Vec<TypeDeclaration>>,
+    ) -> Result<(), AllocError>
         ensures { OnOk result (self.new ≡ visit_type_section (types_of section.now) self.old) }
     {
         if let Some(types) = section {
             for t in types {
-                self.type_declaration(t)?;
+                self.walk_type_declaration(t)?;
             }
         }
         Ok(())
     }
 
-    fn variable_section(&mut self, section: &Option<Vec<Variables>>) -> Result<(), AllocError>
+    fn walk_variable_section(
+        &mut self,
+        section: &Option<Vec<VariableDeclaration>>,
+    ) -> Result<(), AllocError>
         ensures { OnOk result
             (self.new ≡ visit_variable_section (variables_of section.now) self.old) }
     {
         if let Some(variables) = section {
             for v in variables {
-                self.variables(v)?;
+                self.walk_variables(v)?;
             }
         }
         Ok(())
@@ -403,118 +410,118 @@ impl<'t> Numbering<'t> {
 
     /// Visits the parameters of a heading. The parameters of each section are visible to the later
     /// sections.
-    fn heading(&mut self, formals: &Option<Vec<Section>>) -> Result<(), AllocError>
+    fn walk_heading(&mut self, formals: &Option<Vec<ParameterSection>>) -> Result<(), AllocError>
         ensures { OnOk result (self.new ≡ visit_formals (formals_of formals.now) self.old) }
     {
         if let Some(sections) = formals {
             for s in sections {
-                self.section(s)?;
+                self.walk_section(s)?;
             }
         }
         Ok(())
     }
 
     #[cycle(blocks)]
-    fn procedure(&mut self, p: &Procedure) -> Result<(), AllocError>
+    fn walk_procedure(&mut self, p: &Procedure) -> Result<(), AllocError>
         ensures { OnOk result (self.new ≡ visit_procedure (procedure_of p.now) self.old) }
     {
         let own = self.declaration_count();
-        let outside = self.bindings();
+        let outside = self.binding_count();
         // The parameters are bound and removed twice: a heading doesn't see its own procedure, and
         // a body sees it below its parameters.
-        let ordinal = self.number(p.name)?;
-        self.heading(&p.formals)?;
-        self.leave_to(outside);
-        self.show_from(own)?;
-        self.block(&p.block)?;
-        self.leave_to(outside);
-        self.show(p.name, ordinal)?;
+        let ordinal = self.number_name(p.name)?;
+        self.walk_heading(&p.formals)?;
+        self.truncate_bindings(outside);
+        self.show_names_from(own)?;
+        self.walk_block(&p.block)?;
+        self.truncate_bindings(outside);
+        self.show_name(p.name, ordinal)?;
         self.mark(p.closing, Some(ordinal));
         Ok(())
     }
 
     #[cycle(blocks)]
-    fn block(&mut self, b: &Block) -> Result<(), AllocError>
+    fn walk_block(&mut self, b: &Block) -> Result<(), AllocError>
         ensures { OnOk result (self.new ≡ visit_block (block_of b.now) self.old) }
     {
-        self.constants(&b.constants)?;
-        self.types(&b.types)?;
-        self.variable_section(&b.variables)?;
+        self.walk_constant_section(&b.constants)?;
+        self.walk_type_section(&b.types)?;
+        self.walk_variable_section(&b.variables)?;
         for p in &b.procedures {
-            self.procedure(p)?;
+            self.walk_procedure(p)?;
         }
-        body(self, &b.body)
+        walk_body(self, &b.body)
     }
 
     /// Counts the module's declarations before a token as declared, without visiting them. `all` has all declaring
     /// tokens.
-    fn catch_up(&mut self, all: &[usize], token: usize) -> Result<(), AllocError>
-        ensures { OnOk result (self.new ≡ caught_up all.now token self.old) }
+    fn count_declarations_before(&mut self, all: &[usize], token: usize) -> Result<(), AllocError>
+        ensures { OnOk result (self.new ≡ with_declarations_before all.now token self.old) }
     {
         for index in self.declaration_count()..all.len() {
             let declared = all[index];
             if declared >= token {
                 return Ok(());
             }
-            self.count(declared)?;
+            self.count_declaration(declared)?;
         }
         Ok(())
     }
 
     /// Counts a declaration, without visiting it.
-    fn count(&mut self, token: usize) -> Result<(), AllocError>
-        ensures { OnOk result (self.new ≡ counted token self.old) }
+    fn count_declaration(&mut self, token: usize) -> Result<(), AllocError>
+        ensures { OnOk result (self.new ≡ with_declaration token self.old) }
     {
         self.declarations.push(token)?;
         Ok(())
     }
 
     /// Makes the name at a token visible with the next ordinal, and skips the declaration itself.
-    fn pass_over(&mut self, token: usize) -> Result<(), AllocError>
-        ensures { OnOk result (self.new ≡ passed_over token self.old) }
+    fn skip_procedure(&mut self, token: usize) -> Result<(), AllocError>
+        ensures { OnOk result (self.new ≡ with_procedure_skipped token self.old) }
     {
         let next = self.declarations.len();
-        self.show(token, ordinal_at_index(next))
+        self.show_name(token, ordinal_at_index(next))
     }
 
     /// Visits a procedure's name, its parameters and its block again, on the way to the body that contains the token
     /// `low`. `all` has the module's declaring tokens.
     #[cycle(blocks_again)]
-    fn procedure_again(
+    fn revisit_procedure(
         &mut self,
         p: &Procedure,
         all: &[usize],
         low: usize,
     ) -> Result<(), AllocError>
         ensures { OnOk result (self.new
-            ≡ renumber_procedure put all.now low (procedure_of p.now) self.old) }
+            ≡ renumber_procedure put_ordinal all.now low (procedure_of p.now) self.old) }
     {
         let first = self.declaration_count();
-        let outside = self.bindings();
-        self.number(p.name)?;
-        self.heading(&p.formals)?;
-        self.leave_to(outside);
-        self.show_from(first)?;
-        self.block_again(&p.block, all, low)
+        let outside = self.binding_count();
+        self.number_name(p.name)?;
+        self.walk_heading(&p.formals)?;
+        self.truncate_bindings(outside);
+        self.show_names_from(first)?;
+        self.revisit_block(&p.block, all, low)
     }
 
     /// Visits a block again: its sections, and then its statements or the procedure that contains the token `low`.
     /// `all` has the module's declaring tokens.
     #[cycle(blocks_again)]
-    fn block_again(&mut self, inner: &Block, all: &[usize], low: usize) -> Result<(), AllocError>
+    fn revisit_block(&mut self, inner: &Block, all: &[usize], low: usize) -> Result<(), AllocError>
         ensures { OnOk result
-            (self.new ≡ renumber_block put all.now low (block_of inner.now) self.old) }
+            (self.new ≡ renumber_block put_ordinal all.now low (block_of inner.now) self.old) }
     {
-        self.constants(&inner.constants)?;
-        self.types(&inner.types)?;
-        self.variable_section(&inner.variables)?;
+        self.walk_constant_section(&inner.constants)?;
+        self.walk_type_section(&inner.types)?;
+        self.walk_variable_section(&inner.variables)?;
         for p in &inner.procedures {
-            self.catch_up(all, p.name)?;
+            self.count_declarations_before(all, p.name)?;
             if p.closing >= low {
-                return self.procedure_again(p, all, low);
+                return self.revisit_procedure(p, all, low);
             }
-            self.pass_over(p.name)?;
+            self.skip_procedure(p.name)?;
         }
-        body(self, &inner.body)
+        walk_body(self, &inner.body)
     }
 }

@@ -1,11 +1,11 @@
 //! Keeps the names that are visible at a place of a module.
 
 ghost use Rattle.std.specs.Prelude.{◌≡◌, [], ◌∷◌, OnErr, OnOk, IfOk, length, drop, ◌-◌};
-ghost use Rattle.ob0_scope_numbering.specs.Shadowing.{with_scope};
-ghost use Rattle.ob0_language_names.specs.Names.{as_names};
+ghost use Rattle.ob0_scope_numbering.specs.StoredScopes.{with_scope};
+ghost use Rattle.ob0_language_names.specs.Names.{naming_by_spelling};
 ghost use Rattle.ob0_language_names.specs.Scopes.{ordinal_of};
 
-use crate::newest::Newest;
+use crate::newest::NewestBindings;
 use std::alloc::{AllocError, Global};
 use std::marker::Model;
 
@@ -23,30 +23,30 @@ pub(crate) struct Binding<'t> {
 /// the index of its newest binding. The new name may be far longer than the names of the text, so
 /// its binding is found without reading it.
 #[derive(Drop)]
-pub(crate) struct Visible<'t> {
+pub(crate) struct VisibleBindings<'t> {
     new_name: &'t str,
-    newest: Newest<'t>,
+    newest: NewestBindings<'t>,
     bindings: Vec<Binding<'t>>,
 }
 
-impl<'t> Model for Visible<'t> {
-    ghost use Rattle.ob0_scope_numbering.specs.Shadowing.{VisibleNames, scope_of, IsKept};
+impl<'t> Model for VisibleBindings<'t> {
+    ghost use Rattle.ob0_scope_numbering.specs.StoredScopes.{VisibleNames, scope_of, IsConsistentScope};
 
     ghost Value = { VisibleNames };
 
     ghost view = { λ v. record { new_name = v.new_name.now; scope = scope_of v.bindings.items } };
 
-    ghost invariant = { λ v. IsKept v.new_name.now v.newest v.bindings.items };
+    ghost invariant = { λ v. IsConsistentScope v.new_name.now v.newest v.bindings.items };
 }
 
-impl<'t> Visible<'t> {
+impl<'t> VisibleBindings<'t> {
     /// Returns an empty scope with this new name.
-    pub(crate) fn new(alloc: Global, new_name: &'t str) -> Result<Visible<'t>, AllocError>
+    pub(crate) fn new(alloc: Global, new_name: &'t str) -> Result<VisibleBindings<'t>, AllocError>
         ensures { IfOk result (λ v. v ≡ record { new_name = new_name.entry.now; scope = [] }) }
     {
-        Ok(Visible {
+        Ok(VisibleBindings {
             new_name,
-            newest: Newest::new(alloc, new_name)?,
+            newest: NewestBindings::new(alloc, new_name)?,
             bindings: Vec::new(alloc),
         })
     }
@@ -60,10 +60,10 @@ impl<'t> Visible<'t> {
 
     /// Returns the ordinal of the declaration to which a name is bound, or None if it is unbound.
     pub(crate) fn look_up(&mut self, name: &'t str) -> Option<usize>
-        ensures found { result ≡ ordinal_of as_names self.old.scope name.now }
+        ensures found { result ≡ ordinal_of naming_by_spelling self.old.scope name.now }
         ensures same { self.new ≡ self.old }
     {
-        let index = match self.newest.get(name) {
+        let index = match self.newest.newest_binding_of(name) {
             None => return None,
             Some(index) => index,
         };
@@ -71,10 +71,10 @@ impl<'t> Visible<'t> {
     }
 
     /// Returns the ordinal of the declaration to which the new name is bound, or None if it is unbound.
-    pub(crate) fn look_up_new(&self) -> Option<usize>
-        ensures { result ≡ ordinal_of as_names self.now.scope self.now.new_name }
+    pub(crate) fn look_up_new_name(&self) -> Option<usize>
+        ensures { result ≡ ordinal_of naming_by_spelling self.now.scope self.now.new_name }
     {
-        let index = match self.newest.first() {
+        let index = match self.newest.first_newest_binding() {
             None => return None,
             Some(index) => index,
         };
@@ -83,7 +83,7 @@ impl<'t> Visible<'t> {
 
     /// Binds the new name, and hides its earlier binding. If an allocation fails, the scope is
     /// unchanged.
-    pub(crate) fn declare_new(&mut self, ordinal: usize) -> Result<(), AllocError>
+    pub(crate) fn declare_new_name(&mut self, ordinal: usize) -> Result<(), AllocError>
         ensures bound { OnOk result
             (self.new ≡ with_scope self.old ((self.old.new_name, ordinal) ∷ self.old.scope)) }
         ensures err { OnErr result (self.new ≡ self.old) }
@@ -98,9 +98,10 @@ impl<'t> Visible<'t> {
         ensures err { OnErr result (self.new ≡ self.old) }
     {
         self.bindings.reserve(1)?;
-        let place = self.newest.place(name)?;
-        let hidden = self.newest.newest_at(place, name);
-        self.newest.renew(place, name, Some(self.bindings.len()));
+        let place = self.newest.place_or_add(name)?;
+        let hidden = self.newest.newest_binding_at(place, name);
+        self.newest
+            .set_newest(place, name, Some(self.bindings.len()));
         self.bindings.push_reserved(Binding {
             name,
             place,
@@ -111,22 +112,22 @@ impl<'t> Visible<'t> {
     }
 
     /// Drops the newest bindings until `len` bindings are left.
-    pub(crate) fn leave_to(&mut self, len: usize)
+    pub(crate) fn truncate_bindings(&mut self, len: usize)
         ensures { self.new
             ≡ with_scope self.old (drop (length self.old.scope - len) self.old.scope) }
     {
         for _left in 0..self.len().saturating_sub(len) {
-            self.leave();
+            self.pop_binding();
         }
     }
 
     /// Removes the newest binding, so that the binding that it hid is visible again.
-    fn leave(&mut self)
+    fn pop_binding(&mut self)
         ensures { self.new ≡ with_scope self.old (drop 1 self.old.scope) }
     {
         let Some(left) = self.bindings.pop() else {
             return;
         };
-        self.newest.renew(left.place, left.name, left.hidden);
+        self.newest.set_newest(left.place, left.name, left.hidden);
     }
 }

@@ -5,7 +5,7 @@
 //! after a renaming.
 
 ghost use Rattle.std.specs.Prelude.{◌≡◌};
-ghost use Rattle.ob0_scope_numbering.specs.Written.{as_in, is_renamed};
+ghost use Rattle.ob0_scope_numbering.specs.Written.{original_spellings, is_renamed};
 
 use ob0_scan::Tokens;
 use ob0_scope_table::OrdinalEntry;
@@ -13,17 +13,17 @@ use std::marker::Model;
 
 /// A text, and a new name for the identifiers of one declaration. If `declaration` is None, no declaration is renamed.
 #[derive(Drop)]
-pub struct Writing<'t> {
+pub struct Spellings<'t> {
     pub tokens: &'t Tokens,
     pub ordinals: &'t [OrdinalEntry],
     pub declaration: Option<usize>,
     pub new: &'t str,
 }
 
-impl<'t> Model for Writing<'t> {
+impl<'t> Model for Spellings<'t> {
     ghost use Rattle.ob0_scope_numbering.specs.Written as written;
 
-    ghost Value = { written.Writing };
+    ghost Value = { written.Spellings };
 
     ghost view = { λ w. record {
       source = w.tokens.now;
@@ -47,12 +47,12 @@ pub(crate) fn is_renamed(declaration: Option<usize>, ordinal: Option<usize>) -> 
     }
 }
 
-impl<'t> Writing<'t> {
+impl<'t> Spellings<'t> {
     /// Returns the spellings of the text, without any new name.
-    pub fn as_in(tokens: &'t Tokens) -> Writing<'t>
-        ensures { result ≡ as_in tokens.now }
+    pub fn original_spellings(tokens: &'t Tokens) -> Spellings<'t>
+        ensures { result ≡ original_spellings tokens.now }
     {
-        Writing {
+        Spellings {
             tokens,
             ordinals: &[],
             declaration: None,

@@ -4,14 +4,14 @@ use Rattle.std.proofs.Common.{◌≡◌, ℕ, map, List, [], ◌∷◌, refl, ap
 use Rattle.ob0_tree.specs.Tree.{then_name}
 use Rattle.ob0_tree.specs.View.{items_of, names_of}
 use Rattle.ob0_tree.specs.declared.tree.Names as tree_names
-use Rattle.ob0_language_names.specs.Parts.{further_names, names_listed}
+use Rattle.ob0_language_names.specs.Parts.{further_names, names_in_list}
 use Rattle.ob0_scope_table.specs.Resolution.{Resolution}
-use Rattle.ob0_scope_table.specs.InLabels.{in_labels, label_in}
+use Rattle.ob0_scope_table.specs.LabelledTrees.{tree_with_labels, label_at_token}
 
 -- The names of a list with labels are the labels of its names.
-further_labels : (r : Resolution) (xs : List ℕ) → further_names (in_labels r (items_of then_name xs)) ≡ map (label_in r) xs
+further_labels : (r : Resolution) (xs : List ℕ) → further_names (tree_with_labels r (items_of then_name xs)) ≡ map (label_at_token r) xs
 further_labels r [] = refl
-further_labels r (x ∷ xs) = ap (λ ys. label_in r x ∷ ys) (further_labels r xs)
+further_labels r (x ∷ xs) = ap (λ ys. label_at_token r x ∷ ys) (further_labels r xs)
 
-pub labels_listed : (r : Resolution) (ns : tree_names.Names) → names_listed (in_labels r (names_of ns)) ≡ map (label_in r) (ns.first ∷ ns.more.items)
-labels_listed r ns = ap (λ ys. label_in r ns.first ∷ ys) (further_labels r ns.more.items)
+pub labels_listed : (r : Resolution) (ns : tree_names.Names) → names_in_list (tree_with_labels r (names_of ns)) ≡ map (label_at_token r) (ns.first ∷ ns.more.items)
+labels_listed r ns = ap (λ ys. label_at_token r ns.first ∷ ys) (further_labels r ns.more.items)

@@ -5,7 +5,7 @@ use Rattle.ob0_scan.specs.declared.lexeme.LexemeKind.TheVariants as lexeme
 use Rattle.ob0_scan.specs.declared.lexeme.Span.{Span}
 use Rattle.ob0_scan.specs.declared.lexeme.Token.{Token}
 use Rattle.ob0_scan.specs.Lexed.{Lexeme, joined}
-use Rattle.ob0_scan.specs.Scanned.{IsScan, Scanned, max_text, span_from, token_at, tokens_from}
+use Rattle.ob0_scan.specs.TextWithTokens.{IsScan, TextWithTokens, max_text, span_from, token_at, tokens_from}
 use Rattle.ob0_scan.proofs.AtLexemes.{Full, full}
 
 one_token : (k : LexemeKind) (place : Span) → length (token_at k place) ≤ 1
@@ -25,7 +25,7 @@ few_from from (l ∷ ls) h =
     let bytes = length-append l.text (joined ls) in
     omega (arith, some, one, more, tokens, bytes)
 
-pub few_tokens : (s : Scanned) → IsScan s → length s.tokens ≤ max_text
+pub few_tokens : (s : TextWithTokens) → IsScan s → length s.tokens ≤ max_text
 few_tokens s scan =
     let few = few_from 0 scan.lexemes (full scan.lexemes [] scan.lexed.each) in
     let tokens : length s.tokens ≡ length (tokens_from 0 scan.lexemes) = ap (λ (ts : List Token). length ts) scan.tokens in

@@ -2,7 +2,7 @@
 -- its tokens give the same tree.
 use Rattle.std.proofs.Common.{◌≡◌, ℕ, refl}
 use Rattle.ob0_tree.specs.Tree.{Sort, Tree, adds, array_type, assigns, begins, branches, calls, compares, declares, declares_constant, declares_constants, declares_procedure, declares_type, declares_types, declares_variable, declares_variables, designator, else_branch, elsif_branch, empty, end, field, has_body, index, integer, is_module, listed, mapped, more, multiplies, named_type, negation, no_arguments, no_fields, no_formals, none, one, parenthesised, product, record_type, relates, repeat_loop, runs, some_arguments, some_fields, some_formals, sum, then_argument, then_fields, then_name, then_section, then_statement, value_section, variable_section, while_loop}
-use Rattle.ob0_scope_table.specs.BodyAlone.{EachToken}
+use Rattle.ob0_scope_table.specs.TokenProperty.{EachTokenHas}
 
 -- Replacing names twice is replacing them by the composition.
 pub mapped_mapped : {N M K : Type 0} {s : Sort} (f : M → K) (g : ℕ → ℕ) (u : N → M) (v : ℕ → ℕ) (t : Tree N s) → mapped f g (mapped u v t) ≡ mapped (λ x. f (u x)) (λ n. g (v n)) t
@@ -62,7 +62,7 @@ mapped_mapped f g u v (is_module name b closing) = λ i. is_module (f (u name)) 
 
 -- Two replacements that agree on each token give the same tree.
 module _ {M : Type 0} (P : ℕ → Type 0) (f u : ℕ → M) (g v : ℕ → ℕ) (names : (k : ℕ) → P k → f k ≡ u k) (numbers : (k : ℕ) → P k → g k ≡ v k) where
-  pub mapped_alike : {s : Sort} (t : Tree ℕ s) → EachToken P t → mapped f g t ≡ mapped u v t
+  pub mapped_alike : {s : Sort} (t : Tree ℕ s) → EachTokenHas P t → mapped f g t ≡ mapped u v t
   mapped_alike none h = refl
   mapped_alike (one t) h = λ i. one (mapped_alike t h i)
   mapped_alike end h = refl

@@ -2,21 +2,21 @@
 use Rattle.std.proofs.Common.{◌≡◌, ◌<◌, ◌≤◌, ◌+◌, ◌-◌, ◌||◌, ◌⊎◌, ℕ, Bool, true, false, nat_le, nat_lt, if◌then◌else◌, refl, sym, ap, ◌∙◌, arith, inl, inr, leb-true, ltb-true}
 use Rattle.std.proofs.lemmas.Bool.{le-leb, le-ltb, lt-ltb}
 use Rattle.ob0_scan.specs.declared.tokens.SameTokens.{SameTokens}
-use Rattle.ob0_scope_table.specs.BodyReplaced.{moved}
-use Rattle.ob0_scope_table.specs.OneBody.{is_out}
+use Rattle.ob0_scope_table.specs.BodyReplaced.{moved_token_index}
+use Rattle.ob0_scope_table.specs.OneBody.{is_outside}
 
 -- A token outside a range is before it or after it.
-pub out_cases : (low high k : ℕ) → is_out low high k ≡ true → (k < low) ⊎ (high ≤ k)
+pub out_cases : (low high k : ℕ) → is_outside low high k ≡ true → (k < low) ⊎ (high ≤ k)
 out_cases low high k out = one (nat_lt k low) refl
   where
     one : (b : Bool) → nat_lt k low ≡ b → (k < low) ⊎ (high ≤ k)
     one true e = inl (ltb-true k low e)
     one false e = inr (leb-true high k (sym (ap (λ b. b || nat_le high k) e) ∙ out))
 
-pub below_out : (low high k : ℕ) → k < low → is_out low high k ≡ true
+pub below_out : (low high k : ℕ) → k < low → is_outside low high k ≡ true
 below_out low high k less = ap (λ b. b || nat_le high k) (lt-ltb k low less)
 
-pub above_out : (low high k : ℕ) → high ≤ k → is_out low high k ≡ true
+pub above_out : (low high k : ℕ) → high ≤ k → is_outside low high k ≡ true
 above_out low high k le = one (nat_lt k low)
   where
     one : (b : Bool) → (b || nat_le high k) ≡ true
@@ -24,8 +24,8 @@ above_out low high k le = one (nat_lt k low)
     one false = le-leb high k le
 
 module _ (s : SameTokens) where
-  pub moved_below : (k : ℕ) → k < s.prefix → moved s k ≡ k
+  pub moved_below : (k : ℕ) → k < s.prefix → moved_token_index s k ≡ k
   moved_below k less = ap (λ b. if b then k else s.new_suffix + (k - s.old_suffix)) (lt-ltb k s.prefix less)
 
-  pub moved_above : (k : ℕ) → s.prefix ≤ s.old_suffix → s.old_suffix ≤ k → moved s k ≡ s.new_suffix + (k - s.old_suffix)
+  pub moved_above : (k : ℕ) → s.prefix ≤ s.old_suffix → s.old_suffix ≤ k → moved_token_index s k ≡ s.new_suffix + (k - s.old_suffix)
   moved_above k range le = ap (λ b. if b then k else s.new_suffix + (k - s.old_suffix)) (le-ltb k s.prefix (omega (arith, range, le)))

@@ -2,11 +2,11 @@
 -- as before.
 use Rattle.std.proofs.Common.{◌≡◌, ℕ, zero, suc, slice_get, true, Option, Some, None, List, [], ◌∷◌, refl, sym, ap, ◌∙◌}
 use Rattle.ob0_scan.specs.declared.lexeme.Token.{Token}
-use Rattle.ob0_scan.specs.Reused.{words_in}
-use Rattle.ob0_scan.specs.Scanned.{Scanned, Word}
-use Rattle.ob0_tree.specs.Parsed.{Parsed}
-use Rattle.ob0_tree.specs.Places.{text_at, text_in, value_in, value_of}
-use Rattle.ob0_scope_table.specs.OneBody.{IsBodyChange, is_out}
+use Rattle.ob0_scan.specs.Reused.{words_of_tokens}
+use Rattle.ob0_scan.specs.TextWithTokens.{TextWithTokens, Word}
+use Rattle.ob0_tree.specs.ParsedModule.{ParsedModule}
+use Rattle.ob0_tree.specs.Places.{text_at, token_text_or_empty, token_value_or_zero, kind_value_or_zero}
+use Rattle.ob0_scope_table.specs.OneBody.{IsBodyChange, is_outside}
 
 -- returns the spelling of a token's word
 abbrev pub word_text : Option Word → List ℕ
@@ -15,18 +15,18 @@ word_text (Some w) = w.text
 
 abbrev pub word_value : Option Word → ℕ
 word_value None = 0
-word_value (Some w) = value_of w.kind
+word_value (Some w) = kind_value_or_zero w.kind
 
-pub text_in_word : (text : List ℕ) (ts : List Token) (i : ℕ) → text_in text (slice_get ts i) ≡ word_text (slice_get (words_in text ts) i)
+pub text_in_word : (text : List ℕ) (ts : List Token) (i : ℕ) → token_text_or_empty text (slice_get ts i) ≡ word_text (slice_get (words_of_tokens text ts) i)
 text_in_word text [] i = refl
 text_in_word text (t ∷ ts) zero = refl
 text_in_word text (t ∷ ts) (suc i) = text_in_word text ts i
 
-pub value_in_word : (text : List ℕ) (ts : List Token) (i : ℕ) → value_in (slice_get ts i) ≡ word_value (slice_get (words_in text ts) i)
+pub value_in_word : (text : List ℕ) (ts : List Token) (i : ℕ) → token_value_or_zero (slice_get ts i) ≡ word_value (slice_get (words_of_tokens text ts) i)
 value_in_word text [] i = refl
 value_in_word text (t ∷ ts) zero = refl
 value_in_word text (t ∷ ts) (suc i) = value_in_word text ts i
 
-pub text_out : (old : Scanned) (m : Parsed) (low high : ℕ) → IsBodyChange old m low high → (i : ℕ) → is_out low high i ≡ true → text_at m.source i ≡ text_at old i
+pub text_out : (old : TextWithTokens) (m : ParsedModule) (low high : ℕ) → IsBodyChange old m low high → (i : ℕ) → is_outside low high i ≡ true → text_at m.source i ≡ text_at old i
 text_out old m low high change i e =
     text_in_word m.source.text m.source.tokens i ∙ (ap word_text (change.same_words i e) ∙ sym (text_in_word old.text old.tokens i))

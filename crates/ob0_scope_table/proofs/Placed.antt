@@ -5,12 +5,12 @@ use Rattle.ob0_scan.specs.declared.lexeme.Token.{Token}
 use Rattle.ob0_scan.specs.declared.lexeme.TokenKind.{TokenKind}
 use Rattle.ob0_scan.specs.declared.lexeme.TokenKind.TheVariants as kind
 use Rattle.ob0_tree.specs.Lexeme.{EndOfText, Mark, Name, Number, Terminal}
-use Rattle.ob0_tree.specs.Order.{Ascending}
-use Rattle.ob0_tree.specs.Parsed.{IsParsed, Parsed, tree_of}
-use Rattle.ob0_tree.specs.Places.{lexeme_of, lexemes_from}
+use Rattle.ob0_tree.specs.Order.{AreAscending}
+use Rattle.ob0_tree.specs.ParsedModule.{IsParsed, ParsedModule, tree_of}
+use Rattle.ob0_tree.specs.Places.{index_terminal, index_terminals_from}
 use Rattle.ob0_tree.specs.Tree.{Sort, Tree, adds, array_type, assigns, begins, branches, calls, compares, declares, declares_constant, declares_constants, declares_procedure, declares_type, declares_types, declares_variable, declares_variables, designator, else_branch, elsif_branch, empty, end, field, has_body, index, integer, is_module, listed, more, multiplies, named_type, negation, no_arguments, no_fields, no_formals, none, one, parenthesised, product, record_type, relates, repeat_loop, runs, some_arguments, some_fields, some_formals, sum, then_argument, then_fields, then_name, then_section, then_statement, value_section, variable_section, while_loop, spell}
 use Rattle.ob0_tree.proofs.Leaves.{ascending_higher, ascending_lower}
-use Rattle.ob0_scope_table.specs.BodyAlone.{EachToken}
+use Rattle.ob0_scope_table.specs.TokenProperty.{EachTokenHas}
 
 -- returns the tokens of names and numbers, in the order of the tree
 abbrev pub places : {s : Sort} → Tree ℕ s → List ℕ
@@ -140,22 +140,22 @@ places_spelled (has_body ds b) = simp (token_places-append, places_spelled ds, p
 places_spelled (is_module name b closing) = simp (token_places-append, append-nil, places_spelled b)
 
 -- The tokens of names and numbers in a text ascend.
-from_ascend : (ts : List Token) (i : ℕ) → Ascending i (token_places (lexemes_from i ts)) (i + length ts)
+from_ascend : (ts : List Token) (i : ℕ) → AreAscending i (token_places (index_terminals_from i ts)) (i + length ts)
 from_ascend [] i = omega arith
 from_ascend (t ∷ ts) i =
-    let others = ascending_higher (i + 1) (token_places (lexemes_from (i + 1) ts)) (i + 1 + length ts) (i + length (t ∷ ts)) (omega arith) (from_ascend ts (i + 1)) in
-    first t.kind i (lexemes_from (i + 1) ts) (i + length (t ∷ ts)) others
+    let others = ascending_higher (i + 1) (token_places (index_terminals_from (i + 1) ts)) (i + 1 + length ts) (i + length (t ∷ ts)) (omega arith) (from_ascend ts (i + 1)) in
+    first t.kind i (index_terminals_from (i + 1) ts) (i + length (t ∷ ts)) others
   where
-    first : (k : TokenKind) (i : ℕ) (xs : List (Terminal ℕ)) (high : ℕ) → Ascending (i + 1) (token_places xs) high → Ascending i (token_places (lexeme_of i k ∷ xs)) high
+    first : (k : TokenKind) (i : ℕ) (xs : List (Terminal ℕ)) (high : ℕ) → AreAscending (i + 1) (token_places xs) high → AreAscending i (token_places (index_terminal i k ∷ xs)) high
     first kind.Identifier i xs high p = (omega arith, p)
     first (kind.Integer v) i xs high p = (omega arith, p)
     first _ i xs high p = ascending_lower i (i + 1) (token_places xs) high (omega arith) p
 
-pub places_ascend : (m : Parsed) → IsParsed m → Ascending 0 (places (tree_of m)) (length m.source.tokens)
+pub places_ascend : (m : ParsedModule) → IsParsed m → AreAscending 0 (places (tree_of m)) (length m.source.tokens)
 places_ascend m p =
-    let all : token_places (lexemes_from 0 m.source.tokens) ≡ places (tree_of m) =
+    let all : token_places (index_terminals_from 0 m.source.tokens) ≡ places (tree_of m) =
     sym (ap token_places p.places) ∙ (token_places-append (spell (tree_of m)) (EndOfText ∷ []) ∙ (append-nil (token_places (spell (tree_of m))) ∙ places_spelled (tree_of m))) in
-    subst (λ l. Ascending 0 l (length m.source.tokens)) all (subst (λ n. Ascending 0 (token_places (lexemes_from 0 m.source.tokens)) n) (zero-add (length m.source.tokens)) (from_ascend m.source.tokens 0))
+    subst (λ l. AreAscending 0 l (length m.source.tokens)) all (subst (λ n. AreAscending 0 (token_places (index_terminals_from 0 m.source.tokens)) n) (zero-add (length m.source.tokens)) (from_ascend m.source.tokens 0))
 
 -- holds if all tokens in a list have property P
 abbrev pub AllOf : (ℕ → Type 0) → List ℕ → Type 0
@@ -166,7 +166,7 @@ pub all_parts : (P : ℕ → Type 0) (xs ys : List ℕ) → AllOf P (xs ++ ys) �
 all_parts P [] ys h = (tt, h)
 all_parts P (x ∷ xs) ys h = let rest = all_parts P xs ys h.1 in ((h.0, rest.0), rest.1)
 
-pub each_of : {s : Sort} (P : ℕ → Type 0) (t : Tree ℕ s) → AllOf P (places t) → EachToken P t
+pub each_of : {s : Sort} (P : ℕ → Type 0) (t : Tree ℕ s) → AllOf P (places t) → EachTokenHas P t
 each_of P none h = tt
 each_of P (one t) h = each_of P t h
 each_of P end h = tt
@@ -222,7 +222,7 @@ each_of P (has_body ds b) h = let s₁ = all_parts P (places ds) (places b) h in
 each_of P (is_module name b closing) h = let s₁ = all_parts P (places b) (closing ∷ []) h.1 in (h.0, each_of P b s₁.0, s₁.1.0)
 
 -- A property of every token holds of each token of a part.
-pub each_token : {s : Sort} (P : ℕ → Type 0) → ((k : ℕ) → P k) → (t : Tree ℕ s) → EachToken P t
+pub each_token : {s : Sort} (P : ℕ → Type 0) → ((k : ℕ) → P k) → (t : Tree ℕ s) → EachTokenHas P t
 each_token P all t = each_of P t (all_of (places t)) where
   all_of : (xs : List ℕ) → AllOf P xs
   all_of [] = tt

@@ -3,25 +3,25 @@ use Rattle.std.proofs.Common.{◌≡◌, ℕ, List, [], ◌∷◌, ◌++◌, ref
 use Rattle.ob0_tree.specs.declared.tree.Role.{Role}
 use Rattle.ob0_tree.specs.declared.tree.Role.TheVariants as role
 use Rattle.ob0_tree.specs.Tree.{Item, Sort, Tree, identifiers, item, items, maybe, adds, array_type, assigns, begins, branches, calls, compares, declares, declares_constant, declares_constants, declares_procedure, declares_type, declares_types, declares_variable, declares_variables, designator, else_branch, elsif_branch, empty, end, field, has_body, index, integer, is_module, listed, more, multiplies, named_type, negation, no_arguments, no_fields, no_formals, none, one, parenthesised, product, record_type, relates, repeat_loop, runs, some_arguments, some_fields, some_formals, sum, then_argument, then_fields, then_name, then_section, then_statement, value_section, variable_section, while_loop, selector, multiplier, addend, comparison, arguments, further_argument, further_statement, elsif_part, else_part, further_fields, body, further_name, formals, further_section, constant, constants, type_name, type_names, variable, variables, procedure, expression, simple, term, factor, statement, sequence, written_type, fields, names, section, declarations, block, module_text}
-use Rattle.ob0_scope_table.specs.Resolution.{declaring_only}
+use Rattle.ob0_scope_table.specs.Resolution.{declaring_names}
 
-pub declaring_only-append : {N : Type 0} (xs ys : List (Role × N)) → declaring_only (xs ++ ys) ≡ declaring_only xs ++ declaring_only ys
-declaring_only-append [] ys = refl
-declaring_only-append ((role.Declaring, n) ∷ xs) ys = λ i. n ∷ declaring_only-append xs ys i
-declaring_only-append ((role.LookedUp, n) ∷ xs) ys = declaring_only-append xs ys
-declaring_only-append ((role.ClosingName, n) ∷ xs) ys = declaring_only-append xs ys
-declaring_only-append ((role.FieldName, n) ∷ xs) ys = declaring_only-append xs ys
-declaring_only-append ((role.ModuleName, n) ∷ xs) ys = declaring_only-append xs ys
+pub declaring_names-append : {N : Type 0} (xs ys : List (Role × N)) → declaring_names (xs ++ ys) ≡ declaring_names xs ++ declaring_names ys
+declaring_names-append [] ys = refl
+declaring_names-append ((role.Declaring, n) ∷ xs) ys = λ i. n ∷ declaring_names-append xs ys i
+declaring_names-append ((role.LookedUp, n) ∷ xs) ys = declaring_names-append xs ys
+declaring_names-append ((role.ClosingName, n) ∷ xs) ys = declaring_names-append xs ys
+declaring_names-append ((role.FieldName, n) ∷ xs) ys = declaring_names-append xs ys
+declaring_names-append ((role.ModuleName, n) ∷ xs) ys = declaring_names-append xs ys
 
 -- states that no identifier in a list declares
 pub record Plain (xs : List (Role × ℕ)) : Type 0 where
-  pub plain : declaring_only xs ≡ []
+  pub plain : declaring_names xs ≡ []
 
 nothing : Plain []
 nothing = record { plain = refl }
 
 both : {xs ys : List (Role × ℕ)} → Plain xs → Plain ys → Plain (xs ++ ys)
-both {xs = xs} {ys = ys} p q = record { plain = declaring_only-append xs ys ∙ (λ i. p.plain i ++ q.plain i) }
+both {xs = xs} {ys = ys} p q = record { plain = declaring_names-append xs ys ∙ (λ i. p.plain i ++ q.plain i) }
 
 use_first : {x : ℕ} {xs : List (Role × ℕ)} → Plain xs → Plain ((role.LookedUp, x) ∷ xs)
 use_first p = record { plain = p.plain }

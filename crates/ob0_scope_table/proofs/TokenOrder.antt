@@ -13,7 +13,7 @@ use Rattle.std.proofs.lemmas.List.{length-map, map-append}
 use Rattle.std.proofs.Math.Seq.{take-suc}
 use Rattle.std.proofs.lemmas.List.Sums.{prefix_len_is}
 use Rattle.ob0_scan.specs.Lexed.{Lexeme}
-use Rattle.ob0_scan.specs.Scanned.{IsScan, Scanned, read_in, span_from, token_at, tokens_from}
+use Rattle.ob0_scan.specs.TextWithTokens.{IsScan, TextWithTokens, word_of_token, span_from, token_at, tokens_from}
 use Rattle.ob0_scan.specs.declared.fault.Fault.{Fault}
 use Rattle.ob0_scan.specs.declared.lexeme.LexemeKind.{LexemeKind}
 use Rattle.ob0_scan.specs.declared.lexeme.LexemeKind.TheVariants as lexeme
@@ -21,9 +21,9 @@ use Rattle.ob0_scan.specs.declared.lexeme.Span.{Span}
 use Rattle.ob0_scan.specs.declared.lexeme.Token.{Token}
 use Rattle.ob0_scan.specs.declared.lexeme.TokenKind.TheVariants as kind
 use Rattle.ob0_scan.proofs.AtLexemes.{Full, full}
-use Rattle.ob0_scope_table.specs.FaultTokens.{AreAtSameTokens, AreWrittenAlike, fault_at, moved_faults, tokens_of}
-use Rattle.ob0_scope_table.specs.Spans.{span_at, span_in}
-use Rattle.ob0_scope_table.specs.declared.fault_tokens.FaultAt.{FaultAt}
+use Rattle.ob0_scope_table.specs.FaultTokens.{AreAtSameTokens, AreWrittenAlike, fault_at, moved_faults, fault_by_tokens}
+use Rattle.ob0_scope_table.specs.Spans.{span_at, span_or_empty}
+use Rattle.ob0_scope_table.specs.declared.fault_tokens.FaultByTokens.{FaultByTokens}
 
 -- ---- lists
 
@@ -51,7 +51,7 @@ apart_from : (from : ℕ) (ls : List Lexeme) → Full ls → Apart from (tokens_
 apart_from from [] h = tt
 apart_from from (l ∷ ls) h = apart_one l.kind from (length l.text) (tokens_from (from + length l.text) ls) h.0 (apart_from (from + length l.text) ls h.1)
 
-scan_apart : (s : Scanned) → IsScan s → Apart 0 s.tokens
+scan_apart : (s : TextWithTokens) → IsScan s → Apart 0 s.tokens
 scan_apart s scan = subst (Apart 0) (sym scan.tokens) (apart_from 0 scan.lexemes (full scan.lexemes [] scan.lexed.each))
 
 start_later : (from : ℕ) (ts : List Token) (j : ℕ) (d : Token) → Apart from ts → j < length ts → from ≤ (get_or ts j d).span.start
@@ -92,10 +92,10 @@ never_falls of ts rise i j d low less = ⊎_elim
     (λ same. let e : i ≡ j = omega (arith, low, same) in subst (λ k. of (get_or ts i d).span ≤ of (get_or ts k d).span) e (omega arith))
     (cases_lt i j)
 
-pub starts_never_fall : (s : Scanned) → IsScan s → IsNonDecreasingBy (λ (t : Token). t.span.start) s.tokens
+pub starts_never_fall : (s : TextWithTokens) → IsScan s → IsNonDecreasingBy (λ (t : Token). t.span.start) s.tokens
 starts_never_fall s scan = never_falls (λ v. v.start) s.tokens (starts_rise 0 s.tokens (scan_apart s scan))
 
-pub ends_never_fall : (s : Scanned) → IsScan s → IsNonDecreasingBy (λ (t : Token). t.span.end) s.tokens
+pub ends_never_fall : (s : TextWithTokens) → IsScan s → IsNonDecreasingBy (λ (t : Token). t.span.end) s.tokens
 ends_never_fall s scan = never_falls (λ v. v.end) s.tokens (ends_rise 0 s.tokens (scan_apart s scan))
 
 -- ---- places
@@ -158,13 +158,13 @@ module _ (of : Span → ℕ) where
 -- returns the number of the token with an index, or 0 if there is no such token
 module _ (of : Span → ℕ) (none : of (record { start = 0; end = 0 }) ≡ 0) where
   abbrev at : List Token → ℕ → ℕ
-  at ts i = of (span_in (slice_get ts i))
+  at ts i = of (span_or_empty (slice_get ts i))
 
   at_there : (ts : List Token) (i : ℕ) → i < length ts → at ts i ≡ of (get_or ts i nothing).span
-  at_there ts i less = ap (λ o. of (span_in o)) (there ts i nothing less)
+  at_there ts i less = ap (λ o. of (span_or_empty o)) (there ts i nothing less)
 
   at_past : (ts : List Token) (i : ℕ) → length ts ≤ i → at ts i ≡ 0
-  at_past ts i more = ap (λ o. of (span_in o)) (past ts i more) ∙ none
+  at_past ts i more = ap (λ o. of (span_or_empty o)) (past ts i more) ∙ none
 
   at_rise : (ts : List Token) → Rises of ts → (i j : ℕ) → i < j → j < length ts → at ts i < at ts j
   at_rise ts rise i j low less =
@@ -228,9 +228,9 @@ module _ (of : Span → ℕ) (none : of (record { start = 0; end = 0 }) ≡ 0) w
 
 -- ---- two texts whose tokens have the same spellings
 
-module _ (old new : Scanned) (w : AreWrittenAlike old new) where
+module _ (old new : TextWithTokens) (w : AreWrittenAlike old new) where
   same_count : length new.tokens ≡ length old.tokens
-  same_count = sym (length-map new.tokens (read_in new.text)) ∙ (ap length w.same_words ∙ length-map old.tokens (read_in old.text))
+  same_count = sym (length-map new.tokens (word_of_token new.text)) ∙ (ap length w.same_words ∙ length-map old.tokens (word_of_token old.text))
 
   old_apart : Apart 0 old.tokens
   old_apart = scan_apart old w.old_scan
@@ -245,7 +245,7 @@ module _ (old new : Scanned) (w : AreWrittenAlike old new) where
   start_back e = eqb-true (span_at old 0).start 0 (sym w.same_front ∙ eq-eqb (span_at new 0).start 0 e)
 
   -- A token never ends at the text's start.
-  no_end : (ts us : List Token) → length us ≡ length ts → Apart 0 ts → (span_in (slice_get ts 0)).end ≡ 0 → (span_in (slice_get us 0)).end ≡ 0
+  no_end : (ts us : List Token) → length us ≡ length ts → Apart 0 ts → (span_or_empty (slice_get ts 0)).end ≡ 0 → (span_or_empty (slice_get us 0)).end ≡ 0
   no_end [] [] same h e = refl
   no_end [] (u ∷ us) same h e = absurd (omega (arith, same))
   no_end (t ∷ ts) us same h e = let some = h.1.0 in absurd (omega (arith, some, e))
@@ -268,14 +268,14 @@ module _ (old new : Scanned) (w : AreWrittenAlike old new) where
       let back = below (λ v. v.end) refl new.tokens old.tokens (sym same_count) other rise fro to in
       same_order (span_at old i).end (span_at old j).end (span_at new i).end (span_at new j).end (on i j) (back i j) (on j i) (back j i)
 
-  pub fault_stays : (f : FaultAt) → fault_at new (tokens_of old.tokens (fault_at old f)) ≡ fault_at new f
+  pub fault_stays : (f : FaultByTokens) → fault_at new (fault_by_tokens old.tokens (fault_at old f)) ≡ fault_at new f
   fault_stays f =
       let start = stays (λ v. v.start) refl old.tokens new.tokens same_count (starts_rise 0 old.tokens old_apart) (starts_rise 0 new.tokens new_apart) start_front start_back f.first in
       let end = stays (λ v. v.end) refl old.tokens new.tokens same_count (ends_rise 0 old.tokens old_apart) (ends_rise 0 new.tokens new_apart)
       (no_end old.tokens new.tokens same_count old_apart) (no_end new.tokens old.tokens (sym same_count) new_apart) f.last in
       λ i. record { code = f.code; span = record { start = start i; end = end i } }
 
-  all_stay : (fs : List FaultAt) → moved_faults old new (map (fault_at old) fs) ≡ map (fault_at new) fs
+  all_stay : (fs : List FaultByTokens) → moved_faults old new (map (fault_at old) fs) ≡ map (fault_at new) fs
   all_stay [] = refl
   all_stay (f ∷ fs) = λ i. fault_stays f i ∷ all_stay fs i
 

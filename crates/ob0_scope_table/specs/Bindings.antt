@@ -1,12 +1,12 @@
 -- A module joined to the bindings of its names.
 -- Rule: docs/LANGUAGE.md, Scopes 2 to 4.
-use Rattle.ob0_tree.specs.Parsed.{Parsed}
+use Rattle.ob0_tree.specs.ParsedModule.{ParsedModule}
 use Rattle.ob0_scope_table.specs.Resolution.{Resolution}
 use Rattle.ob0_scope_table.specs.declared.resolved.Bindings.{Bindings}
 
 -- returns the resolved module with these bindings
-abbrev pub resolution_by : Parsed → Bindings → Resolution
-resolution_by m b =
+abbrev pub resolution_with : ParsedModule → Bindings → Resolution
+resolution_with m b =
     record {
       module_read = m;
       ordinals = b.ordinals.items;

@@ -2,106 +2,106 @@
 -- reported. The names of these trees are tokens.
 -- Rule: docs/LANGUAGE.md, Faults of scopes and types, `Duplicate`, `EndName`.
 use Rattle.std.specs.Prelude.{ℕ, Bool, not, List, [], ◌∷◌, ◌++◌, if◌then◌else◌}
-use Rattle.ob0_scan.specs.declared.fault.Code.TheVariants as code
+use Rattle.ob0_scan.specs.declared.fault.FaultCode.TheVariants as code
 use Rattle.ob0_scan.specs.declared.fault.Fault.{Fault}
-use Rattle.ob0_scan.specs.Scanned.{Scanned}
-use Rattle.ob0_tree.specs.Parsed.{Parsed, tree_of}
+use Rattle.ob0_scan.specs.TextWithTokens.{TextWithTokens}
+use Rattle.ob0_tree.specs.ParsedModule.{ParsedModule, tree_of}
 use Rattle.ob0_tree.specs.Places.{text_at}
 use Rattle.ob0_tree.specs.Tree.{Tree, array_type, block, declares, declares_procedure, declares_type, declares_variable, end, fields, further_fields, further_section, has_body, is_module, item, items, module_text, more, named_type, no_fields, procedure, record_type, some_fields, then_fields, then_section, type_name, variable, written_type}
-use Rattle.ob0_language_names.specs.DeclaredOnce.{block_names, group_fields, groups_fields, is_among}
+use Rattle.ob0_language_names.specs.DeclaredOnce.{block_names, group_fields, further_group_fields, is_among}
 use Rattle.ob0_language_names.specs.Names.{Name, same_name}
 use Rattle.ob0_language_names.specs.Parts.{formal_names, formal_sections, section_type, section_types, section_variables}
 use Rattle.ob0_scope_table.specs.Spans.{span_at}
 
 -- returns the fault in a list if a condition doesn't hold, otherwise an empty list
-abbrev pub unless : Bool → Fault → List Fault
-unless holds fault = if holds then [] else fault ∷ []
+abbrev pub fault_unless : Bool → Fault → List Fault
+fault_unless holds fault = if holds then [] else fault ∷ []
 
 -- returns the fault `Duplicate` at a token
-abbrev pub duplicate_at : Scanned → ℕ → Fault
-duplicate_at source token = record { code = code.Duplicate; span = span_at source token }
+abbrev pub duplicate_fault : TextWithTokens → ℕ → Fault
+duplicate_fault source token = record { code = code.Duplicate; span = span_at source token }
 
 -- returns the fault `EndName` at a token
-abbrev pub end_name_at : Scanned → ℕ → Fault
-end_name_at source token = record { code = code.EndName; span = span_at source token }
+abbrev pub end_name_fault : TextWithTokens → ℕ → Fault
+end_name_fault source token = record { code = code.EndName; span = span_at source token }
 
 -- returns a fault `Duplicate` for each name that is also earlier in the list, or in `before`
-abbrev pub again : Scanned → List Name → List ℕ → List Fault
-again source before [] = []
-again source before (x ∷ xs) =
-    unless (not (is_among (text_at source x) before)) (duplicate_at source x)
-    ++ again source (text_at source x ∷ before) xs
+abbrev pub duplicate_faults : TextWithTokens → List Name → List ℕ → List Fault
+duplicate_faults source before [] = []
+duplicate_faults source before (x ∷ xs) =
+    fault_unless (not (is_among (text_at source x) before)) (duplicate_fault source x)
+    ++ duplicate_faults source (text_at source x ∷ before) xs
 
 -- returns the fault `EndName` in a list if a closing name differs from its opening name, otherwise
 -- an empty list
-abbrev pub closing_other : Scanned → ℕ → ℕ → List Fault
-closing_other source x closing =
-    unless (same_name (text_at source x) (text_at source closing)) (end_name_at source closing)
+abbrev pub closing_name_faults : TextWithTokens → ℕ → ℕ → List Fault
+closing_name_faults source x closing =
+    fault_unless (same_name (text_at source x) (text_at source closing)) (end_name_fault source closing)
 
 -- Returns the faults of the duplicate fields of a record, then of the records in it.
 abbrev mutual
   -- returns the faults of duplicate fields in a written type, in the outer record first
-  pub fields_twice : Scanned → Tree ℕ written_type → List Fault
-  fields_twice source (named_type x) = []
-  fields_twice source (array_type e t) = fields_twice source t
-  fields_twice source (record_type g rest) =
-      again source [] (group_fields g ++ groups_fields rest)
-      ++ (group_twice source g ++ groups_twice source rest)
+  pub duplicate_fields : TextWithTokens → Tree ℕ written_type → List Fault
+  duplicate_fields source (named_type x) = []
+  duplicate_fields source (array_type e t) = duplicate_fields source t
+  duplicate_fields source (record_type g rest) =
+      duplicate_faults source [] (group_fields g ++ further_group_fields rest)
+      ++ (duplicate_fields_in_group source g ++ duplicate_fields_in_groups source rest)
 
   -- returns the faults of duplicate fields in the type of a group of fields
-  pub group_twice : Scanned → Tree ℕ fields → List Fault
-  group_twice source no_fields = []
-  group_twice source (some_fields ns t) = fields_twice source t
+  pub duplicate_fields_in_group : TextWithTokens → Tree ℕ fields → List Fault
+  duplicate_fields_in_group source no_fields = []
+  duplicate_fields_in_group source (some_fields ns t) = duplicate_fields source t
 
   -- returns the faults of duplicate fields in the types of further groups of fields
-  pub groups_twice : Scanned → Tree ℕ (items further_fields) → List Fault
-  groups_twice source end = []
-  groups_twice source (more (then_fields g) rest) = group_twice source g ++ groups_twice source rest
+  pub duplicate_fields_in_groups : TextWithTokens → Tree ℕ (items further_fields) → List Fault
+  duplicate_fields_in_groups source end = []
+  duplicate_fields_in_groups source (more (then_fields g) rest) = duplicate_fields_in_group source g ++ duplicate_fields_in_groups source rest
 
 -- returns the faults of duplicate fields in the types of a TYPE section
-abbrev pub types_twice : Scanned → Tree ℕ (items type_name) → List Fault
-types_twice source end = []
-types_twice source (more (declares_type x t) ds) = fields_twice source t ++ types_twice source ds
+abbrev pub duplicate_fields_in_types : TextWithTokens → Tree ℕ (items type_name) → List Fault
+duplicate_fields_in_types source end = []
+duplicate_fields_in_types source (more (declares_type x t) ds) = duplicate_fields source t ++ duplicate_fields_in_types source ds
 
 -- returns the faults of duplicate fields in the types of variables
-abbrev pub variables_twice : Scanned → Tree ℕ (items variable) → List Fault
-variables_twice source end = []
-variables_twice source (more (declares_variable ns t) gs) =
-    fields_twice source t ++ variables_twice source gs
+abbrev pub duplicate_fields_in_variables : TextWithTokens → Tree ℕ (items variable) → List Fault
+duplicate_fields_in_variables source end = []
+duplicate_fields_in_variables source (more (declares_variable ns t) gs) =
+    duplicate_fields source t ++ duplicate_fields_in_variables source gs
 
 -- returns the faults of duplicate fields in the types of parameters
-abbrev pub formals_twice : Scanned → Tree ℕ (items further_section) → List Fault
-formals_twice source end = []
-formals_twice source (more (then_section s) fs) =
-    fields_twice source (section_type s) ++ formals_twice source fs
+abbrev pub duplicate_fields_in_formals : TextWithTokens → Tree ℕ (items further_section) → List Fault
+duplicate_fields_in_formals source end = []
+duplicate_fields_in_formals source (more (then_section s) fs) =
+    duplicate_fields source (section_type s) ++ duplicate_fields_in_formals source fs
 
 -- Returns the faults of a block's duplicate names, then of its types, variables and procedures.
 abbrev mutual
   -- returns the faults of a block; `own` has the names of its procedure's parameters, which belong
   -- to the block
-  pub block_twice : Scanned → List ℕ → Tree ℕ block → List Fault
-  block_twice source own (has_body (declares cs ts vs ps) statements) =
-      again source [] (own ++ block_names (has_body (declares cs ts vs ps) statements))
-      ++ (types_twice source (section_types ts)
-      ++ (variables_twice source (section_variables vs) ++ procedures_twice source ps))
+  pub block_declaration_faults : TextWithTokens → List ℕ → Tree ℕ block → List Fault
+  block_declaration_faults source own (has_body (declares cs ts vs ps) statements) =
+      duplicate_faults source [] (own ++ block_names (has_body (declares cs ts vs ps) statements))
+      ++ (duplicate_fields_in_types source (section_types ts)
+      ++ (duplicate_fields_in_variables source (section_variables vs) ++ procedures_declaration_faults source ps))
 
   -- returns the faults of all procedures of a block, in text order
-  pub procedures_twice : Scanned → Tree ℕ (items procedure) → List Fault
-  procedures_twice source end = []
-  procedures_twice source (more p rest) = procedure_twice source p ++ procedures_twice source rest
+  pub procedures_declaration_faults : TextWithTokens → Tree ℕ (items procedure) → List Fault
+  procedures_declaration_faults source end = []
+  procedures_declaration_faults source (more p rest) = procedure_declaration_faults source p ++ procedures_declaration_faults source rest
 
   -- returns the faults of a procedure: of its closing name, its parameters' types, and its block
-  pub procedure_twice : Scanned → Tree ℕ (item procedure) → List Fault
-  procedure_twice source (declares_procedure x fs b closing) =
-      closing_other source x closing
-      ++ (formals_twice source (formal_sections fs)
-      ++ block_twice source (formal_names (formal_sections fs)) b)
+  pub procedure_declaration_faults : TextWithTokens → Tree ℕ (item procedure) → List Fault
+  procedure_declaration_faults source (declares_procedure x fs b closing) =
+      closing_name_faults source x closing
+      ++ (duplicate_fields_in_formals source (formal_sections fs)
+      ++ block_declaration_faults source (formal_names (formal_sections fs)) b)
 
 -- returns the faults of all duplicate declarations and wrong closing names of a module's tree
-abbrev pub module_twice : Scanned → Tree ℕ module_text → List Fault
-module_twice source (is_module x b closing) =
-    closing_other source x closing ++ block_twice source [] b
+abbrev pub tree_declaration_faults : TextWithTokens → Tree ℕ module_text → List Fault
+tree_declaration_faults source (is_module x b closing) =
+    closing_name_faults source x closing ++ block_declaration_faults source [] b
 
 -- returns the faults of all duplicate declarations and wrong closing names of a module
-abbrev pub twice_in : Parsed → List Fault
-twice_in m = module_twice m.source (tree_of m)
+abbrev pub declaration_faults : ParsedModule → List Fault
+declaration_faults m = tree_declaration_faults m.source (tree_of m)

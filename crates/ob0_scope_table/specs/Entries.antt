@@ -3,20 +3,20 @@
 use Rattle.std.specs.Prelude.{ℕ, zero, suc, min, Option, Some, None, option_map}
 
 -- the greatest ordinal that an entry can have
-abbrev pub greatest : ℕ
-greatest = 4294967294
+abbrev pub greatest_ordinal : ℕ
+greatest_ordinal = 4294967294
 
 -- returns an optional ordinal as an entry holds it: an ordinal above the greatest counts as the
 -- greatest
-abbrev pub kept : Option ℕ → Option ℕ
-kept ordinal = option_map (λ n. min n greatest) ordinal
+abbrev pub stored_ordinal : Option ℕ → Option ℕ
+stored_ordinal ordinal = option_map (λ n. min n greatest_ordinal) ordinal
 
 -- returns the ordinal that the number of an entry means: the number minus 1, or None for 0
-abbrev pub ordinal_before : ℕ → Option ℕ
-ordinal_before zero = None
-ordinal_before (suc n) = Some n
+abbrev pub ordinal_from_number : ℕ → Option ℕ
+ordinal_from_number zero = None
+ordinal_from_number (suc n) = Some n
 
 -- returns the number that an entry has for an optional ordinal: the ordinal plus 1, or 0 for None
-abbrev pub number_after : Option ℕ → ℕ
-number_after None = 0
-number_after (Some n) = suc n
+abbrev pub number_from_ordinal : Option ℕ → ℕ
+number_from_ordinal None = 0
+number_from_ordinal (Some n) = suc n

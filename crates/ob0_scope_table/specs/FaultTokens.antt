@@ -5,25 +5,25 @@ use Rattle.std.specs.Prelude.{◌≡◌, ◌==◌, ℕ, nat_lt, List, length, ma
 use Rattle.std.specs.List.{prefix_len}
 use Rattle.ob0_scan.specs.declared.fault.Fault.{Fault}
 use Rattle.ob0_scan.specs.declared.lexeme.Token.{Token}
-use Rattle.ob0_scan.specs.Reused.{words_in}
-use Rattle.ob0_scan.specs.Scanned.{IsScan, Scanned}
+use Rattle.ob0_scan.specs.Reused.{words_of_tokens}
+use Rattle.ob0_scan.specs.TextWithTokens.{IsScan, TextWithTokens}
 use Rattle.ob0_scope_table.specs.Spans.{span_at}
-use Rattle.ob0_scope_table.specs.declared.fault_tokens.FaultAt.{FaultAt}
+use Rattle.ob0_scope_table.specs.declared.fault_tokens.FaultByTokens.{FaultByTokens}
 
 -- returns the start of the first token, in bytes
-abbrev pub first_start : Scanned → ℕ
-first_start source = (span_at source 0).start
+abbrev pub first_token_start : TextWithTokens → ℕ
+first_token_start source = (span_at source 0).start
 
 -- Holds if the tokens of two texts have the same kinds and spellings, one by one. Both texts must
 -- begin with a token, or neither. A text without tokens counts as one that begins with a token.
-pub record AreWrittenAlike (old new : Scanned) : Type 0 where
+pub record AreWrittenAlike (old new : TextWithTokens) : Type 0 where
   pub old_scan : IsScan old
   pub new_scan : IsScan new
-  pub same_words : words_in new.text new.tokens ≡ words_in old.text old.tokens
-  pub same_front : (first_start new == 0) ≡ (first_start old == 0)
+  pub same_words : words_of_tokens new.text new.tokens ≡ words_of_tokens old.text old.tokens
+  pub same_front : (first_token_start new == 0) ≡ (first_token_start old == 0)
 
 -- returns a fault with its span, from the start of its first token to the end of its last token
-abbrev pub fault_at : Scanned → FaultAt → Fault
+abbrev pub fault_at : TextWithTokens → FaultByTokens → Fault
 fault_at source f =
     record {
       code = f.code;
@@ -33,34 +33,34 @@ fault_at source f =
 
 -- Returns the index of the first token that doesn't begin before a place. Returns the number of
 -- tokens for place 0, because place 0 counts as a place at which no token begins.
-abbrev pub begun_at : List Token → ℕ → ℕ
-begun_at tokens place =
+abbrev pub index_starting_at : List Token → ℕ → ℕ
+index_starting_at tokens place =
     if place == 0 then length tokens
     else prefix_len (λ (t : Token). nat_lt t.span.start place) tokens
 
 -- Returns the index of the first token that doesn't end before a place. Returns the number of
 -- tokens for place 0, because no token ends at place 0.
-abbrev pub ended_at : List Token → ℕ → ℕ
-ended_at tokens place =
+abbrev pub index_ending_at : List Token → ℕ → ℕ
+index_ending_at tokens place =
     if place == 0 then length tokens
     else prefix_len (λ (t : Token). nat_lt t.span.end place) tokens
 
 -- returns a fault with the tokens at which it begins and ends instead of its span
-abbrev pub tokens_of : List Token → Fault → FaultAt
-tokens_of tokens f =
+abbrev pub fault_by_tokens : List Token → Fault → FaultByTokens
+fault_by_tokens tokens f =
     record {
       code = f.code;
-      first = begun_at tokens f.span.start;
-      last = ended_at tokens f.span.end;
+      first = index_starting_at tokens f.span.start;
+      last = index_ending_at tokens f.span.end;
     }
 
 -- returns the faults of the text `old`, moved to the same tokens of the text `new`
-abbrev pub moved_faults : Scanned → Scanned → List Fault → List Fault
-moved_faults old new faults = map (fault_at new) (map (tokens_of old.tokens) faults)
+abbrev pub moved_faults : TextWithTokens → TextWithTokens → List Fault → List Fault
+moved_faults old new faults = map (fault_at new) (map (fault_by_tokens old.tokens) faults)
 
 -- holds if the faults `before` and `after` of two texts are at the same tokens, with the same
 -- codes, one by one
-pub record AreAtSameTokens (old new : Scanned) (before after : List Fault) : Type 0 where
-  pub tokens : List FaultAt
+pub record AreAtSameTokens (old new : TextWithTokens) (before after : List Fault) : Type 0 where
+  pub tokens : List FaultByTokens
   pub in_old : before ≡ map (fault_at old) tokens
   pub in_new : after ≡ map (fault_at new) tokens

@@ -3,9 +3,9 @@ pub mod Entries
 pub mod Resolution
 pub mod Spans
 pub mod DeclaredTwice
-pub mod InLabels
+pub mod LabelledTrees
 pub mod FaultTokens
-pub mod BodyAlone
+pub mod TokenProperty
 pub mod OneBody
 pub mod BodyReplaced
 pub mod BodyPlaces

@@ -2,21 +2,21 @@
 -- Rule: docs/LANGUAGE.md, Scopes, Faults of scopes and types, `Undeclared`.
 use Rattle.std.specs.Prelude.{◌≡◌, ℕ, ◌-◌, nat_lt, Bool, true, false, not, ◌==◌, List, [], ◌∷◌, ◌++◌, Option, None, slice_get, slice_index_or, if◌then◌else◌, is_some}
 use Rattle.std.specs.List.{filter, list_any}
-use Rattle.ob0_scan.specs.declared.fault.Code.TheVariants as code
+use Rattle.ob0_scan.specs.declared.fault.FaultCode.TheVariants as code
 use Rattle.ob0_scan.specs.declared.fault.Fault.{Fault}
 use Rattle.ob0_scan.specs.declared.lexeme.Span.{Span}
-use Rattle.ob0_scan.specs.Scanned.{Scanned}
+use Rattle.ob0_scan.specs.TextWithTokens.{TextWithTokens}
 use Rattle.ob0_tree.specs.declared.tree.Role.{Role}
 use Rattle.ob0_tree.specs.declared.tree.Role.TheVariants as role
 use Rattle.ob0_tree.specs.Order.{leaves}
 use Rattle.ob0_tree.specs.Tree.{mapped, occurrences, identifiers}
-use Rattle.ob0_tree.specs.Parsed.{Parsed, IsParsed, tree_of, named_tree_of}
+use Rattle.ob0_tree.specs.ParsedModule.{ParsedModule, IsParsed, tree_of, named_tree_of}
 use Rattle.ob0_tree.specs.Places.{text_at, value_at}
-use Rattle.ob0_language_names.specs.Names.{Label, Name, as_names, as_written, declared}
-use Rattle.ob0_language_names.specs.Scopes.{Labels, as_label, numbered, predeclared_count, relabelled}
+use Rattle.ob0_language_names.specs.Names.{Label, Name, naming_by_spelling, as_written, declared}
+use Rattle.ob0_language_names.specs.Scopes.{Labelling, label_from_ordinal, numbered, predeclared_count, relabel_module}
 use Rattle.ob0_language_names.specs.Occurrences.{bindings}
 use Rattle.ob0_language_names.specs.DeclaredOnce.{declared_once}
-use Rattle.ob0_scope_table.specs.DeclaredTwice.{twice_in}
+use Rattle.ob0_scope_table.specs.DeclaredTwice.{declaration_faults}
 use Rattle.ob0_scope_table.specs.Spans as spans
 
 -- returns the ordinal in a table at a token, or None if the table has no such token
@@ -24,23 +24,23 @@ abbrev pub ordinal_in : List (Option ℕ) → ℕ → Option ℕ
 ordinal_in ordinals token = slice_index_or ordinals token None
 
 -- returns the label of the identifier at a token, from a table of ordinals
-abbrev pub label_at : Scanned → List (Option ℕ) → ℕ → Label
+abbrev pub label_at : TextWithTokens → List (Option ℕ) → ℕ → Label
 label_at source ordinals token =
-    as_label as_names (ordinal_in ordinals token) (text_at source token)
+    label_from_ordinal naming_by_spelling (ordinal_in ordinals token) (text_at source token)
 
 -- returns the declaring names among identifiers, in text order
-abbrev pub declaring_only : {N : Type 0} → List (Role × N) → List N
-declaring_only [] = []
-declaring_only ((role.Declaring, n) ∷ xs) = n ∷ declaring_only xs
-declaring_only ((role.LookedUp, n) ∷ xs) = declaring_only xs
-declaring_only ((role.ClosingName, n) ∷ xs) = declaring_only xs
-declaring_only ((role.FieldName, n) ∷ xs) = declaring_only xs
-declaring_only ((role.ModuleName, n) ∷ xs) = declaring_only xs
+abbrev pub declaring_names : {N : Type 0} → List (Role × N) → List N
+declaring_names [] = []
+declaring_names ((role.Declaring, n) ∷ xs) = n ∷ declaring_names xs
+declaring_names ((role.LookedUp, n) ∷ xs) = declaring_names xs
+declaring_names ((role.ClosingName, n) ∷ xs) = declaring_names xs
+declaring_names ((role.FieldName, n) ∷ xs) = declaring_names xs
+declaring_names ((role.ModuleName, n) ∷ xs) = declaring_names xs
 
 -- returns the token that declares the object with this ordinal; None for a predeclared name, and if
 -- there is no such ordinal
-abbrev pub token_declaring : List ℕ → ℕ → Option ℕ
-token_declaring declarations ordinal =
+abbrev pub declaration_token : List ℕ → ℕ → Option ℕ
+declaration_token declarations ordinal =
     if nat_lt ordinal predeclared_count
     then None
     else slice_get declarations (ordinal - predeclared_count)
@@ -51,98 +51,98 @@ is_unbound (declared k) = false
 is_unbound (as_written x) = true
 
 -- returns true for the fault of a duplicate declaration or a wrong closing name
-abbrev pub is_of_declarations : Fault → Bool
-is_of_declarations fault =
+abbrev pub is_declaration_fault : Fault → Bool
+is_declaration_fault fault =
     elim (fault.code) [ code.Duplicate ↦ true | code.EndName ↦ true | _ ↦ false ]
 
 -- returns true for the fault of an undeclared name
-abbrev pub is_of_occurrences : Fault → Bool
-is_of_occurrences fault = elim (fault.code) [ code.Undeclared ↦ true | _ ↦ false ]
+abbrev pub is_undeclared_fault : Fault → Bool
+is_undeclared_fault fault = elim (fault.code) [ code.Undeclared ↦ true | _ ↦ false ]
 
 -- returns the span of a token, in bytes; if there is no such token, an empty span at the text's
 -- start
-abbrev pub span_at : Scanned → ℕ → Span
+abbrev pub span_at : TextWithTokens → ℕ → Span
 span_at source token = spans.span_at source token
 
 -- returns a fault `Undeclared` for each of these occurrences that is unbound in a table
-abbrev pub undeclared_at : Scanned → List (Option ℕ) → List ℕ → List Fault
-undeclared_at source ordinals [] = []
-undeclared_at source ordinals (token ∷ tokens) =
-    if is_some (ordinal_in ordinals token) then undeclared_at source ordinals tokens
+abbrev pub undeclared_faults_by_table : TextWithTokens → List (Option ℕ) → List ℕ → List Fault
+undeclared_faults_by_table source ordinals [] = []
+undeclared_faults_by_table source ordinals (token ∷ tokens) =
+    if is_some (ordinal_in ordinals token) then undeclared_faults_by_table source ordinals tokens
     else record { code = code.Undeclared; span = span_at source token }
-    ∷ undeclared_at source ordinals tokens
+    ∷ undeclared_faults_by_table source ordinals tokens
 
 -- A module with its resolved names. It has the ordinals by token, and the declaring tokens by
 -- ordinal, beginning at `predeclared_count`. It also has the tokens of the occurrences in text
 -- order, and the faults.
 pub record Resolution : Type 0 where
-  pub module_read : Parsed
+  pub module_read : ParsedModule
   pub ordinals : List (Option ℕ)
   pub declarations : List ℕ
   pub uses : List ℕ
   pub faults : List Fault
 
 -- Holds if the table of ordinals gives the labels of the module's numbered tree.
-abbrev pub IsNumbering : Parsed → List (Option ℕ) → Type 0
-IsNumbering m ordinals =
+abbrev pub IsNumberingTable : ParsedModule → List (Option ℕ) → Type 0
+IsNumberingTable m ordinals =
     numbered (named_tree_of m) ≡ mapped (label_at m.source ordinals) (value_at m.source) (tree_of m)
 
 -- returns a name's spelling together with the ordinal of its declaration, which is None for an
 -- unbound name
-abbrev pub with_ordinal : Labels Name (Option ℕ × Name)
-with_ordinal ordinal x = (ordinal, x)
+abbrev pub ordinal_and_spelling : Labelling Name (Option ℕ × Name)
+ordinal_and_spelling ordinal x = (ordinal, x)
 
 -- returns the ordinal to which the identifier at a token is bound, and its spelling
-abbrev pub bound_at : Scanned → List (Option ℕ) → ℕ → Option ℕ × Name
-bound_at source ordinals token = (ordinal_in ordinals token, text_at source token)
+abbrev pub binding_at : TextWithTokens → List (Option ℕ) → ℕ → Option ℕ × Name
+binding_at source ordinals token = (ordinal_in ordinals token, text_at source token)
 
 -- Holds if the table of ordinals gives each identifier the ordinal of its declaration by the scope
 -- rules, or None if it is unbound.
-abbrev pub IsBinding : Parsed → List (Option ℕ) → Type 0
-IsBinding m ordinals =
-    relabelled as_names with_ordinal (named_tree_of m)
-    ≡ mapped (bound_at m.source ordinals) (value_at m.source) (tree_of m)
+abbrev pub IsBindingTable : ParsedModule → List (Option ℕ) → Type 0
+IsBindingTable m ordinals =
+    relabel_module naming_by_spelling ordinal_and_spelling (named_tree_of m)
+    ≡ mapped (binding_at m.source ordinals) (value_at m.source) (tree_of m)
 
 -- returns a fault `Undeclared` for each of these occurrences whose label, at the same place of the
 -- second list, means an unbound name
-abbrev pub unbound_at : Scanned → List ℕ → List Label → List Fault
-unbound_at source [] labels = []
-unbound_at source (token ∷ tokens) [] = []
-unbound_at source (token ∷ tokens) (label ∷ labels) =
+abbrev pub undeclared_faults_by_labels : TextWithTokens → List ℕ → List Label → List Fault
+undeclared_faults_by_labels source [] labels = []
+undeclared_faults_by_labels source (token ∷ tokens) [] = []
+undeclared_faults_by_labels source (token ∷ tokens) (label ∷ labels) =
     if is_unbound label
     then record { code = code.Undeclared; span = span_at source token }
-    ∷ unbound_at source tokens labels
-    else unbound_at source tokens labels
+    ∷ undeclared_faults_by_labels source tokens labels
+    else undeclared_faults_by_labels source tokens labels
 
 -- returns the faults of the undeclared names of a module, in text order
-abbrev pub unbound_in : Parsed → List Fault
-unbound_in m = unbound_at m.source (occurrences (tree_of m)) (bindings (named_tree_of m))
+abbrev pub undeclared_faults : ParsedModule → List Fault
+undeclared_faults m = undeclared_faults_by_labels m.source (occurrences (tree_of m)) (bindings (named_tree_of m))
 
 -- Holds if these are the faults of a module. Duplicate declarations and wrong closing names come
 -- first, then one fault for each undeclared name, in text order. There are faults of the first two
 -- kinds exactly if a name is declared twice or a closing name is wrong.
-pub record AreFaultsOf (m : Parsed) (faults : List Fault) : Type 0 where
-  pub by_kind : faults ≡ twice_in m ++ unbound_in m
-  pub declared_twice : list_any is_of_declarations faults ≡ not (declared_once (named_tree_of m))
-  pub undeclared : filter is_of_occurrences faults ≡ unbound_in m
+pub record AreFaultsOf (m : ParsedModule) (faults : List Fault) : Type 0 where
+  pub by_kind : faults ≡ declaration_faults m ++ undeclared_faults m
+  pub declared_twice : list_any is_declaration_fault faults ≡ not (declared_once (named_tree_of m))
+  pub undeclared : filter is_undeclared_fault faults ≡ undeclared_faults m
 
 -- returns true if an identifier of the module is at this token
-abbrev pub is_identifier_of : Parsed → ℕ → Bool
-is_identifier_of m token = list_any (λ i. i == token) (leaves (tree_of m))
+abbrev pub is_identifier_token : ParsedModule → ℕ → Bool
+is_identifier_token m token = list_any (λ i. i == token) (leaves (tree_of m))
 
 -- holds if a table has no ordinal at a token that isn't an identifier of the module
-abbrev pub NamesAlone : Parsed → List (Option ℕ) → Type 0
-NamesAlone m ordinals =
-    (token : ℕ) → is_identifier_of m token ≡ false → ordinal_in ordinals token ≡ None
+abbrev pub OnlyNamesHaveOrdinals : ParsedModule → List (Option ℕ) → Type 0
+OnlyNamesHaveOrdinals m ordinals =
+    (token : ℕ) → is_identifier_token m token ≡ false → ordinal_in ordinals token ≡ None
 
 -- Holds if the ordinals, declaring tokens, occurrences and faults of a resolved module are correct
 -- for its text.
 pub record IsResolution (r : Resolution) : Type 0 where
   pub parsed : IsParsed r.module_read
-  pub numbering : IsNumbering r.module_read r.ordinals
-  pub binding : IsBinding r.module_read r.ordinals
-  pub names_alone : NamesAlone r.module_read r.ordinals
+  pub numbering : IsNumberingTable r.module_read r.ordinals
+  pub binding : IsBindingTable r.module_read r.ordinals
+  pub names_alone : OnlyNamesHaveOrdinals r.module_read r.ordinals
   pub declaring : r.declarations
-      ≡ declaring_only (identifiers role.Declaring (tree_of r.module_read))
+      ≡ declaring_names (identifiers role.Declaring (tree_of r.module_read))
   pub occurring : r.uses ≡ occurrences (tree_of r.module_read)
   pub reported : AreFaultsOf r.module_read r.faults

@@ -4,45 +4,45 @@
 ghost use Rattle.std.specs.Prelude.{◌≡◌, ◌≤◌, IfOk, length, map, nat_lt};
 ghost use Rattle.std.specs.List.Sorted.{IsNonDecreasingBy, IsPartitionPoint};
 ghost use Rattle.ob0_scan.specs.declared.lexeme.Token as token;
-ghost use Rattle.ob0_scope_table.specs.FaultTokens.{begun_at, ended_at, fault_at, tokens_of};
+ghost use Rattle.ob0_scope_table.specs.FaultTokens.{index_starting_at, index_ending_at, fault_at, fault_by_tokens};
 
 use crate::table::token_span;
-use ob0_scan::{Code, Fault, Span, Token, Tokens};
+use ob0_scan::{Fault, FaultCode, Span, Token, Tokens};
 use std::alloc::{AllocError, Global};
 
 /// A fault, with the first and the last token of its range.
 #[derive(Clone, Copy)]
-pub struct FaultAt {
-    pub code: Code,
+pub struct FaultByTokens {
+    pub code: FaultCode,
     pub first: usize,
     pub last: usize,
 }
 
 /// Returns each fault of a text with the tokens at which it begins and ends.
-pub fn tokens_of_faults(
+pub fn faults_by_tokens(
     alloc: Global,
     tokens: &Tokens,
     faults: &[Fault],
-) -> Result<Vec<FaultAt>, AllocError>
-    ensures { IfOk result (λ found. found.items ≡ map (tokens_of tokens.now.tokens) faults.now) }
+) -> Result<Vec<FaultByTokens>, AllocError>
+    ensures { IfOk result (λ found. found.items ≡ map (fault_by_tokens tokens.now.tokens) faults.now) }
 {
     let mut found = Vec::new(alloc);
     for fault in faults {
-        found.push(find_tokens(tokens, fault))?;
+        found.push(find_fault_tokens(tokens, fault))?;
     }
     Ok(found)
 }
 
 /// Returns a fault with the tokens at which it begins and ends.
-fn find_tokens(tokens: &Tokens, fault: &Fault) -> FaultAt
-    ensures { result ≡ tokens_of tokens.now.tokens fault.now }
+fn find_fault_tokens(tokens: &Tokens, fault: &Fault) -> FaultByTokens
+    ensures { result ≡ fault_by_tokens tokens.now.tokens fault.now }
 {
     // The proof needs the contract of this call.
     let _text = tokens.text();
     let all = tokens.tokens();
-    let first = token_begun(all, fault.span.start as usize);
-    let last = token_ended(all, fault.span.end as usize);
-    FaultAt {
+    let first = find_token_starting_at(all, fault.span.start as usize);
+    let last = find_token_ending_at(all, fault.span.end as usize);
+    FaultByTokens {
         code: fault.code,
         first,
         last,
@@ -53,19 +53,19 @@ fn find_tokens(tokens: &Tokens, fault: &Fault) -> FaultAt
 pub fn faults_at_tokens(
     alloc: Global,
     tokens: &Tokens,
-    found: &[FaultAt],
+    found: &[FaultByTokens],
 ) -> Result<Vec<Fault>, AllocError>
     ensures { IfOk result (λ faults. faults.items ≡ map (fault_at tokens.now) found.now) }
 {
     let mut faults = Vec::new(alloc);
     for fault in found {
-        faults.push(place_fault(tokens, fault))?;
+        faults.push(fault_from_tokens(tokens, fault))?;
     }
     Ok(faults)
 }
 
 /// Returns the fault at these tokens of a text.
-fn place_fault(tokens: &Tokens, fault: &FaultAt) -> Fault
+fn fault_from_tokens(tokens: &Tokens, fault: &FaultByTokens) -> Fault
     ensures { result ≡ fault_at tokens.now fault.now }
 {
     let first = token_span(tokens, fault.first);
@@ -81,9 +81,9 @@ fn place_fault(tokens: &Tokens, fault: &FaultAt) -> Fault
 
 /// Returns the index of the first token that doesn't begin before a place, found by binary search. Returns the number
 /// of tokens for place 0, because place 0 counts as a place at which no token begins.
-fn token_begun(tokens: &[Token], place: usize) -> usize
+fn find_token_starting_at(tokens: &[Token], place: usize) -> usize
     ensures { IsNonDecreasingBy (λ (t : token.Token). t.span.start) tokens.now
-        → result ≡ begun_at tokens.now place }
+        → result ≡ index_starting_at tokens.now place }
 {
     if place == 0 {
         return tokens.len();
@@ -93,9 +93,9 @@ fn token_begun(tokens: &[Token], place: usize) -> usize
 
 /// Returns the index of the first token that doesn't end before a place, found by binary search. Returns the number of
 /// tokens for place 0, because no token ends at place 0.
-fn token_ended(tokens: &[Token], place: usize) -> usize
+fn find_token_ending_at(tokens: &[Token], place: usize) -> usize
     ensures { IsNonDecreasingBy (λ (t : token.Token). t.span.end) tokens.now
-        → result ≡ ended_at tokens.now place }
+        → result ≡ index_ending_at tokens.now place }
 {
     if place == 0 {
         return tokens.len();

@@ -9,9 +9,11 @@ mod predeclared_names;
 mod resolved;
 mod table;
 
-pub use fault_tokens::{FaultAt, faults_at_tokens, tokens_of_faults};
-pub use one_body::{BodyPlace, is_in_body, place_in_module, place_of_body};
+pub use fault_tokens::{FaultByTokens, faults_at_tokens, faults_by_tokens};
+pub use one_body::{BodyPlace, body_place_in_module, body_place_in_tree, is_in_body};
 pub use ordinal_entry::OrdinalEntry;
-pub use predeclared_names::{FALSE, PREDECLARED, READ, TRUE, WRITE, WRITE_LN};
+pub use predeclared_names::{
+    FALSE_ORDINAL, PREDECLARED_COUNT, READ_ORDINAL, TRUE_ORDINAL, WRITE_LN_ORDINAL, WRITE_ORDINAL,
+};
 pub use resolved::{Bindings, Resolved};
-pub use table::{is_written, ordinal_at, same_ordinal, token_span};
+pub use table::{has_spelling, ordinal_at, same_ordinal, token_span};

@@ -1,12 +1,12 @@
 //! Keeps a module with its names resolved.
 
 ghost use Rattle.std.specs.Prelude.{◌≡◌, ◌-◌, ◌<◌, slice_get, Some, None};
-ghost use Rattle.ob0_tree.specs.Parsed.{named_tree_of};
+ghost use Rattle.ob0_tree.specs.ParsedModule.{named_tree_of};
 ghost use Rattle.ob0_language_names.specs.Occurrences.{binds};
-ghost use Rattle.ob0_scope_table.specs.Resolution.{IsResolution, ordinal_in, token_declaring};
+ghost use Rattle.ob0_scope_table.specs.Resolution.{IsResolution, ordinal_in, declaration_token};
 
 use crate::ordinal_entry::OrdinalEntry;
-use crate::predeclared_names::PREDECLARED;
+use crate::predeclared_names::PREDECLARED_COUNT;
 use crate::table::ordinal_at;
 use ob0_scan::{Fault, Tokens};
 use ob0_tree::Module;
@@ -37,7 +37,7 @@ pub struct Resolved<'t> {
 impl<'t> Model for Resolved<'t> {
     ghost use Rattle.std.specs.Cow.{cow_value};
     ghost use Rattle.ob0_scope_table.specs.Resolution.{Resolution, IsResolution};
-    ghost use Rattle.ob0_scope_table.specs.Bindings.{resolution_by};
+    ghost use Rattle.ob0_scope_table.specs.Bindings.{resolution_with};
 
     ghost Value = { Resolution };
 
@@ -46,18 +46,18 @@ impl<'t> Model for Resolved<'t> {
 
     ghost coded = { Prim.hlevel (codes, block_contract.the_row.coded) };
 
-    ghost view = { λ r. resolution_by r.module.now (cow_value r.bindings) };
+    ghost view = { λ r. resolution_with r.module.now (cow_value r.bindings) };
 
-    ghost invariant = { λ r. IsResolution (resolution_by r.module.now (cow_value r.bindings)) };
+    ghost invariant = { λ r. IsResolution (resolution_with r.module.now (cow_value r.bindings)) };
 }
 
 impl<'t> Resolved<'t> {
-    ghost use Rattle.ob0_scope_table.specs.Bindings.{resolution_by};
+    ghost use Rattle.ob0_scope_table.specs.Bindings.{resolution_with};
 
     /// Joins a module and its bindings, which the result owns.
     pub fn new(module: &'t Module<'t>, bindings: Bindings) -> Resolved<'t>
-        requires { IsResolution (resolution_by «module».now bindings) }
-        ensures { result ≡ resolution_by «module».now bindings }
+        requires { IsResolution (resolution_with «module».now bindings) }
+        ensures { result ≡ resolution_with «module».now bindings }
     {
         Resolved {
             module,
@@ -67,8 +67,8 @@ impl<'t> Resolved<'t> {
 
     /// Joins a module and its bindings, which the result borrows.
     pub fn from_parts(module: &'t Module<'t>, bindings: &'t Bindings) -> Resolved<'t>
-        requires { IsResolution (resolution_by «module».now bindings.now) }
-        ensures { result ≡ resolution_by «module».now bindings.now }
+        requires { IsResolution (resolution_with «module».now bindings.now) }
+        ensures { result ≡ resolution_with «module».now bindings.now }
     {
         Resolved {
             module,
@@ -78,7 +78,7 @@ impl<'t> Resolved<'t> {
 
     /// Returns the bindings, without the module.
     fn bindings(&self) -> &Bindings
-        ensures { resolution_by self.now.module_read result.now ≡ self.now }
+        ensures { resolution_with self.now.module_read result.now ≡ self.now }
     {
         match &self.bindings {
             Cow::Borrowed(bindings) => bindings,
@@ -147,14 +147,14 @@ impl<'t> Resolved<'t> {
     /// Returns the token that declares the object with this ordinal. Returns None for a predeclared name, and if there
     /// is no such ordinal.
     pub fn declaring_token(&self, ordinal: usize) -> Option<usize>
-        ensures { result ≡ token_declaring self.now.declarations ordinal }
+        ensures { result ≡ declaration_token self.now.declarations ordinal }
     {
-        if ordinal < PREDECLARED {
+        if ordinal < PREDECLARED_COUNT {
             return None;
         }
         self.bindings()
             .declarations
-            .get(ordinal - PREDECLARED)
+            .get(ordinal - PREDECLARED_COUNT)
             .copied()
     }
 

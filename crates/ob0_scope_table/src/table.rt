@@ -43,7 +43,7 @@ pub fn token_span(tokens: &Tokens, token: usize) -> Span
 
 /// Returns true if a token has this name as its spelling. A token that doesn't exist has the empty
 /// spelling.
-pub fn is_written(tokens: &Tokens, token: usize, name: &str) -> bool
+pub fn has_spelling(tokens: &Tokens, token: usize, name: &str) -> bool
     ensures { result ≡ same_name (text_at tokens.now token) name.now }
 {
     text_at(tokens, token) == name

@@ -7,10 +7,10 @@ use Rattle.ob0_rpc.specs.Writing.{CanBeSent}
 use Rattle.ob0_scan.specs.declared.lexeme.Span.{Span}
 use Rattle.ob0_scope_table.specs.Resolution.{Resolution}
 use Rattle.ob0_text.specs.declared.position_types.Unit.{Unit}
-use Rattle.ob0_analysis.specs.Analysed.{Finds, IsModuleIn}
+use Rattle.ob0_analysis.specs.Analysed.{AnswersIfWellTyped, IsModuleIn}
 use Rattle.ob0_analysis.specs.Diagnosed.{IsWellTypedModule}
 use Rattle.ob0_analysis.specs.Texts.{utf8}
-use Rattle.ob0_session_answers.specs.Questions.{location_at}
+use Rattle.ob0_session_answers.specs.Questions.{span_location}
 use Rattle.ob0_analysis.proofs.Scanning.{utf8_of}
 
 -- Holds if the text is a module and its names have this answer, or there is no answer (None) and
@@ -20,18 +20,18 @@ FoundOf text is (Some answer) = (names : Resolution) × IsModuleIn (utf8 text) n
 FoundOf text is None = IsWellTypedModule (utf8 text) → ⊥
 
 pub found_of : {A : Type 0} (bytes text : List ℕ) (is : Resolution → A → Type 0) (found : Option A) → IsUtf8 bytes → chars bytes ≡ text
-    → Finds bytes (λ names answer. is names answer) found → FoundOf text is found
+    → AnswersIfWellTyped bytes (λ names answer. is names answer) found → FoundOf text is found
 found_of bytes text is (Some answer) u same h =
     (h.0, subst (λ (t : List ℕ). IsModuleIn t h.0) (utf8_of bytes text u same) h.1, h.2)
 found_of bytes text is None u same h = subst (λ (t : List ℕ). IsWellTypedModule t → ⊥) (utf8_of bytes text u same) h
 
 -- ---- values that can be sent
 
-shallow_locations : (unit : Unit) (uri text : List ℕ) (spans : List Span) → items_depth (items_of (map (location_at unit uri text) spans)) ≤ 3
+shallow_locations : (unit : Unit) (uri text : List ℕ) (spans : List Span) → items_depth (items_of (map (span_location unit uri text) spans)) ≤ 3
 shallow_locations unit uri text [] = omega arith
 shallow_locations unit uri text (s ∷ ss) = omega (arith, shallow_locations unit uri text ss)
 
-pub locations_can_be_sent : (unit : Unit) (uri text : List ℕ) (spans : List Span) → CanBeSent (array (items_of (map (location_at unit uri text) spans)))
+pub locations_can_be_sent : (unit : Unit) (uri text : List ℕ) (spans : List Span) → CanBeSent (array (items_of (map (span_location unit uri text) spans)))
 locations_can_be_sent unit uri text spans = record { shallow = omega (arith, shallow_locations unit uri text spans) }
 
 pub null_can_be_sent : CanBeSent null

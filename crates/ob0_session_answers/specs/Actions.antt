@@ -7,10 +7,10 @@ use Rattle.std.specs.Str.{bytes_eq}
 use Rattle.std.specs.declared.alloc.Global.{Global}
 use Rattle.serde_json.specs.Data.{Data, array, no_items}
 use Rattle.serde_json.specs.View.{items_of}
-use Rattle.ob0_rpc.specs.Seen.{id_data, kinds_seen}
+use Rattle.ob0_rpc.specs.Seen.{id_data, kinds_view}
 use Rattle.ob0_rpc.specs.Shapes.{result_message}
 use Rattle.ob0_rpc.specs.Writing.{Writes}
-use Rattle.ob0_rpc.specs.declared.clients.Client.{Client}
+use Rattle.ob0_rpc.specs.declared.clients.ClientFeatures.{ClientFeatures}
 use Rattle.ob0_text.specs.Texts.{offset_of}
 use Rattle.ob0_text.specs.Units.{width_of}
 use Rattle.ob0_text.specs.declared.edits.Edit.{Edit}
@@ -18,11 +18,11 @@ use Rattle.ob0_text.specs.declared.position_types.Range.{Range}
 use Rattle.ob0_text.specs.declared.position_types.Unit.{Unit}
 use Rattle.ob0_analysis.specs.Diagnosed.{IsWellTypedModule}
 use Rattle.ob0_analysis.specs.Texts.{utf8}
-use Rattle.ob0_edits.specs.Inlinings.{Offers}
+use Rattle.ob0_edits.specs.Inlinings.{OffersInlining}
 use Rattle.ob0_session_json.specs.Shapes.{action_value, workspace_edit}
 use Rattle.ob0_session_answers.specs.declared.actions.ActionsRequest.{ActionsRequest}
-use Rattle.ob0_edits.specs.declared.inlining.Inlining.{Inlining}
-use Rattle.ob0_edits.specs.declared.inlining.Inlining.TheVariants.{Here, Everywhere}
+use Rattle.ob0_edits.specs.declared.inlinings.Inlining.{Inlining}
+use Rattle.ob0_edits.specs.declared.inlinings.Inlining.TheVariants.{Here, Everywhere}
 
 -- ---- the request
 
@@ -30,7 +30,7 @@ use Rattle.ob0_edits.specs.declared.inlining.Inlining.TheVariants.{Here, Everywh
 -- range, and the requested kinds of actions (None if all kinds are requested).
 pub record RequestedActions : Type 0 where
   pub id : Data
-  pub client : Client
+  pub client : ClientFeatures
   pub uri : List ℕ
   pub version : ℤ
   pub range : Range
@@ -38,36 +38,36 @@ pub record RequestedActions : Type 0 where
 
 -- Returns the code's request for code actions, in a document of this version, as a request of the
 -- definitions.
-abbrev pub actions_requested : ActionsRequest → ℤ → RequestedActions
-actions_requested r version =
+abbrev pub actions_request_view : ActionsRequest → ℤ → RequestedActions
+actions_request_view r version =
     record {
       id = id_data r.id.now;
       client = r.client;
       uri = r.uri.now;
       version = version;
       range = r.range;
-      only = kinds_seen r.only.now;
+      only = kinds_view r.only.now;
     }
 
 -- Returns true if a request for this kind of actions includes inlining.
-abbrev pub is_of_kind : List ℕ → Bool
-is_of_kind kind =
+abbrev pub is_inlining_kind : List ℕ → Bool
+is_inlining_kind kind =
     bytes_eq kind [] || bytes_eq kind (codes "refactor") || bytes_eq kind (codes "refactor.inline")
 
 -- Returns true if all kinds are requested (None), or inlining is of a requested kind.
 abbrev pub allows_inlining : Option (List (List ℕ)) → Bool
-allows_inlining (Some kinds) = list_any is_of_kind kinds
+allows_inlining (Some kinds) = list_any is_inlining_kind kinds
 allows_inlining None = true
 
 -- Returns true if the client accepts actions that aren't commands, and inlining is of a requested
 -- kind or all kinds are requested.
-abbrev pub takes_inlining : Client → Option (List (List ℕ)) → Bool
-takes_inlining client only = client.takes_literal_actions && allows_inlining only
+abbrev pub accepts_inlining : ClientFeatures → Option (List (List ℕ)) → Bool
+accepts_inlining client only = client.accepts_literal_actions && allows_inlining only
 
 -- Returns true if the client of this request accepts actions that aren't commands, and inlining is
 -- of a requested kind or all kinds are requested.
 abbrev pub wants_inlining : RequestedActions → Bool
-wants_inlining requested = takes_inlining requested.client requested.only
+wants_inlining requested = accepts_inlining requested.client requested.only
 
 -- Returns the byte offset at which actions apply: the start of the range, or its end if the end
 -- comes first.
@@ -95,11 +95,11 @@ action_values requested how None = []
 
 -- Returns the JSON array of the offered actions: inlining at one use, then inlining everywhere. An
 -- action whose edits are None isn't offered.
-abbrev pub actions_value : RequestedActions
+abbrev pub actions_array : RequestedActions
     → Option (Vec Edit Global)
     → Option (Vec Edit Global)
     → Data
-actions_value requested here everywhere =
+actions_array requested here everywhere =
     array (items_of
     (action_values requested Here here ++ action_values requested Everywhere everywhere))
 
@@ -110,10 +110,10 @@ pub record ListsInlinings (unit : Unit) (requested : RequestedActions) (text : L
   pub here : Option (Vec Edit Global)
   pub everywhere : Option (Vec Edit Global)
   pub wanted : wants_inlining requested ≡ true
-  pub offers_here : Offers Here unit text (actions_offset unit text requested.range) here
-  pub offers_everywhere : Offers Everywhere unit text (actions_offset unit text requested.range)
+  pub offers_here : OffersInlining Here unit text (actions_offset unit text requested.range) here
+  pub offers_everywhere : OffersInlining Everywhere unit text (actions_offset unit text requested.range)
       everywhere
-  pub listed : value ≡ actions_value requested here everywhere
+  pub listed : value ≡ actions_array requested here everywhere
 
 -- Holds if the value lists the offered actions. The list is empty if the request doesn't include
 -- inlining, or if the text isn't a well-typed module.

@@ -11,18 +11,18 @@ use Rattle.ob0_text.specs.declared.position_types.Unit.{Unit}
 use Rattle.ob0_text.specs.declared.refusals.EditRefusal.TheVariants.{TooLong}
 use Rattle.ob0_analysis.specs.Diagnosed.{IsWellTypedModule}
 use Rattle.ob0_analysis.specs.Texts.{utf8}
-use Rattle.ob0_edits.specs.Layouts.{IsTooLongLaidOut, LaysOut}
-use Rattle.ob0_session_json.specs.Shapes.{edits_value, edit_refused}
+use Rattle.ob0_edits.specs.Layouts.{IsTooLongFormatted, FormatsIn}
+use Rattle.ob0_session_json.specs.Shapes.{edits_value, edit_refusal}
 
 -- Holds if the message answers a request with this id to format the text: with edits, with the
 -- refusal that the formatted text is too long, or with the refusal that the text is ill-typed.
 abbrev pub AnswersFormatting : Unit → Data → Indent → List ℕ → Data → Type 0
 AnswersFormatting unit id indent text message =
     ((edits : List Edit)
-    × LaysOut unit indent text edits
+    × FormatsIn unit indent text edits
     × (message ≡ result_message id (edits_value edits)))
-    ⊎ ((IsTooLongLaidOut indent text × (message ≡ edit_refused id (refusal_text TooLong)))
-    ⊎ (¬ IsWellTypedModule (utf8 text) × (message ≡ edit_refused id (codes "ill-typed"))))
+    ⊎ ((IsTooLongFormatted indent text × (message ≡ edit_refusal id (refusal_text TooLong)))
+    ⊎ (¬ IsWellTypedModule (utf8 text) × (message ≡ edit_refusal id (codes "ill-typed"))))
 
 -- Holds if the content is the text of a message that answers the request for formatting.
 abbrev pub RepliesToFormatting : Unit → Data → Indent → List ℕ → List ℕ → Type 0

@@ -6,8 +6,8 @@
 
 ghost use Rattle.std.specs.Prelude.{◌≡◌, List, IfOk, map};
 ghost use Rattle.std.specs.Str.{chars};
-ghost use Rattle.ob0_analysis.specs.Diagnosed.{complaint_in};
-ghost use Rattle.ob0_session_json.specs.Made.{DiagnosticsAre, diagnostic_in};
+ghost use Rattle.ob0_analysis.specs.Diagnosed.{complaint_of_diagnosis};
+ghost use Rattle.ob0_session_json.specs.Made.{AreSameDiagnostics, diagnostic_view};
 ghost use Rattle.ob0_session_answers.specs.Diagnostics.{Diagnoses, Publishes, diagnostic_of};
 ghost use Rattle.ob0_session_json.specs.Shapes.{Diagnostic as Reported};
 ghost use Rattle.ob0_text.specs.Texts.{position_of};
@@ -50,25 +50,25 @@ pub fn diagnostics<T: TextStore>(
     requires { T.content store.now ≡ chars analysis.now }
     ensures { IfOk result (λ list. (ds : List Reported)
         × Diagnoses (T.unit_of store.now) (T.content store.now) ds
-        × DiagnosticsAre ds list.items) }
+        × AreSameDiagnostics ds list.items) }
 {
     let reported = analysis.diagnoses(alloc)?;
-    all_diagnostics(alloc, store, reported)
+    locate_diagnostics(alloc, store, reported)
 }
 
 /// Returns the diagnostics of these diagnoses. One pass over the text finds their positions.
-fn all_diagnostics<T: TextStore>(
+fn locate_diagnostics<T: TextStore>(
     alloc: Global,
     store: &T,
     reported: Vec<Diagnosis>,
 ) -> Result<Vec<Diagnostic>, AllocError>
-    ensures { IfOk result (λ list. DiagnosticsAre (map
-        (λ d. diagnostic_of (T.unit_of store.now) (T.content store.now) (complaint_in d))
+    ensures { IfOk result (λ list. AreSameDiagnostics (map
+        (λ d. diagnostic_of (T.unit_of store.now) (T.content store.now) (complaint_of_diagnosis d))
         reported.items) list.items) }
 {
     let offsets = offsets_of(alloc, reported.as_slice())?;
     let positions = store.positions(alloc, offsets.as_slice())?;
-    list_diagnostics(
+    attach_positions(
         alloc,
         store,
         offsets.as_slice(),
@@ -90,7 +90,7 @@ fn offsets_of(alloc: Global, reported: &[Diagnosis]) -> Result<Vec<usize>, Alloc
 
 /// Returns the diagnostics of these diagnoses. Their positions are looked up in `positions`, which
 /// has the positions of the byte offsets `offsets` (in ascending order).
-fn list_diagnostics<T: TextStore>(
+fn attach_positions<T: TextStore>(
     alloc: Global,
     store: &T,
     offsets: &[usize],
@@ -99,8 +99,8 @@ fn list_diagnostics<T: TextStore>(
 ) -> Result<Vec<Diagnostic>, AllocError>
     requires { positions.now
         ≡ map (position_of (width_of (T.unit_of store.now)) (T.content store.now)) offsets.now }
-    ensures { IfOk result (λ list. DiagnosticsAre (map
-        (λ d. diagnostic_of (T.unit_of store.now) (T.content store.now) (complaint_in d))
+    ensures { IfOk result (λ list. AreSameDiagnostics (map
+        (λ d. diagnostic_of (T.unit_of store.now) (T.content store.now) (complaint_of_diagnosis d))
         reported.items) list.items) }
 {
     let mut list = Vec::new(alloc);
@@ -132,9 +132,9 @@ fn position_at<T: TextStore>(
 
 /// Returns a diagnosis as a diagnostic with this start and end. The message is moved, not copied.
 fn diagnostic(diagnosis: Diagnosis, start: Position, end: Position) -> Diagnostic
-    ensures { diagnostic_in result ≡ record {
-      code = (complaint_in diagnosis).code;
-      said = (complaint_in diagnosis).said;
+    ensures { diagnostic_view result ≡ record {
+      code = (complaint_of_diagnosis diagnosis).code;
+      said = (complaint_of_diagnosis diagnosis).said;
       start = start;
       end = end;
     } }

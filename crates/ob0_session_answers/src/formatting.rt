@@ -3,21 +3,21 @@ ghost use Rattle.ob0_rpc.specs.Seen.{id_data};
 ghost use Rattle.ob0_session_answers.specs.Formatted.{RepliesToFormatting};
 
 use ob0_analysis::Analysis;
-use ob0_edits::layout_in;
+use ob0_edits::format_edits;
 use ob0_rpc::{Id, result_of};
 use ob0_session_documents::DocumentRequest;
-use ob0_session_json::refusals::{refuse_because, refuse_ill_typed};
+use ob0_session_json::refusals::{ill_typed_refusal, refusal_with_reason};
 use ob0_text::{Indent, TextStore};
 use std::alloc::{AllocError, Global};
 
 /// A request for the edits that format a document.
 #[derive(Drop)]
-pub struct LayoutRequest<'a> {
+pub struct FormattingRequest<'a> {
     pub id: &'a Id,
     pub indent: Indent,
 }
 
-impl<'a, T: TextStore> DocumentRequest<T> for LayoutRequest<'a> {
+impl<'a, T: TextStore> DocumentRequest<T> for FormattingRequest<'a> {
     ghost answers = { λ r _ unit text content.
         RepliesToFormatting unit (id_data r.id.now) r.indent text content };
 
@@ -28,12 +28,12 @@ impl<'a, T: TextStore> DocumentRequest<T> for LayoutRequest<'a> {
         text: &T,
         analysis: &Analysis,
     ) -> Result<Vec<u8>, AllocError> {
-        match layout_in(alloc, text, analysis, self.indent)? {
+        match format_edits(alloc, text, analysis, self.indent)? {
             Some(outcome) => match outcome {
                 Ok(edits) => result_of(alloc, self.id, &edits.as_slice()),
-                Err(refusal) => refuse_because(alloc, self.id, refusal),
+                Err(refusal) => refusal_with_reason(alloc, self.id, refusal),
             },
-            None => refuse_ill_typed(alloc, self.id),
+            None => ill_typed_refusal(alloc, self.id),
         }
     }
 }

@@ -11,6 +11,6 @@ mod renaming;
 
 pub use actions::ActionsRequest;
 pub use diagnostics::PublishRequest;
-pub use formatting::LayoutRequest;
+pub use formatting::FormattingRequest;
 pub use questions::{DefinitionRequest, HoverRequest, PrepareRenameRequest, ReferencesRequest};
 pub use renaming::RenameRequest;

@@ -7,16 +7,16 @@
 ghost use Rattle.std.specs.Prelude.{◌≡◌, IfOk, option_map, map};
 ghost use Rattle.serde_json.specs.Data.{array};
 ghost use Rattle.serde_json.specs.View.{items_of};
-ghost use Rattle.ob0_rpc.specs.Seen.{at_seen, id_data};
+ghost use Rattle.ob0_rpc.specs.Seen.{document_place_view, id_data};
 ghost use Rattle.ob0_rpc.specs.Shapes.{result_message};
 ghost use Rattle.ob0_rpc.specs.Writing.{Writes};
-ghost use Rattle.ob0_refs.specs.Parts.{hover_in};
-ghost use Rattle.ob0_refs.specs.Questions.{AreReferencesAt, hover_at_place, definition_at, renamable_at};
-ghost use Rattle.ob0_session_answers.specs.Questions.{RepliesAboutName, definition_asked, hover_asked, hover_at, location_at, range_at, references_asked, renaming_asked, value_or_null};
+ghost use Rattle.ob0_refs.specs.Parts.{hover_view};
+ghost use Rattle.ob0_refs.specs.Questions.{AreReferencesAt, hover_at_place, definition_at, renamable_span_at};
+ghost use Rattle.ob0_session_answers.specs.Questions.{RepliesToQuestion, definition_asked, hover_asked, hover_with_range, span_location, span_range, references_asked, renaming_asked, value_or_null};
 
 use ob0_analysis::{Analysis, Question, WellTyped, ask};
 use ob0_edits_tokens::{range_of, ranges};
-use ob0_refs::{definition, hover, references, renamable};
+use ob0_refs::{definition, hover, references, renamable_span};
 use ob0_rpc::{DocumentPosition, Id, result_of};
 use ob0_scan::Span;
 use ob0_session_documents::DocumentRequest;
@@ -26,14 +26,14 @@ use std::alloc::{AllocError, Global};
 
 /// The question for the hover text at a byte offset.
 #[derive(Drop)]
-struct HoverAt {
+struct HoverQuestion {
     offset: usize,
 }
 
-impl Question for HoverAt {
+impl Question for HoverQuestion {
     type Answer = Option<ob0_refs::Hover>;
 
-    ghost answers = { λ q names found. option_map hover_in found ≡ hover_at_place names q.offset };
+    ghost answers = { λ q names found. option_map hover_view found ≡ hover_at_place names q.offset };
 
     fn answer(
         &self,
@@ -46,11 +46,11 @@ impl Question for HoverAt {
 
 /// The question for the declaration of the name or field at a byte offset.
 #[derive(Drop)]
-struct DefinitionAt {
+struct DefinitionQuestion {
     offset: usize,
 }
 
-impl Question for DefinitionAt {
+impl Question for DefinitionQuestion {
     type Answer = Option<Span>;
 
     ghost answers = { λ q names found. found ≡ definition_at names q.offset };
@@ -62,12 +62,12 @@ impl Question for DefinitionAt {
 
 /// The question for all references to the declaration of the name or field at a byte offset.
 #[derive(Drop)]
-struct ReferencesAt {
+struct ReferencesQuestion {
     offset: usize,
     include_declaration: bool,
 }
 
-impl Question for ReferencesAt {
+impl Question for ReferencesQuestion {
     type Answer = Vec<Span>;
 
     ghost answers = { λ q names found.
@@ -80,17 +80,17 @@ impl Question for ReferencesAt {
 
 /// The question for the span of the name or field at a byte offset, if it can be renamed.
 #[derive(Drop)]
-struct RenamableAt {
+struct RenamableQuestion {
     offset: usize,
 }
 
-impl Question for RenamableAt {
+impl Question for RenamableQuestion {
     type Answer = Option<Span>;
 
-    ghost answers = { λ q names found. found ≡ renamable_at names q.offset };
+    ghost answers = { λ q names found. found ≡ renamable_span_at names q.offset };
 
     fn answer(&self, _alloc: Global, module: &WellTyped<'_>) -> Result<Option<Span>, AllocError> {
-        Ok(renamable(module, self.offset))
+        Ok(renamable_span(module, self.offset))
     }
 }
 
@@ -103,7 +103,7 @@ pub struct HoverRequest<'a> {
 
 impl<'a, T: TextStore> DocumentRequest<T> for HoverRequest<'a> {
     ghost answers = { λ r _ unit text content.
-        RepliesAboutName unit (id_data r.id.now) (at_seen r.place.now) hover_asked text content };
+        RepliesToQuestion unit (id_data r.id.now) (document_place_view r.place.now) hover_asked text content };
 
     fn answer(
         &self,
@@ -113,8 +113,8 @@ impl<'a, T: TextStore> DocumentRequest<T> for HoverRequest<'a> {
         analysis: &Analysis,
     ) -> Result<Vec<u8>, AllocError> {
         let offset = text.offset(self.place.position);
-        match ask(alloc, analysis, &HoverAt { offset })? {
-            Some(found) => hover_or_null(alloc, self.id, text, found),
+        match ask(alloc, analysis, &HoverQuestion { offset })? {
+            Some(found) => hover_answer(alloc, self.id, text, found),
             None => result_of(alloc, self.id, &()),
         }
     }
@@ -129,7 +129,7 @@ pub struct DefinitionRequest<'a> {
 
 impl<'a, T: TextStore> DocumentRequest<T> for DefinitionRequest<'a> {
     ghost answers = { λ r _ unit text content.
-        RepliesAboutName unit (id_data r.id.now) (at_seen r.place.now)
+        RepliesToQuestion unit (id_data r.id.now) (document_place_view r.place.now)
         definition_asked text content };
 
     fn answer(
@@ -140,8 +140,8 @@ impl<'a, T: TextStore> DocumentRequest<T> for DefinitionRequest<'a> {
         analysis: &Analysis,
     ) -> Result<Vec<u8>, AllocError> {
         let offset = text.offset(self.place.position);
-        match ask(alloc, analysis, &DefinitionAt { offset })? {
-            Some(found) => location_or_null(alloc, self.id, text, self.place.uri.as_str(), found),
+        match ask(alloc, analysis, &DefinitionQuestion { offset })? {
+            Some(found) => location_answer(alloc, self.id, text, self.place.uri.as_str(), found),
             None => result_of(alloc, self.id, &()),
         }
     }
@@ -157,7 +157,7 @@ pub struct ReferencesRequest<'a> {
 
 impl<'a, T: TextStore> DocumentRequest<T> for ReferencesRequest<'a> {
     ghost answers = { λ r _ unit text content.
-        RepliesAboutName unit (id_data r.id.now) (at_seen r.place.now)
+        RepliesToQuestion unit (id_data r.id.now) (document_place_view r.place.now)
         (references_asked r.include_declaration) text content };
 
     fn answer(
@@ -168,13 +168,13 @@ impl<'a, T: TextStore> DocumentRequest<T> for ReferencesRequest<'a> {
         analysis: &Analysis,
     ) -> Result<Vec<u8>, AllocError> {
         let uri = self.place.uri.as_str();
-        let question = ReferencesAt {
+        let question = ReferencesQuestion {
             offset: text.offset(self.place.position),
             include_declaration: self.include_declaration,
         };
         match ask(alloc, analysis, &question)? {
-            Some(found) => locations(alloc, self.id, text, uri, found.as_slice()),
-            None => locations(alloc, self.id, text, uri, &[]),
+            Some(found) => locations_answer(alloc, self.id, text, uri, found.as_slice()),
+            None => locations_answer(alloc, self.id, text, uri, &[]),
         }
     }
 }
@@ -188,7 +188,7 @@ pub struct PrepareRenameRequest<'a> {
 
 impl<'a, T: TextStore> DocumentRequest<T> for PrepareRenameRequest<'a> {
     ghost answers = { λ r _ unit text content.
-        RepliesAboutName unit (id_data r.id.now) (at_seen r.place.now)
+        RepliesToQuestion unit (id_data r.id.now) (document_place_view r.place.now)
         renaming_asked text content };
 
     fn answer(
@@ -199,23 +199,23 @@ impl<'a, T: TextStore> DocumentRequest<T> for PrepareRenameRequest<'a> {
         analysis: &Analysis,
     ) -> Result<Vec<u8>, AllocError> {
         let offset = text.offset(self.place.position);
-        match ask(alloc, analysis, &RenamableAt { offset })? {
-            Some(found) => range_or_null(alloc, self.id, text, found),
+        match ask(alloc, analysis, &RenamableQuestion { offset })? {
+            Some(found) => range_answer(alloc, self.id, text, found),
             None => result_of(alloc, self.id, &()),
         }
     }
 }
 
 /// Returns the answer to a hover request: the hover text with its range, or null for None.
-fn hover_or_null<T: TextStore>(
+fn hover_answer<T: TextStore>(
     alloc: Global,
     id: &Id,
     store: &T,
     found: Option<ob0_refs::Hover>,
 ) -> Result<Vec<u8>, AllocError>
     ensures { IfOk result (λ bytes. Writes (result_message (id_data id.now)
-        (value_or_null (option_map (hover_at (T.unit_of store.now) (T.content store.now))
-        (option_map hover_in found)))) bytes.items) }
+        (value_or_null (option_map (hover_with_range (T.unit_of store.now) (T.content store.now))
+        (option_map hover_view found)))) bytes.items) }
 {
     match found {
         Some(shown) => {
@@ -230,7 +230,7 @@ fn hover_or_null<T: TextStore>(
 }
 
 /// Returns the answer to a definition request: the location of the span, or null for None.
-fn location_or_null<T: TextStore>(
+fn location_answer<T: TextStore>(
     alloc: Global,
     id: &Id,
     store: &T,
@@ -239,7 +239,7 @@ fn location_or_null<T: TextStore>(
 ) -> Result<Vec<u8>, AllocError>
     ensures { IfOk result (λ bytes. Writes (result_message (id_data id.now)
         (value_or_null
-        (option_map (location_at (T.unit_of store.now) uri.now (T.content store.now)) found)))
+        (option_map (span_location (T.unit_of store.now) uri.now (T.content store.now)) found)))
         bytes.items) }
 {
     match found {
@@ -252,14 +252,14 @@ fn location_or_null<T: TextStore>(
 }
 
 /// Returns the answer to a `prepareRename` request: the range of the span, or null for None.
-fn range_or_null<T: TextStore>(
+fn range_answer<T: TextStore>(
     alloc: Global,
     id: &Id,
     store: &T,
     found: Option<Span>,
 ) -> Result<Vec<u8>, AllocError>
     ensures { IfOk result (λ bytes. Writes (result_message (id_data id.now)
-        (value_or_null (option_map (range_at (T.unit_of store.now) (T.content store.now)) found)))
+        (value_or_null (option_map (span_range (T.unit_of store.now) (T.content store.now)) found)))
         bytes.items) }
 {
     match found {
@@ -270,7 +270,7 @@ fn range_or_null<T: TextStore>(
 
 /// Returns the answer to a references request: the spans as locations in this document. If the
 /// spans are in text order, one pass over the text finds their positions.
-fn locations<T: TextStore>(
+fn locations_answer<T: TextStore>(
     alloc: Global,
     id: &Id,
     store: &T,
@@ -279,7 +279,7 @@ fn locations<T: TextStore>(
 ) -> Result<Vec<u8>, AllocError>
     ensures { IfOk result (λ bytes. Writes (result_message (id_data id.now)
         (array (items_of
-        (map (location_at (T.unit_of store.now) uri.now (T.content store.now)) spans.now))))
+        (map (span_location (T.unit_of store.now) uri.now (T.content store.now)) spans.now))))
         bytes.items) }
 {
     let ranges = ranges(alloc, store, spans)?;

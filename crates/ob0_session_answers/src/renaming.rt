@@ -4,14 +4,14 @@ ghost use Rattle.std.specs.Prelude.{IfOk};
 ghost use Rattle.ob0_rpc.specs.Seen.{id_data};
 ghost use Rattle.ob0_rpc.specs.Shapes.{result_message};
 ghost use Rattle.ob0_rpc.specs.Writing.{Writes};
-ghost use Rattle.ob0_session_answers.specs.Renamed.{RepliesToRename, rename_requested, edits_for_client};
+ghost use Rattle.ob0_session_answers.specs.Renamed.{RepliesToRename, rename_request_view, edits_for_client};
 
 use ob0_analysis::Analysis;
-use ob0_edits::rename_in;
-use ob0_rpc::{Client, DocumentPosition, Id, result_of};
+use ob0_edits::rename_edits;
+use ob0_rpc::{ClientFeatures, DocumentPosition, Id, result_of};
 use ob0_session_documents::DocumentRequest;
 use ob0_session_json::edits::WorkspaceEdit;
-use ob0_session_json::refusals::{refuse_because, refuse_ill_typed};
+use ob0_session_json::refusals::{ill_typed_refusal, refusal_with_reason};
 use ob0_text::{Edit, TextStore};
 use std::alloc::{AllocError, Global};
 
@@ -19,14 +19,14 @@ use std::alloc::{AllocError, Global};
 #[derive(Drop)]
 pub struct RenameRequest<'a> {
     pub id: &'a Id,
-    pub client: Client,
+    pub client: ClientFeatures,
     pub place: &'a DocumentPosition,
     pub new: &'a str,
 }
 
 impl<'a, T: TextStore> DocumentRequest<T> for RenameRequest<'a> {
     ghost answers = { λ r version unit text content.
-        RepliesToRename unit (rename_requested r version) text content };
+        RepliesToRename unit (rename_request_view r version) text content };
 
     fn answer(
         &self,
@@ -35,21 +35,26 @@ impl<'a, T: TextStore> DocumentRequest<T> for RenameRequest<'a> {
         text: &T,
         analysis: &Analysis,
     ) -> Result<Vec<u8>, AllocError> {
-        match rename_in(alloc, text, analysis, self.place.position, self.new)? {
+        match rename_edits(alloc, text, analysis, self.place.position, self.new)? {
             Some(outcome) => match outcome {
-                Ok(edits) => self.reply(alloc, version, edits.as_slice()),
-                Err(refusal) => refuse_because(alloc, self.id, refusal),
+                Ok(edits) => self.answer_with_edits(alloc, version, edits.as_slice()),
+                Err(refusal) => refusal_with_reason(alloc, self.id, refusal),
             },
-            None => refuse_ill_typed(alloc, self.id),
+            None => ill_typed_refusal(alloc, self.id),
         }
     }
 }
 
 impl<'a> RenameRequest<'a> {
     /// Returns the answer with these edits, in the form that the client accepts.
-    fn reply(&self, alloc: Global, version: i64, edits: &[Edit]) -> Result<Vec<u8>, AllocError>
+    fn answer_with_edits(
+        &self,
+        alloc: Global,
+        version: i64,
+        edits: &[Edit],
+    ) -> Result<Vec<u8>, AllocError>
         ensures { IfOk result (λ bytes. Writes (result_message (id_data self.now.id.now)
-            (edits_for_client (rename_requested self.now version) edits.now)) bytes.items) }
+            (edits_for_client (rename_request_view self.now version) edits.now)) bytes.items) }
     {
         let edits = WorkspaceEdit {
             client: self.client,

@@ -9,7 +9,7 @@ use Rattle.std.proofs.lemmas.Map.{none_passes_from_lookup, lookup-remove_entry}
 use Rattle.lru.specs.LruCache.{LruCache, promoted, put_entries}
 use Rattle.lru.proofs.CallerLemmas.{Contains-lookup, Contains-promoted, Contains-remove_entry, Contains-put_entries, Contains-take}
 use Rattle.lru.proofs.Splits.{Contains-cons, Contains-nil}
-use Rattle.ob0_session_documents.specs.KeptAnalyses.{IsIn}
+use Rattle.ob0_session_documents.specs.KeptAnalyses.{CacheContains}
 
 abbrev Entries : Type 0
 Entries = List (String Global × List ℕ)
@@ -28,24 +28,24 @@ passes_none test (f ∷ es) e h c = elim (Contains-cons f es e c) [
 ]
 
 -- An analysis that was looked up under a uri is in the cache under that uri.
-pub found_in : (uri : List ℕ) (cache : LruCache (String Global) (List ℕ)) (text : List ℕ) → lookup (is_uri uri) cache.entries ≡ Some text → IsIn (Some cache) uri text
+pub found_in : (uri : List ℕ) (cache : LruCache (String Global) (List ℕ)) (text : List ℕ) → lookup (is_uri uri) cache.entries ≡ Some text → CacheContains (Some cache) uri text
 found_in uri cache text h =
     let at = Contains-lookup (is_uri uri) cache.entries text h in (at.0, at.1, sym ((bytes_eq-Decides uri (string_bytes at.0)).0 at.2))
 
 -- An analysis that `peek` found under a uri is in the cache under that uri.
-pub peeked_in : (uri : List ℕ) (cache : LruCache (String Global) (List ℕ)) (found : Option (Bor (List ℕ))) → option_copied found ≡ lookup (is_uri uri) cache.entries → IfSome found (λ a. IsIn (Some cache) uri a.now)
+pub peeked_in : (uri : List ℕ) (cache : LruCache (String Global) (List ℕ)) (found : Option (Bor (List ℕ))) → option_copied found ≡ lookup (is_uri uri) cache.entries → IfSome found (λ a. CacheContains (Some cache) uri a.now)
 peeked_in uri cache None h = tt
 peeked_in uri cache (Some a) h = found_in uri cache a.now (sym h)
 
 -- After an entry was promoted, every entry of the cache was in it before.
-pub promoted_in : (document : List ℕ) (old new : LruCache (String Global) (List ℕ)) → new.entries ≡ promoted (is_uri document) old.entries → (u t : List ℕ) → IsIn (Some new) u t → IsIn (Some old) u t
+pub promoted_in : (document : List ℕ) (old new : LruCache (String Global) (List ℕ)) → new.entries ≡ promoted (is_uri document) old.entries → (u t : List ℕ) → CacheContains (Some new) u t → CacheContains (Some old) u t
 promoted_in document old new is u t h =
     (h.0, Contains-promoted (is_uri document) old.entries (h.0, t) (subst (λ l. Contains l (h.0, t)) is h.1), h.2)
 
 -- After the entry of a uri was removed, every entry of the cache was in it before and has another
 -- uri.
 pub left_in : (uri : List ℕ) (old new : LruCache (String Global) (List ℕ)) → IsDistinct string_eq (keys_of old.entries) → new.entries ≡ remove_entry (is_uri uri) old.entries
-    → (u text : List ℕ) → IsIn (Some new) u text → IsIn (Some old) u text × (u ≡ uri → ⊥)
+    → (u text : List ℕ) → CacheContains (Some new) u text → CacheContains (Some old) u text × (u ≡ uri → ⊥)
 left_in uri old new distinct is u text h =
     let key : String Global = h.0 in
     let here : Contains (remove_entry (is_uri uri) old.entries) (key, text) = subst (λ l. Contains l (key, text)) is h.1 in (
@@ -60,7 +60,7 @@ left_in uri old new distinct is u text h =
 
 -- After an analysis was added, every entry of the cache was in it before or is the added one.
 pub put_in : (old new : LruCache (String Global) (List ℕ)) (key : String Global) (text : List ℕ) → new.entries ≡ put_entries string_eq old key text
-    → (u t : List ℕ) → IsIn (Some new) u t → IsIn (Some old) u t ⊎ ((u ≡ string_bytes key) × (t ≡ text))
+    → (u t : List ℕ) → CacheContains (Some new) u t → CacheContains (Some old) u t ⊎ ((u ≡ string_bytes key) × (t ≡ text))
 put_in old new key text is u t h =
     elim (Contains-put_entries string_eq old key text (h.0, t) (subst (λ l. Contains l (h.0, t)) is h.1)) [
       | inl was ↦ inl (h.0, was, h.2)
@@ -74,5 +74,5 @@ put_in old new key text is u t h =
     ]
 
 -- After the oldest entries were removed, every entry of the cache was in it before.
-pub older_in : (old new : LruCache (String Global) (List ℕ)) (n : ℕ) → new.entries ≡ take n old.entries → (u t : List ℕ) → IsIn (Some new) u t → IsIn (Some old) u t
+pub older_in : (old new : LruCache (String Global) (List ℕ)) (n : ℕ) → new.entries ≡ take n old.entries → (u t : List ℕ) → CacheContains (Some new) u t → CacheContains (Some old) u t
 older_in old new n is u t h = (h.0, Contains-take n old.entries (h.0, t) (subst (λ l. Contains l (h.0, t)) is h.1), h.2)

@@ -7,9 +7,9 @@ use Rattle.std.specs.Str.{bytes_eq}
 use Rattle.std.specs.FinMap as map_of
 use Rattle.std.proofs.lemmas.Map.Text.{is_eq-slice_cmp}
 use Rattle.std.proofs.lemmas.Slice.Eq.{bytes_eq-Decides}
-use Rattle.ob0_text.specs.OpenDocuments.{Documents, Document, OpenDocuments, TextChange, InStep, OutOfStep, document_at, opened, changed, changed_document, lost, closed, updated}
+use Rattle.ob0_text.specs.OpenDocuments.{Documents, Document, OpenDocuments, TextChange, InStep, OutOfStep, document_at, documents_after_open, documents_after_change, changed_document, documents_after_loss, documents_after_close, updated}
 use Rattle.ob0_text.proofs.EntryLaws.{updated-some, updated-none}
-use Rattle.ob0_session_documents.specs.KeptAnalyses.{AreOfTheirTexts, KeepsOthers}
+use Rattle.ob0_session_documents.specs.KeptAnalyses.{AnalysesMatchTexts, KeepsOnlyOthers}
 use Rattle.ob0_session_documents.specs.declared.analyses.Analyses.{Analyses}
 
 unequal : (u uri : List ℕ) → (u ≡ uri → ⊥) → bytes_eq u uri ≡ false
@@ -36,23 +36,23 @@ module _ (m : Documents) (uri u : List ℕ) (other : u ≡ uri → ⊥) where
 abbrev pub AgreesElsewhere : OpenDocuments → List ℕ → OpenDocuments → Type 0
 AgreesElsewhere old uri new = (u : List ℕ) → (u ≡ uri → ⊥) → document_at new u ≡ document_at old u
 
-pub opened_elsewhere : (old new : OpenDocuments) (uri : List ℕ) (version : ℤ) (text : List ℕ) → new ≡ opened old uri version text → AgreesElsewhere old uri new
+pub opened_elsewhere : (old new : OpenDocuments) (uri : List ℕ) (version : ℤ) (text : List ℕ) → new ≡ documents_after_open old uri version text → AgreesElsewhere old uri new
 opened_elsewhere old new uri version text is u other = ap (λ d. document_at d u) is ∙ inserted old.by_uri uri u other (InStep version text)
 
-pub changed_elsewhere : (old new : OpenDocuments) (uri : List ℕ) (version : ℤ) (changes : List TextChange) → new ≡ changed old uri version changes → AgreesElsewhere old uri new
+pub changed_elsewhere : (old new : OpenDocuments) (uri : List ℕ) (version : ℤ) (changes : List TextChange) → new ≡ documents_after_change old uri version changes → AgreesElsewhere old uri new
 changed_elsewhere old new uri version changes is u other =
     ap (λ d. document_at d u) is ∙ updated_at old.by_uri uri u other (changed_document old.unit version changes) _ refl
 
-pub lost_elsewhere : (old new : OpenDocuments) (uri : List ℕ) → new ≡ lost old uri → AgreesElsewhere old uri new
+pub lost_elsewhere : (old new : OpenDocuments) (uri : List ℕ) → new ≡ documents_after_loss old uri → AgreesElsewhere old uri new
 lost_elsewhere old new uri is u other = ap (λ d. document_at d u) is ∙ updated_at old.by_uri uri u other (λ _. OutOfStep) _ refl
 
-pub closed_elsewhere : (old new : OpenDocuments) (uri : List ℕ) → new ≡ closed old uri → AgreesElsewhere old uri new
+pub closed_elsewhere : (old new : OpenDocuments) (uri : List ℕ) → new ≡ documents_after_close old uri → AgreesElsewhere old uri new
 closed_elsewhere old new uri is u other = ap (λ d. document_at d u) is ∙ removed old.by_uri uri u other
 
 -- If the analysis of a document was removed and only that document changed, each kept analysis is
 -- of the current text of its document.
 pub still_theirs : (old new : OpenDocuments) (before after : Analyses) (uri : List ℕ)
-    → AreOfTheirTexts old before → KeepsOthers before uri after → AgreesElsewhere old uri new → AreOfTheirTexts new after
+    → AnalysesMatchTexts old before → KeepsOnlyOthers before uri after → AgreesElsewhere old uri new → AnalysesMatchTexts new after
 still_theirs old new before after uri theirs others agrees u text kept =
     let was = others u text kept in
     let there = theirs u text was.0 in (there.0, agrees u was.1 ∙ there.1)

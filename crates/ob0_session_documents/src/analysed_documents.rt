@@ -2,14 +2,14 @@
 //!
 //! Contracts see only the documents, so `ServerState` and all promises are the same as without
 //! analyses. The invariant says that each kept analysis is of the current text of its document
-//! (`AreOfTheirTexts` of `specs/KeptAnalyses`). Before a document changes, its analysis is removed
+//! (`AnalysesMatchTexts` of `specs/KeptAnalyses`). Before a document changes, its analysis is removed
 //! (`still_theirs` of `proofs/OtherDocuments`). Afterwards the analysis of the new text is added.
 //! No texts are compared. One notification causes one analysis, however many changes it has.
 
 ghost use Rattle.std.specs.Prelude.{◌≡◌, ◌⊎◌, IfSome, IfOk, OnOk, OnErr, is_some, map, string_bytes};
 ghost use Rattle.std.specs.Str.{chars};
-ghost use Rattle.ob0_text.specs.OpenDocuments.{changed, closed, document_at, lost, opened, change_in_text};
-ghost use Rattle.ob0_session_documents.specs.DocumentRequests.{ComesOfRequest};
+ghost use Rattle.ob0_text.specs.OpenDocuments.{documents_after_change, documents_after_close, document_at, documents_after_loss, documents_after_open, text_change_of};
+ghost use Rattle.ob0_session_documents.specs.DocumentRequests.{IsOutcomeOfRequest};
 
 use crate::analyses::Analyses;
 use crate::document_requests::{DocumentRequest, RequestOutcome};
@@ -30,7 +30,7 @@ pub struct AnalysedDocuments<T: TextStore> {
 
 impl<T: TextStore> Model for AnalysedDocuments<T> {
     ghost use Rattle.ob0_text.specs.OpenDocuments.{OpenDocuments, documents_code};
-    ghost use Rattle.ob0_session_documents.specs.KeptAnalyses.{AreOfTheirTexts};
+    ghost use Rattle.ob0_session_documents.specs.KeptAnalyses.{AnalysesMatchTexts};
 
     ghost Value = { OpenDocuments };
 
@@ -38,7 +38,7 @@ impl<T: TextStore> Model for AnalysedDocuments<T> {
 
     ghost view = { λ d. d.documents };
 
-    ghost invariant = { λ d. AreOfTheirTexts d.documents d.analyses };
+    ghost invariant = { λ d. AnalysesMatchTexts d.documents d.analyses };
 }
 
 impl<T: TextStore> AnalysedDocuments<T> {
@@ -65,9 +65,9 @@ impl<T: TextStore> AnalysedDocuments<T> {
     /// either nothing has changed or the document has been opened with this text.
     pub fn did_open(&mut self, uri: &str, version: i64, text: String) -> Result<(), AllocError>
         ensures ok { OnOk result
-            (self.new ≡ opened self.old uri.now version (chars (string_bytes text))) }
+            (self.new ≡ documents_after_open self.old uri.now version (chars (string_bytes text))) }
         ensures err { OnErr result ((self.new ≡ self.old)
-            ⊎ (self.new ≡ opened self.old uri.now version (chars (string_bytes text)))) }
+            ⊎ (self.new ≡ documents_after_open self.old uri.now version (chars (string_bytes text)))) }
     {
         let before = self.analyses.take(uri);
         self.documents.did_open(uri, version, text.as_str())?;
@@ -85,9 +85,9 @@ impl<T: TextStore> AnalysedDocuments<T> {
         changes: Vec<Change>,
     ) -> Result<(), AllocError>
         ensures ok { OnOk result
-            (self.new ≡ changed self.old uri.now version (map change_in_text changes.items)) }
-        ensures err { OnErr result ((self.new ≡ lost self.old uri.now)
-            ⊎ (self.new ≡ changed self.old uri.now version (map change_in_text changes.items))) }
+            (self.new ≡ documents_after_change self.old uri.now version (map text_change_of changes.items)) }
+        ensures err { OnErr result ((self.new ≡ documents_after_loss self.old uri.now)
+            ⊎ (self.new ≡ documents_after_change self.old uri.now version (map text_change_of changes.items))) }
     {
         let before = self.analyses.take(uri);
         self.documents.did_change(uri, version, changes.as_slice())?;
@@ -97,7 +97,7 @@ impl<T: TextStore> AnalysedDocuments<T> {
 
     /// Marks a document, if it is open, as out of step: the client's text is no longer known.
     pub fn lose(&mut self, uri: &str)
-        ensures { self.new ≡ lost self.old uri.now }
+        ensures { self.new ≡ documents_after_loss self.old uri.now }
     {
         drop(self.analyses.take(uri));
         self.documents.lose(uri);
@@ -105,7 +105,7 @@ impl<T: TextStore> AnalysedDocuments<T> {
 
     /// Closes a document, and returns whether it was open.
     pub fn did_close(&mut self, uri: &str) -> bool
-        ensures after { self.new ≡ closed self.old uri.now }
+        ensures after { self.new ≡ documents_after_close self.old uri.now }
         ensures was_open { result ≡ is_some (document_at self.old uri.now) }
     {
         drop(self.analyses.take(uri));
@@ -121,7 +121,7 @@ impl<T: TextStore> AnalysedDocuments<T> {
         request: &Q,
     ) -> Result<RequestOutcome, AllocError>
         ensures same { self.new ≡ self.old }
-        ensures outcome { IfOk result (ComesOfRequest (Q.answers request.now) self.old uri.now) }
+        ensures outcome { IfOk result (IsOutcomeOfRequest (Q.answers request.now) self.old uri.now) }
     {
         match self.documents.get(uri) {
             Some(Held::InStep { version, text }) => {

@@ -5,7 +5,7 @@ use Rattle.serde_json.specs.View.{items_of}
 use Rattle.ob0_rpc.specs.Writing.{CanBeSent}
 use Rattle.ob0_rpc.specs.Shapes.{whole_number}
 use Rattle.ob0_text.specs.declared.edits.Edit.{Edit}
-use Rattle.ob0_rpc.specs.declared.clients.Client.{Client}
+use Rattle.ob0_rpc.specs.declared.clients.ClientFeatures.{ClientFeatures}
 use Rattle.ob0_session_json.specs.Shapes.{Diagnostic, action_value, diagnostic_value, edit_value, edits_value, publication_params, workspace_edit}
 
 flat_whole : (z : ℤ) → depth (whole_number z) ≡ 0
@@ -27,12 +27,12 @@ shallow_edits (e ∷ es) = omega (arith, shallow_edits es)
 pub edits_can_be_sent : (es : List Edit) → CanBeSent (edits_value es)
 edits_can_be_sent es = record { shallow = omega (arith, shallow_edits es) }
 
-edits_of_can : (document_changes : Bool) (client : Client) (uri : List ℕ) (version : ℤ) (es : List Edit) → client.takes_document_changes ≡ document_changes → CanBeSent (workspace_edit client uri version es)
+edits_of_can : (document_changes : Bool) (client : ClientFeatures) (uri : List ℕ) (version : ℤ) (es : List Edit) → client.accepts_document_changes ≡ document_changes → CanBeSent (workspace_edit client uri version es)
 edits_of_can true client uri version es is = rw is (record { shallow = rw (flat_whole version) (omega (arith, shallow_edits es)) })
 edits_of_can false client uri version es is = rw is (record { shallow = omega (arith, shallow_edits es) })
 
-pub workspace_edit_can_be_sent : (client : Client) (uri : List ℕ) (version : ℤ) (es : List Edit) → CanBeSent (workspace_edit client uri version es)
-workspace_edit_can_be_sent client uri version es = edits_of_can client.takes_document_changes client uri version es refl
+pub workspace_edit_can_be_sent : (client : ClientFeatures) (uri : List ℕ) (version : ℤ) (es : List Edit) → CanBeSent (workspace_edit client uri version es)
+workspace_edit_can_be_sent client uri version es = edits_of_can client.accepts_document_changes client uri version es refl
 
 -- ---- actions
 
@@ -42,9 +42,9 @@ one_can d f = record { shallow = omega (arith, f) }
 pub two_can : (d e : Data) → depth d ≤ 8 → depth e ≤ 8 → CanBeSent (array (items_of (d ∷ e ∷ [])))
 two_can d e f g = record { shallow = omega (arith, f, g) }
 
-shallow_edit : (document_changes : Bool) (client : Client) (uri : List ℕ) (version : ℤ) (es : List Edit) → client.takes_document_changes ≡ document_changes → depth (workspace_edit client uri version es) ≤ 7
+shallow_edit : (document_changes : Bool) (client : ClientFeatures) (uri : List ℕ) (version : ℤ) (es : List Edit) → client.accepts_document_changes ≡ document_changes → depth (workspace_edit client uri version es) ≤ 7
 shallow_edit true client uri version es is = rw (is, flat_whole version) (omega (arith, shallow_edits es))
 shallow_edit false client uri version es is = rw is (omega (arith, shallow_edits es))
 
-pub shallow_action : (client : Client) (uri : List ℕ) (version : ℤ) (es : List Edit) (said : List ℕ) → depth (action_value (workspace_edit client uri version es) said) ≤ 8
-shallow_action client uri version es said = omega (arith, shallow_edit client.takes_document_changes client uri version es refl)
+pub shallow_action : (client : ClientFeatures) (uri : List ℕ) (version : ℤ) (es : List Edit) (said : List ℕ) → depth (action_value (workspace_edit client uri version es) said) ≤ 8
+shallow_action client uri version es said = omega (arith, shallow_edit client.accepts_document_changes client uri version es refl)

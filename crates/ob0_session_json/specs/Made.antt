@@ -8,16 +8,16 @@ use Rattle.ob0_session_json.specs.declared.edits.WorkspaceEdit.{WorkspaceEdit}
 use Rattle.ob0_session_json.specs.declared.publication.Diagnostic.{Diagnostic}
 
 -- Returns the JSON value of the edits of one document.
-abbrev pub workspace_edit_of : WorkspaceEdit → Data
-workspace_edit_of e = shapes.workspace_edit e.client e.uri.now e.version e.edits.now
+abbrev pub workspace_edit_view : WorkspaceEdit → Data
+workspace_edit_view e = shapes.workspace_edit e.client e.uri.now e.version e.edits.now
 
 -- Returns the JSON value of a code action.
-abbrev pub action_in : CodeAction → Data
-action_in a = shapes.action_value (workspace_edit_of a.edit) a.title.now
+abbrev pub code_action_view : CodeAction → Data
+code_action_view a = shapes.action_value (workspace_edit_view a.edit) a.title.now
 
 -- Returns the code's diagnostic as a diagnostic of the definitions.
-abbrev pub diagnostic_in : Diagnostic → shapes.Diagnostic
-diagnostic_in d = record {
+abbrev pub diagnostic_view : Diagnostic → shapes.Diagnostic
+diagnostic_view d = record {
   code = d.code.now;
   said = string_bytes d.message;
   start = d.range.start;
@@ -25,5 +25,5 @@ diagnostic_in d = record {
 }
 
 -- Holds if the code's diagnostics (`list`) are these diagnostics of the definitions, in order.
-abbrev pub DiagnosticsAre : List shapes.Diagnostic → List Diagnostic → Type 0
-DiagnosticsAre ds list = ds ≡ map diagnostic_in list
+abbrev pub AreSameDiagnostics : List shapes.Diagnostic → List Diagnostic → Type 0
+AreSameDiagnostics ds list = ds ≡ map diagnostic_view list

@@ -10,7 +10,7 @@ use Rattle.ob0_text.specs.declared.edits.Edit.{Edit}
 use Rattle.ob0_rpc.specs.Faults.{minus}
 pub use Rattle.ob0_rpc.specs.Shapes.{edit_value}
 use Rattle.ob0_rpc.specs.Shapes.{text, whole_number, range_value, error_message, notification_message}
-use Rattle.ob0_rpc.specs.declared.clients.Client.{Client}
+use Rattle.ob0_rpc.specs.declared.clients.ClientFeatures.{ClientFeatures}
 
 -- The value of `textDocumentSync`, {"change":2,"openClose":true}. 2 stands for changes of ranges.
 abbrev pub synchronisation : Data
@@ -34,7 +34,7 @@ action_provider =
 
 -- Returns the last members of the capabilities:
 -- "referencesProvider":true,"renameProvider":R,"textDocumentSync":{..}.
-abbrev pub last_members : Client → Members
+abbrev pub last_members : ClientFeatures → Members
 last_members client =
     member (codes "referencesProvider") (boolean true) (member (codes "renameProvider")
     (rename_provider client.prepares_renames)
@@ -43,26 +43,26 @@ last_members client =
 -- Returns the members of the capabilities after "definitionProvider":
 -- "documentFormattingProvider":true,"hoverProvider":true, then "positionEncoding":"utf-8" if the
 -- client offers that, then the last members.
-abbrev pub further_members : Client → Members
-further_members client =
+abbrev pub remaining_members : ClientFeatures → Members
+remaining_members client =
     member (codes "documentFormattingProvider") (boolean true)
     (member (codes "hoverProvider") (boolean true)
-    (if client.counts_utf8
+    (if client.offers_utf8
     then member (codes "positionEncoding") (text (codes "utf-8")) (last_members client)
     else last_members client))
 
 -- Returns the server's capabilities: "codeActionProvider":{..} if the client accepts actions that
 -- aren't commands, then "definitionProvider":true and the further members.
-abbrev pub server_capabilities : Client → Data
+abbrev pub server_capabilities : ClientFeatures → Data
 server_capabilities client =
-    let members = member (codes "definitionProvider") (boolean true) (further_members client) in
+    let members = member (codes "definitionProvider") (boolean true) (remaining_members client) in
     object
-    (if client.takes_literal_actions
+    (if client.accepts_literal_actions
     then member (codes "codeActionProvider") action_provider members
     else members)
 
 -- Returns the result of `initialize`, {"capabilities":{..}}.
-abbrev pub capabilities : Client → Data
+abbrev pub capabilities : ClientFeatures → Data
 capabilities client =
     object (member (codes "capabilities") (server_capabilities client) no_members)
 
@@ -114,9 +114,9 @@ document_edit uri version es =
 
 -- Returns the edits as {"documentChanges":[..]} for a client that accepts this, otherwise as
 -- {"changes":{u:[E,..]}}.
-abbrev pub workspace_edit : Client → List ℕ → ℤ → List Edit → Data
+abbrev pub workspace_edit : ClientFeatures → List ℕ → ℤ → List Edit → Data
 workspace_edit client uri version es =
-    if client.takes_document_changes
+    if client.accepts_document_changes
     then object (member (codes "documentChanges")
     (array (item (document_edit uri version es) no_items)) no_members)
     else object
@@ -130,8 +130,8 @@ action_value edit title =
     (member (codes "title") (text title) no_members)))
 
 -- Returns the message that refuses a request for edits. `said` is the text of its error.
-abbrev pub edit_refused : Data → List ℕ → Data
-edit_refused id said = error_message id (minus 32803) said
+abbrev pub edit_refusal : Data → List ℕ → Data
+edit_refusal id said = error_message id (minus 32803) said
 
 -- Returns the JSON value of a diagnostic, {"code":name,"message":m,"range":R,"severity":1}.
 abbrev pub diagnostic_value : Diagnostic → Data

@@ -4,13 +4,19 @@ ghost use Rattle.ob0_rpc.specs.Appending.{AppendsMembers};
 ghost use Rattle.ob0_rpc.specs.Seen.{id_data};
 ghost use Rattle.ob0_rpc.specs.Shapes.{result_message};
 ghost use Rattle.ob0_rpc.specs.Writing.{Writes};
-ghost use Rattle.ob0_session_json.specs.Shapes.{action_provider, capabilities, further_members, last_members, rename_provider, server_capabilities, synchronisation};
+ghost use Rattle.ob0_session_json.specs.Shapes.{action_provider, capabilities, remaining_members, last_members, rename_provider, server_capabilities, synchronisation};
 
-use ob0_rpc::{Client, Id, WriteJson, end_object, first_member, next_member, result_of};
+use ob0_rpc::{
+    ClientFeatures, Id, WriteJson, end_object, result_of, write_first_member, write_next_member,
+};
 use std::alloc::{AllocError, Global};
 
 /// Returns the text of the answer to `initialize` for a client with these capabilities.
-pub fn initialize_answer(alloc: Global, id: &Id, client: Client) -> Result<Vec<u8>, AllocError>
+pub fn initialize_answer(
+    alloc: Global,
+    id: &Id,
+    client: ClientFeatures,
+) -> Result<Vec<u8>, AllocError>
     ensures { IfOk result
         (λ bytes. Writes (result_message (id_data id.now) (capabilities client)) bytes.items) }
 {
@@ -28,7 +34,7 @@ impl WriteJson for InitializeResult {
     ghost value = { λ r. capabilities r.capabilities.client };
 
     fn write(&self, out: &mut Vec<u8>) -> Result<(), AllocError> {
-        first_member(out, "capabilities", &self.capabilities)?;
+        write_first_member(out, "capabilities", &self.capabilities)?;
         end_object(out)
     }
 }
@@ -36,49 +42,49 @@ impl WriteJson for InitializeResult {
 /// The server's capabilities, which depend on the client's capabilities.
 #[derive(Drop)]
 pub struct ServerCapabilities {
-    pub client: Client,
+    pub client: ClientFeatures,
 }
 
 impl WriteJson for ServerCapabilities {
     ghost value = { λ c. server_capabilities c.client };
 
     fn write(&self, out: &mut Vec<u8>) -> Result<(), AllocError> {
-        if self.client.takes_literal_actions {
-            first_member(out, "codeActionProvider", &CodeActionOptions {})?;
-            next_member(out, "definitionProvider", &true)?;
-            self.write_further(out)
+        if self.client.accepts_literal_actions {
+            write_first_member(out, "codeActionProvider", &CodeActionOptions {})?;
+            write_next_member(out, "definitionProvider", &true)?;
+            self.write_remaining_members(out)
         } else {
-            first_member(out, "definitionProvider", &true)?;
-            self.write_further(out)
+            write_first_member(out, "definitionProvider", &true)?;
+            self.write_remaining_members(out)
         }
     }
 }
 
 impl ServerCapabilities {
     /// Writes the members of the capabilities after `definitionProvider`, and the closing bracket.
-    fn write_further(&self, out: &mut Vec<u8>) -> Result<(), AllocError>
+    fn write_remaining_members(&self, out: &mut Vec<u8>) -> Result<(), AllocError>
         ensures { OnOk result
-            (AppendsMembers 44 (further_members self.now.client) out.old.items out.new.items) }
+            (AppendsMembers 44 (remaining_members self.now.client) out.old.items out.new.items) }
     {
-        next_member(out, "documentFormattingProvider", &true)?;
-        next_member(out, "hoverProvider", &true)?;
-        if self.client.counts_utf8 {
-            next_member(out, "positionEncoding", &"utf-8")?;
-            self.write_last(out)
+        write_next_member(out, "documentFormattingProvider", &true)?;
+        write_next_member(out, "hoverProvider", &true)?;
+        if self.client.offers_utf8 {
+            write_next_member(out, "positionEncoding", &"utf-8")?;
+            self.write_last_members(out)
         } else {
-            self.write_last(out)
+            self.write_last_members(out)
         }
     }
 
     /// Writes the last members of the capabilities, and the closing bracket.
-    fn write_last(&self, out: &mut Vec<u8>) -> Result<(), AllocError>
+    fn write_last_members(&self, out: &mut Vec<u8>) -> Result<(), AllocError>
         ensures { OnOk result
             (AppendsMembers 44 (last_members self.now.client) out.old.items out.new.items) }
     {
         let prepares = self.client.prepares_renames;
-        next_member(out, "referencesProvider", &true)?;
-        next_member(out, "renameProvider", &RenameProvider { prepares })?;
-        next_member(out, "textDocumentSync", &TextDocumentSyncOptions {})?;
+        write_next_member(out, "referencesProvider", &true)?;
+        write_next_member(out, "renameProvider", &RenameProvider { prepares })?;
+        write_next_member(out, "textDocumentSync", &TextDocumentSyncOptions {})?;
         end_object(out)
     }
 }
@@ -92,7 +98,7 @@ impl WriteJson for CodeActionOptions {
 
     fn write(&self, out: &mut Vec<u8>) -> Result<(), AllocError> {
         let kinds = ["refactor.inline"];
-        first_member(out, "codeActionKinds", &kinds.as_slice())?;
+        write_first_member(out, "codeActionKinds", &kinds.as_slice())?;
         end_object(out)
     }
 }
@@ -108,7 +114,7 @@ impl WriteJson for RenameProvider {
 
     fn write(&self, out: &mut Vec<u8>) -> Result<(), AllocError> {
         if self.prepares {
-            first_member(out, "prepareProvider", &true)?;
+            write_first_member(out, "prepareProvider", &true)?;
             end_object(out)
         } else {
             true.write(out)
@@ -124,8 +130,8 @@ impl WriteJson for TextDocumentSyncOptions {
     ghost value = { λ _. synchronisation };
 
     fn write(&self, out: &mut Vec<u8>) -> Result<(), AllocError> {
-        first_member(out, "change", &2u64)?;
-        next_member(out, "openClose", &true)?;
+        write_first_member(out, "change", &2u64)?;
+        write_next_member(out, "openClose", &true)?;
         end_object(out)
     }
 }

@@ -1,8 +1,10 @@
 //! Writes edits of documents, and the code actions that apply them.
-ghost use Rattle.ob0_session_json.specs.Made.{action_in, workspace_edit_of};
+ghost use Rattle.ob0_session_json.specs.Made.{code_action_view, workspace_edit_view};
 ghost use Rattle.ob0_session_json.specs.Shapes.{document_edit, versioned_document};
 
-use ob0_rpc::{Client, OneMember, WriteJson, end_object, first_member, next_member};
+use ob0_rpc::{
+    ClientFeatures, OneMemberObject, WriteJson, end_object, write_first_member, write_next_member,
+};
 use ob0_text::Edit;
 use std::alloc::AllocError;
 
@@ -10,17 +12,17 @@ use std::alloc::AllocError;
 /// only with its uri.
 #[derive(Drop)]
 pub struct WorkspaceEdit<'a> {
-    pub client: Client,
+    pub client: ClientFeatures,
     pub uri: &'a str,
     pub version: i64,
     pub edits: &'a [Edit],
 }
 
 impl<'a> WriteJson for WorkspaceEdit<'a> {
-    ghost value = { workspace_edit_of };
+    ghost value = { workspace_edit_view };
 
     fn write(&self, out: &mut Vec<u8>) -> Result<(), AllocError> {
-        if self.client.takes_document_changes {
+        if self.client.accepts_document_changes {
             let text_document = VersionedDocument {
                 uri: self.uri,
                 version: self.version,
@@ -29,12 +31,12 @@ impl<'a> WriteJson for WorkspaceEdit<'a> {
                 edits: self.edits,
                 text_document,
             }];
-            first_member(out, "documentChanges", &changes.as_slice())?;
+            write_first_member(out, "documentChanges", &changes.as_slice())?;
             end_object(out)
         } else {
             let key = self.uri;
             let value = self.edits;
-            first_member(out, "changes", &OneMember { key, value })?;
+            write_first_member(out, "changes", &OneMemberObject { key, value })?;
             end_object(out)
         }
     }
@@ -52,8 +54,8 @@ impl<'a> WriteJson for TextDocumentEdit<'a> {
         document_edit e.text_document.uri.now e.text_document.version e.edits.now };
 
     fn write(&self, out: &mut Vec<u8>) -> Result<(), AllocError> {
-        first_member(out, "edits", &self.edits)?;
-        next_member(out, "textDocument", &self.text_document)?;
+        write_first_member(out, "edits", &self.edits)?;
+        write_next_member(out, "textDocument", &self.text_document)?;
         end_object(out)
     }
 }
@@ -69,8 +71,8 @@ impl<'a> WriteJson for VersionedDocument<'a> {
     ghost value = { λ d. versioned_document d.uri.now d.version };
 
     fn write(&self, out: &mut Vec<u8>) -> Result<(), AllocError> {
-        first_member(out, "uri", &self.uri)?;
-        next_member(out, "version", &self.version)?;
+        write_first_member(out, "uri", &self.uri)?;
+        write_next_member(out, "version", &self.version)?;
         end_object(out)
     }
 }
@@ -83,12 +85,12 @@ pub struct CodeAction<'a> {
 }
 
 impl<'a> WriteJson for CodeAction<'a> {
-    ghost value = { action_in };
+    ghost value = { code_action_view };
 
     fn write(&self, out: &mut Vec<u8>) -> Result<(), AllocError> {
-        first_member(out, "edit", &self.edit)?;
-        next_member(out, "kind", &"refactor.inline")?;
-        next_member(out, "title", &self.title)?;
+        write_first_member(out, "edit", &self.edit)?;
+        write_next_member(out, "kind", &"refactor.inline")?;
+        write_next_member(out, "title", &self.title)?;
         end_object(out)
     }
 }

@@ -3,14 +3,14 @@ ghost use Rattle.std.specs.Prelude.{◌≡◌, ◌++◌, ◌<◌, ◌≤◌, fal
 ghost use Rattle.serde_json.specs.Data.{array};
 ghost use Rattle.serde_json.specs.View.{items_of};
 ghost use Rattle.serde_json.specs.Written.{compact_text};
-ghost use Rattle.ob0_rpc.specs.Appending.{AppendsEach, IsReadBack};
+ghost use Rattle.ob0_rpc.specs.Appending.{AppendsEach, ReadsBack};
 ghost use Rattle.ob0_rpc.specs.Shapes.{range_value};
 ghost use Rattle.ob0_session_json.specs.Places.{EndsInUri};
 ghost use Rattle.ob0_session_json.specs.Shapes.{hover_value, location_in, plain_text};
 
 use ob0_rpc::{
-    WriteJson, begin_list, end_list, end_object, first_member, next_member, piece_before,
-    range_before,
+    WriteJson, begin_list, end_list, end_object, write_first_member, write_next_member,
+    write_piece_before, write_range_before,
 };
 use ob0_text::Range;
 use std::alloc::{AllocError, Global};
@@ -34,8 +34,8 @@ impl<'a> WriteJson for Location<'a> {
     ghost value = { λ l. location_in l.uri.now l.range };
 
     fn write(&self, out: &mut Vec<u8>) -> Result<(), AllocError> {
-        first_member(out, "range", &self.range)?;
-        next_member(out, "uri", &self.uri)?;
+        write_first_member(out, "range", &self.range)?;
+        write_next_member(out, "uri", &self.uri)?;
         end_object(out)
     }
 }
@@ -63,13 +63,13 @@ fn write_locations(out: &mut Vec<u8>, uri: &str, ranges: &[Range]) -> Result<(),
         (AppendsEach false (map (location_in uri.now) ranges.now) out.old.items out.new.items) }
 {
     let alloc = *out.allocator();
-    let mut text = buffer_for_uri(alloc, uri)?;
+    let mut text = location_buffer(alloc, uri)?;
     let each = text.len() - PREFIX_CAPACITY + TYPICAL_PREFIX;
     out.reserve(ranges.len().saturating_mul(each))?;
     let buffer = text.as_mut_slice();
     let mut later = false;
     for range in ranges {
-        let at = location_before(buffer, *range);
+        let at = write_location_before(buffer, *range);
         let from = if later { at } else { at + 1 };
         out.extend_from_slice(&buffer[from..])?;
         later = true;
@@ -79,27 +79,27 @@ fn write_locations(out: &mut Vec<u8>, uri: &str, ranges: &[Range]) -> Result<(),
 
 /// Returns a buffer for the texts of locations, which are built in it one after another. It has 192
 /// bytes of free space, then the text after the range: a comma, the uri and the closing brace.
-fn buffer_for_uri(alloc: Global, uri: &str) -> Result<Vec<u8>, AllocError>
+fn location_buffer(alloc: Global, uri: &str) -> Result<Vec<u8>, AllocError>
     ensures { IfOk result (λ buffer. EndsInUri uri.now buffer.items) }
 {
     let mut buffer = vec![in alloc; 0u8; PREFIX_CAPACITY]?;
-    next_member(&mut buffer, "uri", &uri)?;
+    write_next_member(&mut buffer, "uri", &uri)?;
     end_object(&mut buffer)?;
     Ok(buffer)
 }
 
 /// Writes a comma and a location's text up to its range into the free space, so that they end right
 /// before the text that follows the range. Returns the index of the comma in the buffer.
-fn location_before(buffer: &mut [u8], range: Range) -> usize
+fn write_location_before(buffer: &mut [u8], range: Range) -> usize
     requires { 192 ≤ length buffer.old }
     ensures within { result < 192 }
     ensures text { drop result buffer.new ≡ codes ",{\"range\":"
         ++ (compact_text (range_value range.start range.end) ++ drop 192 buffer.old) }
     ensures kept { drop 192 buffer.new ≡ drop 192 buffer.old }
-    ensures reads { IsReadBack (range_value range.start range.end) }
+    ensures reads { ReadsBack (range_value range.start range.end) }
 {
-    let at = range_before(buffer, PREFIX_CAPACITY, range.start, range.end);
-    piece_before(buffer, at, b",{\"range\":")
+    let at = write_range_before(buffer, PREFIX_CAPACITY, range.start, range.end);
+    write_piece_before(buffer, at, b",{\"range\":")
 }
 
 /// The result of a hover request: plain text, and the range of the name or field that it describes.
@@ -113,8 +113,8 @@ impl<'a> WriteJson for HoverResult<'a> {
     ghost value = { λ h. hover_value h.contents.value.now (range_value h.range.start h.range.end) };
 
     fn write(&self, out: &mut Vec<u8>) -> Result<(), AllocError> {
-        first_member(out, "contents", &self.contents)?;
-        next_member(out, "range", &self.range)?;
+        write_first_member(out, "contents", &self.contents)?;
+        write_next_member(out, "range", &self.range)?;
         end_object(out)
     }
 }
@@ -129,8 +129,8 @@ impl<'a> WriteJson for MarkupContent<'a> {
     ghost value = { λ m. plain_text m.value.now };
 
     fn write(&self, out: &mut Vec<u8>) -> Result<(), AllocError> {
-        first_member(out, "kind", &"plaintext")?;
-        next_member(out, "value", &self.value)?;
+        write_first_member(out, "kind", &"plaintext")?;
+        write_next_member(out, "value", &self.value)?;
         end_object(out)
     }
 }

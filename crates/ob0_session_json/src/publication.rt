@@ -2,9 +2,9 @@
 ghost use Rattle.std.specs.Prelude.{IfOk, List, map};
 ghost use Rattle.ob0_rpc.specs.Writing.{Writes};
 ghost use Rattle.ob0_session_json.specs.Shapes.{Diagnostic as Reported, diagnostic_value, publication as published_as, publication_params};
-ghost use Rattle.ob0_session_json.specs.Made.{DiagnosticsAre, diagnostic_in};
+ghost use Rattle.ob0_session_json.specs.Made.{AreSameDiagnostics, diagnostic_view};
 
-use ob0_rpc::{WriteJson, end_object, first_member, next_member, notify};
+use ob0_rpc::{WriteJson, end_object, notification_of, write_first_member, write_next_member};
 use ob0_text::Range;
 use std::alloc::{AllocError, Global};
 
@@ -17,40 +17,40 @@ pub struct Diagnostic {
 }
 
 impl WriteJson for Diagnostic {
-    ghost value = { λ d. diagnostic_value (diagnostic_in d) };
+    ghost value = { λ d. diagnostic_value (diagnostic_view d) };
 
     fn write(&self, out: &mut Vec<u8>) -> Result<(), AllocError> {
-        first_member(out, "code", &self.code)?;
-        next_member(out, "message", &self.message.as_str())?;
-        next_member(out, "range", &self.range)?;
-        next_member(out, "severity", &1u64)?;
+        write_first_member(out, "code", &self.code)?;
+        write_next_member(out, "message", &self.message.as_str())?;
+        write_next_member(out, "range", &self.range)?;
+        write_next_member(out, "severity", &1u64)?;
         end_object(out)
     }
 }
 
 /// The params of a publication: the diagnostics of a document, its uri, and its version or None.
 #[derive(Drop)]
-pub struct PublishDiagnostics<'a> {
+pub struct PublishDiagnosticsParams<'a> {
     pub diagnostics: &'a [Diagnostic],
     pub uri: &'a str,
     pub version: Option<i64>,
 }
 
-impl<'a> WriteJson for PublishDiagnostics<'a> {
+impl<'a> WriteJson for PublishDiagnosticsParams<'a> {
     ghost value = { λ p.
-        publication_params p.uri.now p.version (map diagnostic_in p.diagnostics.now) };
+        publication_params p.uri.now p.version (map diagnostic_view p.diagnostics.now) };
 
     fn write(&self, out: &mut Vec<u8>) -> Result<(), AllocError> {
         match self.version {
             Some(version) => {
-                first_member(out, "diagnostics", &self.diagnostics)?;
-                next_member(out, "uri", &self.uri)?;
-                next_member(out, "version", &version)?;
+                write_first_member(out, "diagnostics", &self.diagnostics)?;
+                write_next_member(out, "uri", &self.uri)?;
+                write_next_member(out, "version", &version)?;
                 end_object(out)
             }
             None => {
-                first_member(out, "diagnostics", &self.diagnostics)?;
-                next_member(out, "uri", &self.uri)?;
+                write_first_member(out, "diagnostics", &self.diagnostics)?;
+                write_next_member(out, "uri", &self.uri)?;
                 end_object(out)
             }
         }
@@ -65,13 +65,13 @@ pub fn publication(
     version: Option<i64>,
     list: Vec<Diagnostic>,
 ) -> Result<Vec<u8>, AllocError>
-    ensures { IfOk result (λ bytes. (ds : List Reported) → DiagnosticsAre ds list.items
+    ensures { IfOk result (λ bytes. (ds : List Reported) → AreSameDiagnostics ds list.items
         → Writes (published_as uri.now version ds) bytes.items) }
 {
-    let params = PublishDiagnostics {
+    let params = PublishDiagnosticsParams {
         diagnostics: list.as_slice(),
         uri,
         version,
     };
-    notify(alloc, "textDocument/publishDiagnostics", &params)
+    notification_of(alloc, "textDocument/publishDiagnostics", &params)
 }

@@ -2,7 +2,7 @@
 ghost use Rattle.std.specs.Prelude.{IfOk, codes};
 ghost use Rattle.ob0_rpc.specs.Seen.{id_data};
 ghost use Rattle.ob0_rpc.specs.Writing.{Writes};
-ghost use Rattle.ob0_session_json.specs.Shapes.{edit_refused};
+ghost use Rattle.ob0_session_json.specs.Shapes.{edit_refusal};
 ghost use Rattle.ob0_text.specs.RefusalTexts.{refusal_text};
 
 use ob0_rpc::{Id, error};
@@ -10,25 +10,29 @@ use ob0_text::EditRefusal;
 use std::alloc::{AllocError, Global};
 
 /// Returns the message that refuses a request for edits. `said` is the text of its error.
-pub fn refuse(alloc: Global, id: &Id, said: &str) -> Result<Vec<u8>, AllocError>
-    ensures { IfOk result (λ bytes. Writes (edit_refused (id_data id.now) said.now) bytes.items) }
+pub fn refusal_message(alloc: Global, id: &Id, said: &str) -> Result<Vec<u8>, AllocError>
+    ensures { IfOk result (λ bytes. Writes (edit_refusal (id_data id.now) said.now) bytes.items) }
 {
     error(alloc, Some(id), -32803, said)
 }
 
 /// Returns the message that refuses a request for edits, with the text of this refusal.
-pub fn refuse_because(alloc: Global, id: &Id, refusal: EditRefusal) -> Result<Vec<u8>, AllocError>
+pub fn refusal_with_reason(
+    alloc: Global,
+    id: &Id,
+    refusal: EditRefusal,
+) -> Result<Vec<u8>, AllocError>
     ensures { IfOk result
-        (λ bytes. Writes (edit_refused (id_data id.now) (refusal_text refusal)) bytes.items) }
+        (λ bytes. Writes (edit_refusal (id_data id.now) (refusal_text refusal)) bytes.items) }
 {
     let text = refusal.text(alloc)?;
-    refuse(alloc, id, text.as_str())
+    refusal_message(alloc, id, text.as_str())
 }
 
 /// Returns the message that refuses a request for edits in a text that isn't a well-typed module.
-pub fn refuse_ill_typed(alloc: Global, id: &Id) -> Result<Vec<u8>, AllocError>
+pub fn ill_typed_refusal(alloc: Global, id: &Id) -> Result<Vec<u8>, AllocError>
     ensures { IfOk result
-        (λ bytes. Writes (edit_refused (id_data id.now) (codes "ill-typed")) bytes.items) }
+        (λ bytes. Writes (edit_refusal (id_data id.now) (codes "ill-typed")) bytes.items) }
 {
-    refuse(alloc, id, "ill-typed")
+    refusal_message(alloc, id, "ill-typed")
 }

@@ -2,21 +2,21 @@
 use Rattle.std.proofs.Common.{◌≡◌, ◌≢◌, ◌∙◌, ℕ, ℤ, List, [], ◌∷◌, Option, Some, None, Result, Err, Vec, Global, option_map, map, sym, subst, ap, refl}
 use Rattle.std.specs.Option.{option_to_list}
 use Rattle.serde_json.specs.Data.{Data, null}
-use Rattle.ob0_session_server.specs.Answers.{ServerState, Reply, nothing, diagnoses, SaysReply, answers_about, answer_request, refuses_fault, react, published, publish_documents, Answers, AnswersGoingOn, AnswersInState}
+use Rattle.ob0_session_server.specs.Answers.{ServerState, Reply, nothing, diagnoses, AreContentsOfReply, react_about_document, react_to_known_request, react_with_fault, react, publication_reply, react_with_publication, Answers, AnswersBeforeEnd, AnswersInPhase}
 use Rattle.ob0_text.specs.OpenDocuments.{Document, OpenDocuments, document_at}
 use Rattle.ob0_text.specs.declared.position_types.Unit.{Unit}
-use Rattle.ob0_rpc.specs.declared.clients.Client.{Client}
+use Rattle.ob0_rpc.specs.declared.clients.ClientFeatures.{ClientFeatures}
 use Rattle.ob0_rpc.specs.declared.incoming.RpcFault.{RpcFault}
 use Rattle.ob0_rpc.specs.declared.incoming.RpcFault.TheVariants.{NotJson, NotAMessage, UnknownMethod, BadParams, Memory}
 use Rattle.ob0_rpc.specs.Messages.{ReadsContent, MessageMeaning, not_json, not_a_message, meaning}
 use Rattle.ob0_rpc.specs.Requesting.{ClientRequest}
-use Rattle.ob0_rpc.specs.Seen.{ReadsAs, Requests}
+use Rattle.ob0_rpc.specs.Seen.{ReadsMessage, ReadsClientRequest}
 use Rattle.ob0_session_answers.specs.Diagnostics.{Publishes}
-use Rattle.ob0_session_documents.specs.DocumentRequests.{ComesOfRequest}
+use Rattle.ob0_session_documents.specs.DocumentRequests.{IsOutcomeOfRequest}
 use Rattle.ob0_session_documents.specs.declared.document_requests.RequestOutcome.{RequestOutcome}
 use Rattle.ob0_session_documents.specs.declared.document_requests.RequestOutcome.TheVariants.{Answered, OutOfStep, Unopened}
-use Rattle.ob0_session_server.specs.Seen.{Reacts, RepliesAbout, RepliesWith, SendsReply, message_of}
-use Rattle.ob0_session_server.specs.Steps.{next_after, IsGoingOn, SessionSteps}
+use Rattle.ob0_session_server.specs.Seen.{Reacts, RepliesAboutDocument, RepliesForOutcome, SendsReply, message_of}
+use Rattle.ob0_session_server.specs.Steps.{next_after, HasNotEnded, SessionSteps}
 use Rattle.ob0_session_server.specs.declared.session.Phase.{Phase}
 use Rattle.ob0_session_server.specs.declared.session.Phase.TheVariants.{Starting, Running, ShutDown, Ended, Failed}
 use Rattle.ob0_session_server.specs.declared.session.Step.{Step}
@@ -24,15 +24,15 @@ use Rattle.ob0_session_server.specs.declared.session.Next.TheVariants.{End}
 
 pub answered : (before : ServerState) (content : List ℕ) (json : Option Data) (m : MessageMeaning) (sent : Option (Vec ℕ Global)) (after : ServerState)
     → ReadsContent content json → meaning json ≡ m → Reacts (react before m) sent after
-    → AnswersGoingOn before content (option_to_list (option_map (λ v. v.items) sent)) after
+    → AnswersBeforeEnd before content (option_to_list (option_map (λ v. v.items) sent)) after
 answered before content json m sent after reads means h =
     let P : MessageMeaning → Type 0 = λ x. Reacts (react before x) sent after in
     (json, reads, subst P (sym means) h)
 
 -- If a content can't be read, the server's refusal is the right answer.
 pub refused : (before : ServerState) (content : List ℕ) (fault : RpcFault) (sent : Option (Vec ℕ Global))
-    → ReadsAs content (Err fault) → fault ≢ Memory → Reacts (refuses_fault before null fault) sent before
-    → AnswersGoingOn before content (option_to_list (option_map (λ v. v.items) sent)) before
+    → ReadsMessage content (Err fault) → fault ≢ Memory → Reacts (react_with_fault before null fault) sent before
+    → AnswersBeforeEnd before content (option_to_list (option_map (λ v. v.items) sent)) before
 refused before content NotJson sent reads apart h = answered before content None not_json sent before reads refl h
 refused before content NotAMessage sent reads apart h = answered before content (Some reads.0) not_a_message sent before reads.1 reads.2 h
 refused before content Memory sent reads apart h = absurd (apart refl)
@@ -42,16 +42,16 @@ refused before content BadParams sent reads apart h = absurd reads.2
 -- If a request's params can't be read or its method isn't known, the server's refusal is the right
 -- reaction.
 pub request_refused : (s : ServerState) (id : Data) (requested : Result ClientRequest RpcFault) (fault : RpcFault) (sent : Option (Vec ℕ Global))
-    → Requests requested (Err fault) → fault ≢ Memory → Reacts (refuses_fault s id fault) sent s
-    → Reacts (answer_request s id requested) sent s
-request_refused s id requested UnknownMethod sent is apart h = subst (λ r. Reacts (answer_request s id r) sent s) (sym is) h
-request_refused s id requested BadParams sent is apart h = subst (λ r. Reacts (answer_request s id r) sent s) (sym is) h
+    → ReadsClientRequest requested (Err fault) → fault ≢ Memory → Reacts (react_with_fault s id fault) sent s
+    → Reacts (react_to_known_request s id requested) sent s
+request_refused s id requested UnknownMethod sent is apart h = subst (λ r. Reacts (react_to_known_request s id r) sent s) (sym is) h
+request_refused s id requested BadParams sent is apart h = subst (λ r. Reacts (react_to_known_request s id r) sent s) (sym is) h
 request_refused s id requested Memory sent is apart h = absurd (apart refl)
 request_refused s id requested NotJson sent is apart h = absurd is
 request_refused s id requested NotAMessage sent is apart h = absurd is
 
 pub going_on : (phase : Phase) (before : ServerState) (content : List ℕ) (sent : List (List ℕ)) (after : ServerState)
-    → IsGoingOn phase → phase ≢ Failed → AnswersGoingOn before content sent after → AnswersInState phase before content sent after
+    → HasNotEnded phase → phase ≢ Failed → AnswersBeforeEnd before content sent after → AnswersInPhase phase before content sent after
 going_on Starting before content sent after h works answers = answers
 going_on Running before content sent after h works answers = answers
 going_on ShutDown before content sent after h works answers = answers
@@ -59,7 +59,7 @@ going_on (Ended status) before content sent after h works answers = cc
 going_on Failed before content sent after h works answers = absurd (works refl)
 
 pub ended : (phase : Phase) (status : ℕ) (before : ServerState) (content : List ℕ)
-    → next_after phase ≡ End status → AnswersInState phase before content [] before
+    → next_after phase ≡ End status → AnswersInPhase phase before content [] before
 ended Starting status before content h = cc
 ended Running status before content h = cc
 ended ShutDown status before content h = cc
@@ -76,56 +76,56 @@ ended_step s content step status none next end =
 -- Replacing the documents and publishing the diagnostics of one is the defined reaction.
 pub publishes : (before after : ServerState) (uri reported : List ℕ) (held : OpenDocuments) (sent : Option (Vec ℕ Global))
     → reported ≡ uri → after ≡ record before { held = held }
-    → SaysReply (published after.held.unit reported (document_at after.held reported)) (option_to_list (option_map (λ v. v.items) sent))
-    → Reacts (publish_documents uri held before) sent after
+    → AreContentsOfReply (publication_reply after.held.unit reported (document_at after.held reported)) (option_to_list (option_map (λ v. v.items) sent))
+    → Reacts (react_with_publication uri held before) sent after
 publishes before after uri reported held sent same is said =
-    let P : List ℕ → Type 0 = λ u. SaysReply (published held.unit u (document_at held u)) (option_to_list (option_map (λ v. v.items) sent)) in
-    let Q : OpenDocuments → Type 0 = λ h. SaysReply (published h.unit reported (document_at h reported)) (option_to_list (option_map (λ v. v.items) sent)) in
+    let P : List ℕ → Type 0 = λ u. AreContentsOfReply (publication_reply held.unit u (document_at held u)) (option_to_list (option_map (λ v. v.items) sent)) in
+    let Q : OpenDocuments → Type 0 = λ h. AreContentsOfReply (publication_reply h.unit reported (document_at h reported)) (option_to_list (option_map (λ v. v.items) sent)) in
     (is, subst P same (subst Q (ap (λ (s : ServerState). s.held) is) said))
 
 -- The outcome of asking the documents gives the defined reply, if the other fields of the server
 -- are unchanged.
-pub replies_about : (phase : Phase) (client : Client) (old new : OpenDocuments) (s : ServerState) (id : Data) (uri : List ℕ) (answers : ℤ → Unit → List ℕ → List ℕ → Type 0)
-    → (outcome : RequestOutcome) (sent : Option (Vec ℕ Global)) → record { phase = phase; client = client; held = old } ≡ s → new ≡ old → ComesOfRequest answers old uri outcome
-    → RepliesWith id outcome sent → RepliesAbout answers s id uri sent (record { phase = phase; client = client; held = new })
+pub replies_about : (phase : Phase) (client : ClientFeatures) (old new : OpenDocuments) (s : ServerState) (id : Data) (uri : List ℕ) (answers : ℤ → Unit → List ℕ → List ℕ → Type 0)
+    → (outcome : RequestOutcome) (sent : Option (Vec ℕ Global)) → record { phase = phase; client = client; held = old } ≡ s → new ≡ old → IsOutcomeOfRequest answers old uri outcome
+    → RepliesForOutcome id outcome sent → RepliesAboutDocument answers s id uri sent (record { phase = phase; client = client; held = new })
 replies_about phase client old new s id uri answers outcome sent is same comes replies =
-    let P : ServerState → Type 0 = λ t. RepliesAbout answers t id uri sent (record { phase = phase; client = client; held = new }) in
+    let P : ServerState → Type 0 = λ t. RepliesAboutDocument answers t id uri sent (record { phase = phase; client = client; held = new }) in
     subst P is (ap (λ held. record { phase = phase; client = client; held = held }) same, (outcome, comes, replies))
 
 -- If each answer about the text is the reply for that text, the messages sent for a request are the
 -- defined reaction.
 pub reacts_about : (s new : ServerState) (id : Data) (uri : List ℕ) (say : ℤ → List ℕ → Reply) (answers : ℤ → Unit → List ℕ → List ℕ → Type 0) (sent : Option (Vec ℕ Global))
-    → ((version : ℤ) (text message : List ℕ) → answers version s.held.unit text message → SaysReply (say version text) (message ∷ []))
-    → RepliesAbout answers s id uri sent new → Reacts (answers_about s id (document_at s.held uri) say) sent new
+    → ((version : ℤ) (text message : List ℕ) → answers version s.held.unit text message → AreContentsOfReply (say version text) (message ∷ []))
+    → RepliesAboutDocument answers s id uri sent new → Reacts (react_about_document s id (document_at s.held uri) say) sent new
 reacts_about s new id uri say answers sent says (same, (outcome, comes, replies)) =
-    let P : ServerState → Type 0 = λ t. Reacts (answers_about s id (document_at s.held uri) say) sent t in
+    let P : ServerState → Type 0 = λ t. Reacts (react_about_document s id (document_at s.held uri) say) sent t in
     subst P (sym same) (go outcome comes replies)
   where
-    go : (outcome : RequestOutcome) → ComesOfRequest answers s.held uri outcome → RepliesWith id outcome sent → Reacts (answers_about s id (document_at s.held uri) say) sent s
+    go : (outcome : RequestOutcome) → IsOutcomeOfRequest answers s.held uri outcome → RepliesForOutcome id outcome sent → Reacts (react_about_document s id (document_at s.held uri) say) sent s
     go (Answered message) comes is =
-        let P : Option Document → Type 0 = λ d. Reacts (answers_about s id d say) sent s in
+        let P : Option Document → Type 0 = λ d. Reacts (react_about_document s id d say) sent s in
         let Q : Option (Vec ℕ Global) → Type 0 = λ o. SendsReply (say comes.0 comes.1) o in
         subst P (sym comes.2) (refl, subst Q (sym is) (says comes.0 comes.1 message.items comes.3))
     go OutOfStep comes is =
-        let P : Option Document → Type 0 = λ d. Reacts (answers_about s id d say) sent s in
+        let P : Option Document → Type 0 = λ d. Reacts (react_about_document s id d say) sent s in
         subst P (sym comes) (refl, is)
     go Unopened comes is =
-        let P : Option Document → Type 0 = λ d. Reacts (answers_about s id d say) sent s in
+        let P : Option Document → Type 0 = λ d. Reacts (react_about_document s id d say) sent s in
         subst P (sym comes) (refl, is)
 
 -- The message of a publication request's outcome is the publication of the document.
 pub published_with : (held : OpenDocuments) (uri : List ℕ) (outcome : RequestOutcome) (sent : Option (Vec ℕ Global))
-    → ComesOfRequest (λ version unit text message. Publishes unit uri version text message) held uri outcome → sent ≡ message_of outcome
-    → SendsReply (published held.unit uri (document_at held uri)) sent
+    → IsOutcomeOfRequest (λ version unit text message. Publishes unit uri version text message) held uri outcome → sent ≡ message_of outcome
+    → SendsReply (publication_reply held.unit uri (document_at held uri)) sent
 published_with held uri (Answered message) sent comes is =
-    let P : Option Document → Type 0 = λ d. SendsReply (published held.unit uri d) sent in
+    let P : Option Document → Type 0 = λ d. SendsReply (publication_reply held.unit uri d) sent in
     let Q : Option (Vec ℕ Global) → Type 0 = λ o. SendsReply (diagnoses held.unit uri comes.0 comes.1) o in
     subst P (sym comes.2) (subst Q (sym is) (comes.3.0, comes.3.1, (message.items, refl, comes.3.2)))
 published_with held uri OutOfStep sent comes is =
-    let P : Option Document → Type 0 = λ d. SendsReply (published held.unit uri d) sent in
+    let P : Option Document → Type 0 = λ d. SendsReply (publication_reply held.unit uri d) sent in
     let Q : Option (Vec ℕ Global) → Type 0 = λ o. SendsReply nothing o in
     subst P (sym comes) (subst Q (sym is) refl)
 published_with held uri Unopened sent comes is =
-    let P : Option Document → Type 0 = λ d. SendsReply (published held.unit uri d) sent in
+    let P : Option Document → Type 0 = λ d. SendsReply (publication_reply held.unit uri d) sent in
     let Q : Option (Vec ℕ Global) → Type 0 = λ o. SendsReply nothing o in
     subst P (sym comes) (subst Q (sym is) refl)

@@ -16,8 +16,8 @@ next_after (phases.Ended status) = End status
 next_after phase = Continue
 
 -- Holds if the session hasn't ended.
-abbrev pub IsGoingOn : Phase → Type 0
-IsGoingOn phase = next_after phase ≡ Continue
+abbrev pub HasNotEnded : Phase → Type 0
+HasNotEnded phase = next_after phase ≡ Continue
 
 -- Holds if a step succeeds: the session replies to the content and reports whether it continues.
 pub record SessionSteps (before : ServerState) (content : List ℕ) (step : Step)
@@ -29,5 +29,5 @@ pub record SessionSteps (before : ServerState) (content : List ℕ) (step : Step
 -- has failed now. Failed: the session has failed before, and nothing changes.
 abbrev pub SessionFails : ServerState → SessionFault → ServerState → Type 0
 SessionFails before Memory after =
-    IsGoingOn before.phase × (before.phase ≢ phases.Failed) × (after.phase ≡ phases.Failed)
+    HasNotEnded before.phase × (before.phase ≢ phases.Failed) × (after.phase ≡ phases.Failed)
 SessionFails before Failed after = (before.phase ≡ phases.Failed) × (after ≡ before)

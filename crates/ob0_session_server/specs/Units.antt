@@ -3,9 +3,9 @@
 use Rattle.std.specs.Prelude.{if◌then◌else◌}
 use Rattle.ob0_text.specs.declared.position_types.Unit.{Unit}
 use Rattle.ob0_text.specs.declared.position_types.Unit.TheVariants.{Utf16, Utf8}
-use Rattle.ob0_rpc.specs.declared.clients.Client.{Client}
+use Rattle.ob0_rpc.specs.declared.clients.ClientFeatures.{ClientFeatures}
 
 -- Returns the unit of positions for a client: bytes of UTF-8 if it offers that, otherwise UTF-16
 -- units.
-abbrev pub unit_for : Client → Unit
-unit_for client = if client.counts_utf8 then Utf8 else Utf16
+abbrev pub unit_for : ClientFeatures → Unit
+unit_for client = if client.offers_utf8 then Utf8 else Utf16

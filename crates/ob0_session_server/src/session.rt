@@ -2,22 +2,22 @@
 //! Lifecycle).
 ghost use Rattle.std.specs.Prelude.{◌≡◌, ◌≢◌, Ok, IfOk, IfErr, map, option_map, string_bytes};
 ghost use Rattle.ob0_rpc.specs.Seen.{id_data};
-ghost use Rattle.ob0_text.specs.OpenDocuments.{none_open};
-ghost use Rattle.ob0_session_server.specs.Seen.{RepliesWith, message_of as what_is_sent};
+ghost use Rattle.ob0_text.specs.OpenDocuments.{no_open_documents};
+ghost use Rattle.ob0_session_server.specs.Seen.{RepliesForOutcome, message_of as what_is_sent};
 ghost use Rattle.ob0_session_server.specs.Units.{unit_for};
 
 use ob0_rpc::{
-    Client, ClientNotification, ClientRequest, DocumentPosition, Id, Incoming, RpcFault, error,
-    notice, read, request, result_of,
+    ClientFeatures, ClientNotification, ClientRequest, DocumentPosition, Id, Incoming, RpcFault,
+    error, notice, read, request, result_of,
 };
 use ob0_session_answers::{
-    ActionsRequest, DefinitionRequest, HoverRequest, LayoutRequest, PrepareRenameRequest,
+    ActionsRequest, DefinitionRequest, FormattingRequest, HoverRequest, PrepareRenameRequest,
     PublishRequest, ReferencesRequest, RenameRequest,
 };
 use ob0_session_documents::{AnalysedDocuments, DocumentRequest, RequestOutcome};
 use ob0_session_json::capabilities::initialize_answer;
 use ob0_session_json::publication::publication;
-use ob0_session_json::refusals::refuse;
+use ob0_session_json::refusals::refusal_message;
 use ob0_text::{Change, Documents, Range, TextStore, Unit};
 use serde_json::Value;
 use std::alloc::{AllocError, Global};
@@ -65,7 +65,7 @@ pub enum SessionFault {
 pub struct Session<T: TextStore> {
     alloc: Global,
     phase: Phase,
-    client: Client,
+    client: ClientFeatures,
     documents: AnalysedDocuments<T>,
 }
 
@@ -84,14 +84,14 @@ impl<T: TextStore> Model for Session<T> {
 impl<T: TextStore> Session<T> {
     ghost use Rattle.serde_json.specs.View.{view};
     ghost use Rattle.std.specs.Option.{option_to_list};
-    ghost use Rattle.ob0_session_server.specs.Answers.{start, begins, AnswersGoingOn, SaysReply, react_to_request, requests_actions, requests_name, requests_rename, answer_method, answer_request, ends, react_to_notification, published, refuses, refuses_fault, apply_notification};
-    ghost use Rattle.ob0_rpc.specs.Notifications.{opens, changes, closes, note_of};
-    ghost use Rattle.ob0_rpc.specs.Seen.{at_seen, id_or_null, kinds_seen, seen_call, seen_note};
+    ghost use Rattle.ob0_session_server.specs.Answers.{start, begins, AnswersBeforeEnd, AreContentsOfReply, react_to_request, react_to_actions, react_to_question, react_to_rename, react_to_method, react_to_known_request, react_to_exit, react_to_notification, publication_reply, react_with_error, react_with_fault, apply_notification};
+    ghost use Rattle.ob0_rpc.specs.Notifications.{opens, changes, closes, notification_by_method};
+    ghost use Rattle.ob0_rpc.specs.Seen.{document_place_view, id_or_null, kinds_view, request_view, notification_view};
     ghost use Rattle.ob0_session_answers.specs.Questions.{references_asked};
-    ghost use Rattle.ob0_session_server.specs.Seen.{Reacts, RepliesAbout};
+    ghost use Rattle.ob0_session_server.specs.Seen.{Reacts, RepliesAboutDocument};
     ghost use Rattle.ob0_session_server.specs.Steps.{SessionSteps, SessionFails, next_after};
     ghost use Rattle.std.specs.Str.{chars};
-    ghost use Rattle.ob0_text.specs.OpenDocuments.{change_in_text, document_at};
+    ghost use Rattle.ob0_text.specs.OpenDocuments.{text_change_of, document_at};
 
     /// Returns a session before `initialize`. No document is open, and positions are counted in
     /// UTF-16 units.
@@ -101,11 +101,11 @@ impl<T: TextStore> Session<T> {
         Session {
             alloc,
             phase: Phase::Starting,
-            client: Client {
-                counts_utf8: false,
+            client: ClientFeatures {
+                offers_utf8: false,
                 prepares_renames: false,
-                takes_literal_actions: false,
-                takes_document_changes: false,
+                accepts_literal_actions: false,
+                accepts_document_changes: false,
             },
             documents: AnalysedDocuments::new(alloc, Documents::new(alloc)),
         }
@@ -162,18 +162,18 @@ impl<T: TextStore> Session<T> {
     /// Applies a content, and returns the list of messages that answer it: one or none.
     fn answer(&mut self, content: &[u8]) -> Result<Vec<Vec<u8>>, AllocError>
         ensures { IfOk result
-            (λ sent. AnswersGoingOn self.old content.now (map (λ v. v.items) sent.items) self.new) }
+            (λ sent. AnswersBeforeEnd self.old content.now (map (λ v. v.items) sent.items) self.new) }
     {
         let mut sent = Vec::new(self.alloc);
-        if let Some(message) = self.reply(content)? {
+        if let Some(message) = self.reply_to_content(content)? {
             sent.push(message)?;
         }
         Ok(sent)
     }
 
     /// Applies a content, and returns the message that answers it, or None if there is no answer.
-    fn reply(&mut self, content: &[u8]) -> Result<Option<Vec<u8>>, AllocError>
-        ensures { IfOk result (λ sent. AnswersGoingOn self.old content.now
+    fn reply_to_content(&mut self, content: &[u8]) -> Result<Option<Vec<u8>>, AllocError>
+        ensures { IfOk result (λ sent. AnswersBeforeEnd self.old content.now
             (option_to_list (option_map (λ v. v.items) sent)) self.new) }
     {
         match read(self.alloc, content) {
@@ -185,15 +185,20 @@ impl<T: TextStore> Session<T> {
                 params,
             ),
             Ok(Incoming::Ignored) => Ok(None),
-            Err(fault) => self.refuse_fault(None, fault),
+            Err(fault) => self.fault_message(None, fault),
         }
     }
 
     /// Returns the message that refuses a request with this error. The id is None if the refused
     /// content isn't a message.
-    fn refuse(&self, id: Option<&Id>, code: i32, said: &str) -> Result<Option<Vec<u8>>, AllocError>
+    fn refusal_message(
+        &self,
+        id: Option<&Id>,
+        code: i32,
+        said: &str,
+    ) -> Result<Option<Vec<u8>>, AllocError>
         ensures { IfOk result (λ sent. Reacts
-            (refuses self.now (id_or_null (option_map (λ i. i.now) id.entry)) code said.now) sent
+            (react_with_error self.now (id_or_null (option_map (λ i. i.now) id.entry)) code said.now) sent
             self.now) }
     {
         Ok(Some(error(self.alloc, id, code, said)?))
@@ -201,9 +206,9 @@ impl<T: TextStore> Session<T> {
 
     /// Returns the message that reports this fault of a request or content. If the fault is
     /// `Memory`, returns the error `AllocError`, and there is no message.
-    fn refuse_fault(&self, id: Option<&Id>, fault: RpcFault) -> Result<Option<Vec<u8>>, AllocError>
+    fn fault_message(&self, id: Option<&Id>, fault: RpcFault) -> Result<Option<Vec<u8>>, AllocError>
         ensures { IfOk result (λ sent. (fault ≢ RpcFault.Memory) × Reacts
-            (refuses_fault self.now (id_or_null (option_map (λ i. i.now) id.entry)) fault) sent
+            (react_with_fault self.now (id_or_null (option_map (λ i. i.now) id.entry)) fault) sent
             self.now) }
     {
         if fault == RpcFault::Memory {
@@ -224,10 +229,18 @@ impl<T: TextStore> Session<T> {
     {
         let is_initialize = method == "initialize";
         match self.phase {
-            Phase::Starting if !is_initialize => self.refuse(Some(id), -32002, "not initialized"),
-            Phase::Running if is_initialize => self.refuse(Some(id), -32600, "already initialized"),
-            Phase::Starting | Phase::Running => self.reply_to_known(id, method, params),
-            Phase::ShutDown => self.refuse(Some(id), -32600, "shut down"),
+            Phase::Starting if !is_initialize => self.refusal_message(
+                Some(id),
+                -32002,
+                "not initialized",
+            ),
+            Phase::Running if is_initialize => self.refusal_message(
+                Some(id),
+                -32600,
+                "already initialized",
+            ),
+            Phase::Starting | Phase::Running => self.reply_by_method(id, method, params),
+            Phase::ShutDown => self.refusal_message(Some(id), -32600, "shut down"),
             Phase::Ended(_) => Ok(None),
             Phase::Failed => Ok(None),
         }
@@ -235,26 +248,30 @@ impl<T: TextStore> Session<T> {
 
     /// Answers a request that the phase allows. If the method is unknown or the params can't be
     /// read, the answer is an error.
-    fn reply_to_known(
+    fn reply_by_method(
         &mut self,
         id: &Id,
         method: &str,
         params: &Value,
     ) -> Result<Option<Vec<u8>>, AllocError>
         ensures { IfOk result (λ sent. Reacts
-            (answer_method self.old (id_data id.now) method.now (view params.now))
+            (react_to_method self.old (id_data id.now) method.now (view params.now))
             sent self.new) }
     {
         match request(self.alloc, method, params) {
-            Ok(call) => self.reply_to_call(id, call),
-            Err(fault) => self.refuse_fault(Some(id), fault),
+            Ok(call) => self.reply_to_known_request(id, call),
+            Err(fault) => self.fault_message(Some(id), fault),
         }
     }
 
     /// Answers a request of a known method.
-    fn reply_to_call(&mut self, id: &Id, call: ClientRequest) -> Result<Option<Vec<u8>>, AllocError>
+    fn reply_to_known_request(
+        &mut self,
+        id: &Id,
+        call: ClientRequest,
+    ) -> Result<Option<Vec<u8>>, AllocError>
         ensures { IfOk result (λ sent. Reacts
-            (answer_request self.old (id_data id.now) (Ok (seen_call call))) sent self.new) }
+            (react_to_known_request self.old (id_data id.now) (Ok (request_view call))) sent self.new) }
     {
         match call {
             ClientRequest::Initialize(client) => {
@@ -276,33 +293,37 @@ impl<T: TextStore> Session<T> {
             ClientRequest::References {
                 place,
                 include_declaration,
-            } => self.refer(id, &place, include_declaration),
+            } => self.reply_to_references(id, &place, include_declaration),
             ClientRequest::PrepareRename(place) => {
                 let request = PrepareRenameRequest { id, place: &place };
                 self.ask(id, place.uri.as_str(), &request)
             }
-            ClientRequest::Rename { place, new_name } => self.rename(id, &place, new_name.as_str()),
-            ClientRequest::CodeAction { uri, range, only } => self.act(
+            ClientRequest::Rename { place, new_name } => self.reply_to_rename(
+                id,
+                &place,
+                new_name.as_str(),
+            ),
+            ClientRequest::CodeAction { uri, range, only } => self.reply_to_actions(
                 id,
                 uri.as_str(),
                 range,
                 &only,
             ),
             ClientRequest::Formatting { uri, indent } => {
-                self.ask(id, uri.as_str(), &LayoutRequest { id, indent })
+                self.ask(id, uri.as_str(), &FormattingRequest { id, indent })
             }
         }
     }
 
     /// Answers a request for references.
-    fn refer(
+    fn reply_to_references(
         &mut self,
         id: &Id,
         place: &DocumentPosition,
         include_declaration: bool,
     ) -> Result<Option<Vec<u8>>, AllocError>
         ensures { IfOk result (λ sent. Reacts
-            (requests_name self.old (id_data id.now) (at_seen place.now)
+            (react_to_question self.old (id_data id.now) (document_place_view place.now)
             (references_asked include_declaration)) sent self.new) }
     {
         let request = ReferencesRequest {
@@ -314,14 +335,14 @@ impl<T: TextStore> Session<T> {
     }
 
     /// Answers a request for renaming.
-    fn rename(
+    fn reply_to_rename(
         &mut self,
         id: &Id,
         place: &DocumentPosition,
         new: &str,
     ) -> Result<Option<Vec<u8>>, AllocError>
         ensures { IfOk result (λ sent. Reacts
-            (requests_rename self.old (id_data id.now) (at_seen place.now) new.now) sent self.new) }
+            (react_to_rename self.old (id_data id.now) (document_place_view place.now) new.now) sent self.new) }
     {
         let request = RenameRequest {
             id,
@@ -333,7 +354,7 @@ impl<T: TextStore> Session<T> {
     }
 
     /// Answers a request for code actions.
-    fn act(
+    fn reply_to_actions(
         &mut self,
         id: &Id,
         uri: &str,
@@ -341,7 +362,7 @@ impl<T: TextStore> Session<T> {
         only: &Option<Vec<String>>,
     ) -> Result<Option<Vec<u8>>, AllocError>
         ensures { IfOk result (λ sent. Reacts
-            (requests_actions self.old (id_data id.now) uri.now range (kinds_seen only.now)) sent
+            (react_to_actions self.old (id_data id.now) uri.now range (kinds_view only.now)) sent
             self.new) }
     {
         let request = ActionsRequest {
@@ -362,20 +383,20 @@ impl<T: TextStore> Session<T> {
         uri: &str,
         request: &Q,
     ) -> Result<Option<Vec<u8>>, AllocError>
-        ensures { IfOk result (λ sent. RepliesAbout (Q.answers request.now) self.old
+        ensures { IfOk result (λ sent. RepliesAboutDocument (Q.answers request.now) self.old
             (id_data id.now) uri.now sent self.new) }
     {
         let outcome = self.documents.ask(uri, request)?;
-        reply_with(self.alloc, id, outcome)
+        reply_for_outcome(self.alloc, id, outcome)
     }
 
     /// Starts the session for a client with these capabilities. No document is open after that.
-    fn begin(&mut self, client: Client)
+    fn begin(&mut self, client: ClientFeatures)
         ensures { self.new ≡ begins client }
     {
         self.phase = Phase::Running;
         self.client = client;
-        self.documents = AnalysedDocuments::new(self.alloc, documents_for(self.alloc, client));
+        self.documents = AnalysedDocuments::new(self.alloc, empty_documents(self.alloc, client));
     }
 
     /// Applies a notification if the phase of the lifecycle allows it. Returns the message to send,
@@ -390,7 +411,7 @@ impl<T: TextStore> Session<T> {
             self.new) }
     {
         if let Phase::Running = self.phase {
-            return self.handle_notification(method, params);
+            return self.apply_by_method(method, params);
         }
         if method == "exit" {
             self.end();
@@ -400,13 +421,13 @@ impl<T: TextStore> Session<T> {
 
     /// Reads a notification and applies it, while the session runs. Returns the message to send, or
     /// None.
-    fn handle_notification(
+    fn apply_by_method(
         &mut self,
         method: &str,
         params: Value,
     ) -> Result<Option<Vec<u8>>, AllocError>
         ensures { IfOk result (λ sent. Reacts
-            (apply_notification self.old (note_of method.now (view params))) sent self.new) }
+            (apply_notification self.old (notification_by_method method.now (view params))) sent self.new) }
     {
         let Ok(note) = notice(self.alloc, method, params) else {
             return Err(AllocError);
@@ -416,7 +437,7 @@ impl<T: TextStore> Session<T> {
 
     /// Ends the session on `exit`. Its status is 0 after `shutdown`, otherwise 1.
     fn end(&mut self)
-        ensures { self.new ≡ (ends self.old).after }
+        ensures { self.new ≡ (react_to_exit self.old).after }
     {
         self.phase = match self.phase {
             Phase::ShutDown => Phase::Ended(0),
@@ -431,7 +452,7 @@ impl<T: TextStore> Session<T> {
         note: ClientNotification,
     ) -> Result<Option<Vec<u8>>, AllocError>
         ensures { IfOk result
-            (λ sent. Reacts (apply_notification self.old (seen_note note)) sent self.new) }
+            (λ sent. Reacts (apply_notification self.old (notification_view note)) sent self.new) }
     {
         match note {
             ClientNotification::Exit => {
@@ -478,7 +499,7 @@ impl<T: TextStore> Session<T> {
         all: Vec<Change>,
     ) -> Result<Option<Vec<u8>>, AllocError>
         ensures { IfOk result (λ sent. Reacts (apply_notification self.old
-            (changes (string_bytes uri) version (map change_in_text all.items))) sent self.new) }
+            (changes (string_bytes uri) version (map text_change_of all.items))) sent self.new) }
     {
         self.documents.did_change(uri.as_str(), version, all)?;
         self.publish(uri.as_str())
@@ -501,8 +522,8 @@ impl<T: TextStore> Session<T> {
     /// open or is out of step.
     fn publish(&mut self, uri: &str) -> Result<Option<Vec<u8>>, AllocError>
         ensures same { self.new ≡ self.old }
-        ensures says { IfOk result (λ sent. SaysReply
-            (published self.old.held.unit uri.now (document_at self.old.held uri.now))
+        ensures says { IfOk result (λ sent. AreContentsOfReply
+            (publication_reply self.old.held.unit uri.now (document_at self.old.held uri.now))
             (option_to_list (option_map (λ v. v.items) sent))) }
     {
         let outcome = self.documents.ask(uri, &PublishRequest { uri })?;
@@ -512,17 +533,17 @@ impl<T: TextStore> Session<T> {
 
 /// Returns the answer to a request about a document with this outcome: its message, or a refusal
 /// if the document is out of step or isn't open.
-fn reply_with(
+fn reply_for_outcome(
     alloc: Global,
     id: &Id,
     outcome: RequestOutcome,
 ) -> Result<Option<Vec<u8>>, AllocError>
-    ensures { IfOk result (RepliesWith (id_data id.now) outcome) }
+    ensures { IfOk result (RepliesForOutcome (id_data id.now) outcome) }
 {
     match outcome {
         RequestOutcome::Answered(message) => Ok(Some(message)),
-        RequestOutcome::OutOfStep => Ok(Some(refuse(alloc, id, "out of step")?)),
-        RequestOutcome::Unopened => Ok(Some(refuse(alloc, id, "unopened")?)),
+        RequestOutcome::OutOfStep => Ok(Some(refusal_message(alloc, id, "out of step")?)),
+        RequestOutcome::Unopened => Ok(Some(refusal_message(alloc, id, "unopened")?)),
     }
 }
 
@@ -539,11 +560,11 @@ fn message_of(outcome: RequestOutcome) -> Option<Vec<u8>>
 
 /// Returns a collection without open documents. Positions are counted in bytes of UTF-8 if the
 /// client offers that, otherwise in UTF-16 units.
-fn documents_for<T: TextStore>(alloc: Global, client: Client) -> Documents<T>
-    ensures { result ≡ none_open (unit_for client) }
+fn empty_documents<T: TextStore>(alloc: Global, client: ClientFeatures) -> Documents<T>
+    ensures { result ≡ no_open_documents (unit_for client) }
 {
     let mut documents = Documents::new(alloc);
-    if client.counts_utf8 {
+    if client.offers_utf8 {
         documents.set_unit(Unit::Utf8);
     }
     documents

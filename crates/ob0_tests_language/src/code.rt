@@ -87,7 +87,7 @@ fn name_of_truth(t: &Truth) -> &'static str {
         Truth::LessThanLiteral(_, _) => "LessThanLiteral",
         Truth::ComparedToLiteral(_, _, _) => "ComparedToLiteral",
         Truth::ComparedToVariable(_, _, _) => "ComparedToVariable",
-        Truth::RowToVariable(_, _, _) => "RowToVariable",
+        Truth::ElementToVariable(_, _, _) => "RowToVariable",
         _ => "other",
     }
 }

@@ -2,7 +2,7 @@
 
 use crate::asking::Asked::{Bound, Free, TypeOf};
 use crate::asking::{Row, Walk, first_wrong, push_number, push_span, rows};
-use ob0_refs::{Capture, captures};
+use ob0_refs::{NameConflict, captures};
 use ob0_scope::resolve_renamed;
 use ob0_types::{ArrayShape, Parts, RecordShape, Shape, WellTyped};
 use std::alloc::{AllocError, Global};
@@ -66,7 +66,7 @@ pub fn push_capture(
 ) -> Result<(), AllocError> {
     match captures(alloc, module.resolved(), declaration, new)? {
         None => out.push_str("free"),
-        Some(Capture { span }) => push_span(out, "", span),
+        Some(NameConflict { span }) => push_span(out, "", span),
     }
 }
 

@@ -8,7 +8,7 @@ use crate::asking::{
     BLOCKS, COUNTING, FIELDS, RECURSIVE, Row, Walk, at, faults_of, first_wrong, rows,
 };
 use ob0_analysis::Analysis;
-use ob0_edits::rename_in;
+use ob0_edits::rename_edits;
 use ob0_inline::{inline_all, inline_here};
 use ob0_layout::format;
 use ob0_rename::rename;
@@ -73,7 +73,7 @@ pub fn rename_or_faults(
         return Ok(String::new(alloc));
     };
     let store = Whole::from_str(alloc, analysis.text())?;
-    match rename_in(alloc, &store, analysis, at(line, character), new)? {
+    match rename_edits(alloc, &store, analysis, at(line, character), new)? {
         Some(edits) => apply_or_refuse(alloc, &store, edits),
         None => faults_of(alloc, analysis),
     }

@@ -143,7 +143,7 @@ static CHANGES: &[(&str, u64, u64, &str)] = changes![
 ];
 
 /// Returns the faults of a text, from an analysis that reuses the analysis of the previous text.
-fn faults_after(alloc: Global, old: &str, new: &str) -> Result<String, AllocError> {
+fn text_after_fault(alloc: Global, old: &str, new: &str) -> Result<String, AllocError> {
     let analysis = Analysis::of(alloc, old)?.after(alloc, new)?;
     faults_of(alloc, &analysis)
 }
@@ -156,7 +156,7 @@ fn faults_from_nothing(alloc: Global, text: &str) -> Result<String, AllocError> 
 
 /// Returns true if the text `new`, analysed after the text `old`, has the faults that an analysis from scratch finds.
 fn is_as_new(alloc: Global, old: &str, new: &str) -> Result<bool, AllocError> {
-    let found = faults_after(alloc, old, new)?;
+    let found = text_after_fault(alloc, old, new)?;
     let wanted = faults_from_nothing(alloc, new)?;
     Ok(found.as_str() == wanted.as_str())
 }

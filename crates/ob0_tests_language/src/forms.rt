@@ -29,7 +29,7 @@ fn assigns_factor(s: &Statement) -> Option<bool> {
     match s {
         Statement::Assign(a) => match &a.value {
             Expression::Factor(_) => Some(true),
-            Expression::Compound(_) => Some(false),
+            Expression::CompoundExpression(_) => Some(false),
         },
         _ => None,
     }

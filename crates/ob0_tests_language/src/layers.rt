@@ -2,7 +2,8 @@
 
 use ob0_parse::{ParseRefusal, parse};
 use ob0_run::laws::{
-    free_field_keeps_modules, never_stuck, runs_by_ordinal, runs_by_shape, well_typed_by_shape,
+    free_field_renaming_keeps_typing_and_runs, never_stuck, numbered_tree_decides_runs,
+    numbered_tree_decides_typing, numbering_keeps_runs,
 };
 use ob0_scan::{Tokens, scan};
 use ob0_scope::{Resolved, resolve};
@@ -75,7 +76,7 @@ fn is_shaped(alloc: Global, module: &Module<'_>, nesting: u32, count: usize) -> 
 }
 
 /// Returns true if the tokens are a module with the expected shape, names and types.
-fn is_parsed(alloc: Global, tokens: &Tokens) -> bool {
+fn is_parsable(alloc: Global, tokens: &Tokens) -> bool {
     match parse(alloc, tokens) {
         Ok(module) => is_shaped(alloc, &module, 1, 11) && is_resolved(alloc, &module),
         Err(ParseRefusal::Syntax { .. } | ParseRefusal::TooDeep { .. } | ParseRefusal::Memory) =>
@@ -86,7 +87,7 @@ fn is_parsed(alloc: Global, tokens: &Tokens) -> bool {
 /// Returns true if the text passes through all layers with the expected results.
 fn goes_through(alloc: Global) -> bool {
     match scan(alloc, TEXT) {
-        Ok(tokens) => is_parsed(alloc, &tokens),
+        Ok(tokens) => is_parsable(alloc, &tokens),
         Err(_refusal) => false,
     }
 }
@@ -98,9 +99,9 @@ fn a_module_goes_through_the_layers(rt: HostRuntime) {
 
 #[test]
 fn the_laws_of_runs_have_their_names(_rt: HostRuntime) {
-    runs_by_ordinal();
-    runs_by_shape();
-    well_typed_by_shape();
-    free_field_keeps_modules();
+    numbering_keeps_runs();
+    numbered_tree_decides_runs();
+    numbered_tree_decides_typing();
+    free_field_renaming_keeps_typing_and_runs();
     never_stuck();
 }

@@ -58,7 +58,7 @@ fn stores_of(alloc: Global, text: &str, unit: Unit) -> Result<Stores, AllocError
 impl Stores {
     /// Returns true if both stores have the same text, and the same offset for each position whose line and character
     /// are below these numbers.
-    fn are_alike(&self, lines: u64, characters: u64) -> bool {
+    fn have_same_kinds(&self, lines: u64, characters: u64) -> bool {
         for line in 0..lines {
             for character in 0..characters {
                 let place = at(line, character);
@@ -126,7 +126,7 @@ fn agree(
 ) -> Result<bool, AllocError> {
     let mut stores = stores_of(alloc, text, unit)?;
     stores.replace(range, new)?;
-    Ok(is_as_new(alloc, &stores.lines, unit)? && stores.are_alike(10, 8))
+    Ok(is_as_new(alloc, &stores.lines, unit)? && stores.have_same_kinds(10, 8))
 }
 
 /// Returns true if the stores agree after two changes: one over several lines, in UTF-16 units, and one within a line,
@@ -178,7 +178,7 @@ static COLUMNS: &[&[u64]] = &[
 /// Returns true if the stores of a text agree far to the right in its lines. They must also agree after the lines are
 /// changed, at all columns.
 fn are_alike_far_in(alloc: Global, text: &str, unit: Unit) -> Result<bool, AllocError> {
-    if !stores_of(alloc, text, unit)?.are_alike(4, 160) {
+    if !stores_of(alloc, text, unit)?.have_same_kinds(4, 160) {
         return Ok(false);
     }
     for columns in COLUMNS {

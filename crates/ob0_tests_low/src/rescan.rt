@@ -2,14 +2,14 @@
 //! faults of a scan from scratch.
 
 ghost use Rattle.std.specs.Prelude.{◌≡◌, ◌++◌, IfOk, string_bytes};
-ghost use Rattle.ob0_scan.specs.Reused.{IsReplaced};
+ghost use Rattle.ob0_scan.specs.Reused.{ReplacesRange};
 
 use crate::cases::{Case, first_wrong};
 use crate::rescan::Outcome::{Different, Read, Refused, Unscanned};
 use crate::rescan::Row::{Long, Short};
-use ob0_scan::laws::middle_is_replaced;
+use ob0_scan::laws::new_middle_replaces_range;
 use ob0_scan::{
-    NotRescanned, Rescan, RescanInPlace, ScanRefusal, Tokens, rescan, rescan_in_place, scan,
+    Rescan, RescanInPlace, RescanRefusal, ScanRefusal, Tokens, rescan, rescan_in_place, scan,
 };
 use std::alloc::{AllocError, Global};
 use std::process::Abort;
@@ -60,7 +60,7 @@ fn are_same(a: &Tokens, b: &Tokens) -> bool {
 /// Returns the outcome of a scan in place, compared with a scan from scratch. If the new text has
 /// faults, the scan in place returns the old tokens.
 fn outcome_in_place(
-    placed: &Result<RescanInPlace, NotRescanned>,
+    placed: &Result<RescanInPlace, RescanRefusal>,
     scanned: &Result<Tokens, ScanRefusal>,
     old_text: &str,
 ) -> Outcome {
@@ -68,7 +68,7 @@ fn outcome_in_place(
         (Ok(found), Ok(tokens)) if are_same(&found.rescan.tokens, tokens) => {
             Read(found.rescan.read, found.alike)
         }
-        (Err(NotRescanned::Faults(faults, old)), Err(ScanRefusal::Faults(others)))
+        (Err(RescanRefusal::Faults(faults, old)), Err(ScanRefusal::Faults(others)))
             if old.text() == old_text && faults.as_slice() == others.as_slice() => { Refused }
         _ => Different,
     }
@@ -109,7 +109,7 @@ fn rescan_both(
     text: &str,
     range: ChangedRange,
 ) -> Outcome
-    requires { IsReplaced old.text text.now range.from range.removed range.added }
+    requires { ReplacesRange old.text text.now range.from range.removed range.added }
 {
     let (from, removed, added) = (range.from, range.removed, range.added);
     let beside = rescan(alloc, &old, text, from, removed, added);
@@ -120,7 +120,7 @@ fn rescan_both(
 /// Returns the common outcome of both scans of a changed text, or `Different`.
 fn compare(
     beside: &Result<Rescan, ScanRefusal>,
-    placed: &Result<RescanInPlace, NotRescanned>,
+    placed: &Result<RescanInPlace, RescanRefusal>,
     scanned: &Result<Tokens, ScanRefusal>,
     old_text: &str,
 ) -> Outcome {
@@ -140,7 +140,7 @@ fn change(
     other: &str,
     following: &str,
 ) -> Result<Outcome, AllocError> {
-    middle_is_replaced();
+    new_middle_replaces_range();
     let old_text = join_texts(alloc, front, middle, following)?;
     let text = join_texts(alloc, front, other, following)?;
     let range = ChangedRange {

@@ -6,8 +6,8 @@ use crate::rpc::Asked::{Content, Notification, Request, Sent};
 use crate::rpc::Message::*;
 use crate::text::at;
 use ob0_rpc::{
-    Call, Client, Id, Incoming, Note, OneMember, RpcFault, error, notice, notification, notify,
-    read, request, result, result_of,
+    Call, ClientFeatures, Id, Incoming, Note, OneMemberObject, RpcFault, error, notice,
+    notification, notification_of, read, request, result, result_of,
 };
 use ob0_text::{Indent, Range};
 use serde_json::{Value, json};
@@ -269,7 +269,7 @@ fn range_written(alloc: Global, start: (u64, u64), end: (u64, u64)) -> Result<Ve
 /// Returns the content of an answer that is an object with one member.
 fn member_written(alloc: Global) -> Result<Vec<u8>, AllocError> {
     let (key, value) = ("a b", Some(at(1, 2)));
-    result_of(alloc, &Id::Signed(0), &OneMember { key, value })
+    result_of(alloc, &Id::Signed(0), &OneMemberObject { key, value })
 }
 
 /// Returns the content of a message.
@@ -278,7 +278,7 @@ fn written(alloc: Global, message: Message) -> Result<Vec<u8>, AllocError> {
     match message {
         Nothing => result_of(alloc, &Id::Signed(-7), &()),
         Refusal(fault) => error(alloc, None, fault.code(), fault.text()),
-        NoteOfNothing => notify(alloc, "m", &()),
+        NoteOfNothing => notification_of(alloc, "m", &()),
         LargestRange => range_written(alloc, MOST, MOST),
         OneRange => range_written(alloc, (0, 9), (10, 12345)),
         LargestNumber => result_of(alloc, &Id::Unsigned(0), &u64::MAX),

@@ -8,7 +8,7 @@ use Rattle.std.proofs.lemmas.List.Elements.{All-nil, All-append, All-take}
 use Rattle.std.proofs.lemmas.List.Sums.{sum_by-append}
 use Rattle.std.proofs.lemmas.Str.{chars-append, chars-nil, IsUtf8-append, IsUtf8-nil}
 use Rattle.ob0_text.specs.declared.stretches.Stretch.{Stretch}
-use Rattle.ob0_text.specs.Stretches.{EndsNoLine, AreOfALine, IsPieceOfLine, IsStretch}
+use Rattle.ob0_text.specs.Stretches.{IsNotLineBreak, AreOfALine, IsPieceOfLine, IsStretch}
 
 -- Returns the bytes from the offset `from` to the offset `to`.
 abbrev pub cut : List ℕ → ℕ → ℕ → List ℕ
@@ -35,7 +35,7 @@ empty_piece width text start s inside here none =
       inside = omega (arith, here, inside);
       whole = subst IsUtf8 (sym nothing) IsUtf8-nil;
       of_a_line = subst (λ t. AreOfALine width (chars t) s.units) (sym nothing)
-          (subst (λ t. AreOfALine width t s.units) (sym chars-nil) (record { of_one = All-nil EndsNoLine; counted = sym none }));
+          (subst (λ t. AreOfALine width t s.units) (sym chars-nil) (record { of_one = All-nil IsNotLineBreak; counted = sym none }));
     }
 
 pub piece_joined : (width : ℕ → ℕ) (text : List ℕ) (start : ℕ) (s next whole : Stretch) → IsPieceOfLine width text start s → IsStretch width text s.end next → whole.end ≡ next.end → whole.units ≡ s.units + next.units → IsPieceOfLine width text start whole
@@ -48,7 +48,7 @@ piece_joined width text start s next whole is more end units =
       whole = subst IsUtf8 (sym parts) (IsUtf8-append (cut text start s.end) (cut text s.end next.end) is.whole more.whole);
       of_a_line = subst (λ t. AreOfALine width (chars t) whole.units) (sym parts)
           (subst (λ t. AreOfALine width t whole.units) (sym both) (record {
-            of_one = All-append EndsNoLine (chars (cut text start s.end)) (chars (cut text s.end next.end)) is.of_a_line.of_one more.of_a_line.of_one;
+            of_one = All-append IsNotLineBreak (chars (cut text start s.end)) (chars (cut text s.end next.end)) is.of_a_line.of_one more.of_a_line.of_one;
             counted = omega (arith, sum_by-append width (chars (cut text start s.end)) (chars (cut text s.end next.end)), is.of_a_line.counted, more.of_a_line.counted, units);
           }));
     }
@@ -65,7 +65,7 @@ piece_cut width text start s less last is low high whole gone units =
       inside = omega (arith, high, is.inside);
       whole = whole;
       of_a_line = record {
-        of_one = subst (All EndsNoLine) (take-append_seam front back) (All-take EndsNoLine (length front) (front ++ back) all.of_one);
+        of_one = subst (All IsNotLineBreak) (take-append_seam front back) (All-take IsNotLineBreak (length front) (front ++ back) all.of_one);
         counted = omega (arith, sum_by-append width front back, all.counted, gone.counted, units);
       };
     }
@@ -81,10 +81,10 @@ piece_stays width text rest start offset s is before inside =
     let n : ℕ = s.end - start in
     let here : start + n ≡ s.end = omega (arith, is.ordered) in
     let long : length (take offset text) ≡ offset = length-take-le offset text inside in
-    let up_to : take s.end new ≡ take s.end text =
+    let kept_if_before : take s.end new ≡ take s.end text =
     take-append-le s.end (take offset text) rest (omega (arith, long, before)) ∙ shorter s.end offset text before inside in
     let same : cut new start s.end ≡ cut text start s.end =
-    sym (drop-take start n new) ∙ ap (λ k. drop start (take k new)) here ∙ ap (drop start) up_to ∙ ap (λ k. drop start (take k text)) (sym here) ∙ drop-take start n text in
+    sym (drop-take start n new) ∙ ap (λ k. drop start (take k new)) here ∙ ap (drop start) kept_if_before ∙ ap (λ k. drop start (take k text)) (sym here) ∙ drop-take start n text in
     record {
       ordered = is.ordered;
       inside = omega (arith, long, before, length-append (take offset text) rest);

@@ -3,9 +3,9 @@ use Rattle.std.proofs.Common.{◌≡◌, ℕ, ◌-◌, ◌+◌, ◌<◌, ◌≤�
 use Rattle.std.specs.Prelude.{nat_lt}
 use Rattle.std.proofs.lemmas.Bool.{ltb-true, ltb-false}
 use Rattle.std.proofs.lemmas.List.{get_or_append_left, get_or-append_right}
-use Rattle.ob0_text.specs.LineStarts.{AllUnder, AllFrom}
+use Rattle.ob0_text.specs.LineStarts.{AreAllBelow, AreAllAtLeast}
 
-module _ (xs front back : List ℕ) (n : ℕ) (is : xs ≡ front ++ back) (under : AllUnder n front) (from : AllFrom n back) where
+module _ (xs front back : List ℕ) (n : ℕ) (is : xs ≡ front ++ back) (under : AreAllBelow n front) (from : AreAllAtLeast n back) where
   pub before : (i : ℕ) → i < length front → get_or xs i 0 < n
   before i low = subst (λ v. v < n) (sym (ap (λ t. get_or t i 0) is ∙ get_or_append_left front back 0 i low)) (under i low)
 
@@ -30,7 +30,7 @@ module _ (xs front back : List ℕ) (n : ℕ) (is : xs ≡ front ++ back) (under
       by_side false e = ltb-false i (length front) e
 
 -- At least as many starts are before a later offset as before an earlier one.
-pub more_later : (xs front back front' back' : List ℕ) (n m : ℕ) → xs ≡ front ++ back → AllUnder n front → AllFrom n back → xs ≡ front' ++ back' → AllUnder m front' → AllFrom m back' → n ≤ m → length front ≤ length front'
+pub more_later : (xs front back front' back' : List ℕ) (n m : ℕ) → xs ≡ front ++ back → AreAllBelow n front → AreAllAtLeast n back → xs ≡ front' ++ back' → AreAllBelow m front' → AreAllAtLeast m back' → n ≤ m → length front ≤ length front'
 more_later xs front back front' back' n m is under from is' under' from' order = by_side (nat_lt (length front') (length front)) refl
   where
     by_side : (b : Bool) → nat_lt (length front') (length front) ≡ b → length front ≤ length front'

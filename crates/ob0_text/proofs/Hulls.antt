@@ -4,7 +4,7 @@ use Rattle.std.proofs.Common.{◌≡◌, ℕ, ◌+◌, ◌-◌, ◌<◌, ◌≤�
 use Rattle.std.specs.Prelude.{Option, Some, None, encode_utf8_all}
 use Rattle.std.proofs.lemmas.List.{take-append-le, drop_all}
 use Rattle.ob0_text.specs.Texts.{byte_len}
-use Rattle.ob0_text.specs.ChangedBytes.{Covers, IsChangedAt}
+use Rattle.ob0_text.specs.ChangedBytes.{CoversAllChanges, IsChangedAt}
 use Rattle.ob0_text.specs.declared.replaced_bytes.ReplacedBytes.{ReplacedBytes}
 
 shorter_front : (n m : ℕ) (xs ys : List ℕ) → n ≤ m → m ≤ length xs → m ≤ length ys → take m xs ≡ take m ys → take n xs ≡ take n ys
@@ -96,6 +96,6 @@ all_changed old new r from removed added short_old short_new =
     }
 
 -- Without any change, None covers the changes.
-pub nothing_yet : (x : Option (List ℕ)) → Covers x x None
+pub nothing_yet : (x : Option (List ℕ)) → CoversAllChanges x x None
 nothing_yet None = refl
 nothing_yet (Some text) = refl

@@ -11,8 +11,8 @@ use Rattle.std.proofs.Math.Seq.{take-append_seam, drop-append_seam}
 use Rattle.ob0_text.specs.Texts.{LF, CR, ends_line}
 use Rattle.ob0_text.specs.declared.passes.PassState.{PassState}
 use Rattle.ob0_text.specs.declared.position_types.Position.{Position}
-use Rattle.ob0_text.specs.Places.{IsCounted, IsSought, IsPlace, IsPlaceBefore}
-use Rattle.ob0_text.specs.LineStarts.{line_starts, starts_after, AllUnder, AllFrom}
+use Rattle.ob0_text.specs.Places.{IsCounted, IsSought, CanCountFrom, CanSeekFrom}
+use Rattle.ob0_text.specs.LineStarts.{line_starts, starts_after, AreAllBelow, AreAllAtLeast}
 use Rattle.ob0_text.proofs.Prefixes.{halves}
 use Rattle.ob0_text.proofs.PositionSteps.{counted_at_start, counted_here_dropped, counted_past_end, counted_past_cr, counted_past_char}
 use Rattle.ob0_text.proofs.PlaceSteps.{sought_at_start, sought_dropped, sought_past_end, sought_on}
@@ -104,7 +104,7 @@ some_start text = omega (arith, ap length (starts-lines 0 text))
 
 -- The place at which the search for a position begins is a place from which the position can be
 -- found.
-pub seeks : (width : ℕ → ℕ) (text starts : List ℕ) (p : Position) (place : PassState) → IsUtf8 text → starts ≡ line_starts (chars text) → place.offset ≡ get_or starts place.line 0 → place.line ≡ min p.line (length starts - 1) → place.character ≡ 0 → IsPlaceBefore width text p place
+pub seeks : (width : ℕ → ℕ) (text starts : List ℕ) (p : Position) (place : PassState) → IsUtf8 text → starts ≡ line_starts (chars text) → place.offset ≡ get_or starts place.line 0 → place.line ≡ min p.line (length starts - 1) → place.character ≡ 0 → CanSeekFrom width text p place
 seeks width text starts p place u is here line none =
     let some : 0 < length starts = subst (λ t. 0 < length t) (sym is) (some_start (chars text)) in
     let inside : place.line < length (line_starts (chars text)) = subst (λ t. place.line < length t) is (omega (arith, line)) in
@@ -112,7 +112,7 @@ seeks width text starts p place u is here line none =
     subst (λ n. IsSought width text p (drop place.offset text) place.offset place.line n) (sym none)
     (subst (λ o. IsSought width text p (drop o text) o place.line 0) (sym start) (line_sought width text p u place.line inside (omega (arith, line))))
 
-pub counts : (width : ℕ → ℕ) → ((c : ℕ) → width c ≤ len_utf8 c) → (text starts : List ℕ) (line : ℕ) (place : PassState) → IsUtf8 text → starts ≡ line_starts (chars text) → place.offset ≡ get_or starts place.line 0 → place.line ≡ min line (length starts - 1) → place.character ≡ 0 → IsPlace width text place
+pub counts : (width : ℕ → ℕ) → ((c : ℕ) → width c ≤ len_utf8 c) → (text starts : List ℕ) (line : ℕ) (place : PassState) → IsUtf8 text → starts ≡ line_starts (chars text) → place.offset ≡ get_or starts place.line 0 → place.line ≡ min line (length starts - 1) → place.character ≡ 0 → CanCountFrom width text place
 counts width narrow text starts l place u is here line none =
     let some : 0 < length starts = subst (λ t. 0 < length t) (sym is) (some_start (chars text)) in
     let inside : place.line < length (line_starts (chars text)) = subst (λ t. place.line < length t) is (omega (arith, line)) in
@@ -122,31 +122,31 @@ counts width narrow text starts l place u is here line none =
 
 -- If `count` line starts are at or before the offset m, then `count` is at least 1. The last of
 -- these starts is at or before m.
-pub searched : (text starts : List ℕ) (m n count : ℕ) → IsUtf8 text → starts ≡ line_starts (chars text) → m ≤ length text → n ≡ suc m → ((front back : List ℕ) → starts ≡ front ++ back → AllUnder n front → AllFrom n back → count ≡ length front) → (1 ≤ count) × (count ≤ length starts) × (get_or starts (count - 1) 0 ≤ m)
+pub searched : (text starts : List ℕ) (m n count : ℕ) → IsUtf8 text → starts ≡ line_starts (chars text) → m ≤ length text → n ≡ suc m → ((front back : List ℕ) → starts ≡ front ++ back → AreAllBelow n front → AreAllAtLeast n back → count ≡ length front) → (1 ≤ count) × (count ≤ length starts) × (get_or starts (count - 1) 0 ≤ m)
 searched text starts m n count u is within next count_is =
     let split = table-split (LF ∷ text) (suc m) (omega arith) in
     let front : List ℕ = starts_after 0 (take (suc m) (LF ∷ text)) (drop (suc m) (LF ∷ text)) in
     let back : List ℕ = starts_after (suc m) (drop (suc m) (LF ∷ text)) [] in
     let whole : starts ≡ front ++ back = is ∙ table text u ∙ split.whole in
-    let here : count ≡ length front = count_is front back whole (subst (λ k. AllUnder k front) (sym next) split.under) (subst (λ k. AllFrom k back) (sym next) split.from) in
+    let here : count ≡ length front = count_is front back whole (subst (λ k. AreAllBelow k front) (sym next) split.under) (subst (λ k. AreAllAtLeast k back) (sym next) split.from) in
     let some : 0 < length front = start_before text (drop (suc m) (LF ∷ text)) m in
     let long : length starts ≡ length front + length back = ap length whole ∙ length-append front back in
     let low : get_or starts (count - 1) 0 < suc m = before starts front back (suc m) whole split.under split.from (count - 1) (omega (arith, here, some)) in
     (omega (arith, here, some), omega (arith, here, long), omega (arith, low))
 
 -- The starts of the table after `to` are the starts found in the bytes after `to`.
-pub moved_starts : (bs starts : List ℕ) (to moved : ℕ) → IsUtf8 bs → starts ≡ line_starts (chars bs) → to ≤ length bs → ((front back : List ℕ) → starts ≡ front ++ back → AllUnder (to + 1) front → AllFrom (to + 1) back → moved ≡ length front) → drop moved starts ≡ starts_after (suc to) (drop to bs) []
+pub moved_starts : (bs starts : List ℕ) (to moved : ℕ) → IsUtf8 bs → starts ≡ line_starts (chars bs) → to ≤ length bs → ((front back : List ℕ) → starts ≡ front ++ back → AreAllBelow (to + 1) front → AreAllAtLeast (to + 1) back → moved ≡ length front) → drop moved starts ≡ starts_after (suc to) (drop to bs) []
 moved_starts bs starts to moved u is within moved_is =
     let old : starts ≡ starts_after 0 (LF ∷ bs) [] = is ∙ table bs u in
     let far = table-split (LF ∷ bs) (suc to) (omega arith) in
     let far_front : List ℕ = starts_after 0 (take (suc to) (LF ∷ bs)) (drop (suc to) (LF ∷ bs)) in
     let next : suc to ≡ to + 1 = omega arith in
-    let moved_here : moved ≡ length far_front = moved_is far_front _ (old ∙ far.whole) (subst (λ k. AllUnder k far_front) next far.under) (subst (λ k. AllFrom k (starts_after (suc to) (drop to bs) [])) next far.from) in
+    let moved_here : moved ≡ length far_front = moved_is far_front _ (old ∙ far.whole) (subst (λ k. AreAllBelow k far_front) next far.under) (subst (λ k. AreAllAtLeast k (starts_after (suc to) (drop to bs) [])) next far.from) in
     (λ i. drop (moved_here i) ((old ∙ far.whole) i)) ∙ drop-append_seam far_front _
 
 -- The table of a text with a replaced part consists of the starts before the part, the starts in
 -- the new bytes, and the later starts, moved.
-pub mended_starts : (bs new starts later : List ℕ) (from to kept moved : ℕ) → IsUtf8 bs → starts ≡ line_starts (chars bs) → from ≤ to → to ≤ length bs → ((front back : List ℕ) → starts ≡ front ++ back → AllUnder from front → AllFrom from back → kept ≡ length front) → ((front back : List ℕ) → starts ≡ front ++ back → AllUnder (to + 1) front → AllFrom (to + 1) back → moved ≡ length front) → later ≡ starts_after from (get_or (LF ∷ bs) from 0 ∷ new) (drop to bs) ++ map (λ s. s - to + (from + length new)) (drop moved starts) → IsUtf8 ((take from bs ++ new) ++ drop to bs) → take kept starts ++ later ≡ line_starts (chars ((take from bs ++ new) ++ drop to bs))
+pub mended_starts : (bs new starts later : List ℕ) (from to kept moved : ℕ) → IsUtf8 bs → starts ≡ line_starts (chars bs) → from ≤ to → to ≤ length bs → ((front back : List ℕ) → starts ≡ front ++ back → AreAllBelow from front → AreAllAtLeast from back → kept ≡ length front) → ((front back : List ℕ) → starts ≡ front ++ back → AreAllBelow (to + 1) front → AreAllAtLeast (to + 1) back → moved ≡ length front) → later ≡ starts_after from (get_or (LF ∷ bs) from 0 ∷ new) (drop to bs) ++ map (λ s. s - to + (from + length new)) (drop moved starts) → IsUtf8 ((take from bs ++ new) ++ drop to bs) → take kept starts ++ later ≡ line_starts (chars ((take from bs ++ new) ++ drop to bs))
 mended_starts bs new starts later from to kept moved u is order within kept_is moved_is later_is v =
     let old : starts ≡ starts_after 0 (LF ∷ bs) [] = is ∙ table bs u in
     let near = table-split (LF ∷ bs) from (omega arith) in

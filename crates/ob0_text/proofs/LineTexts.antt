@@ -6,7 +6,7 @@ use Rattle.std.specs.Char.{len_utf8}
 use Rattle.std.specs.Str.{IsUtf8, IsCharBoundary, chars}
 use Rattle.std.proofs.lemmas.Str.{encodes-append, encodes-chars, IsCharBoundary-end}
 use Rattle.ob0_text.specs.Texts.{Line, lines, joined, byte_len}
-use Rattle.ob0_text.specs.LineStarts.{with_ending, starts_from, line_starts}
+use Rattle.ob0_text.specs.LineStarts.{line_with_ending, starts_from, line_starts}
 use Rattle.ob0_text.proofs.LawsOfLines.{lines_joined}
 use Rattle.ob0_text.proofs.PositionSteps.{rest_border}
 use Rattle.ob0_text.proofs.StartLaws.{byte_len-append}
@@ -15,24 +15,24 @@ use Rattle.ob0_text.proofs.LinePlaces.{line_counted}
 -- Holds if the bytes of line k, with its ending, are between the offsets `start` and `end`.
 pub record IsFound (bytes : List ℕ) (ls : List Line) (at k start end : ℕ) : Type 0 where
   pub line : Line
-  pub is_line : slice_get ls k ≡ Some line
+  pub is_indented_break : slice_get ls k ≡ Some line
   pub front : List ℕ
   pub rest : List ℕ
-  pub split : bytes ≡ front ++ (encode_utf8_all (with_ending line) ++ rest)
+  pub split : bytes ≡ front ++ (encode_utf8_all (line_with_ending line) ++ rest)
   pub here : at + length front ≡ start
-  pub there : start + byte_len (with_ending line) ≡ end
+  pub there : start + byte_len (line_with_ending line) ≡ end
 
-joined-cons : (l : Line) (ls : List Line) → joined (l ∷ ls) ≡ with_ending l ++ joined ls
+joined-cons : (l : Line) (ls : List Line) → joined (l ∷ ls) ≡ line_with_ending l ++ joined ls
 unfolding joined
 joined-cons l ls = sym (append_assoc l.body l.ending (joined ls))
 
-first_split : (l : Line) (ls : List Line) → encode_utf8_all (joined (l ∷ ls)) ≡ encode_utf8_all (with_ending l) ++ encode_utf8_all (joined ls)
-first_split l ls = ap encode_utf8_all (joined-cons l ls) ∙ encodes-append (with_ending l) (joined ls)
+first_split : (l : Line) (ls : List Line) → encode_utf8_all (joined (l ∷ ls)) ≡ encode_utf8_all (line_with_ending l) ++ encode_utf8_all (joined ls)
+first_split l ls = ap encode_utf8_all (joined-cons l ls) ∙ encodes-append (line_with_ending l) (joined ls)
 
-first_len : (l : Line) (ls : List Line) → byte_len (joined (l ∷ ls)) ≡ byte_len (with_ending l) + byte_len (joined ls)
-first_len l ls = ap byte_len (joined-cons l ls) ∙ byte_len-append (with_ending l) (joined ls)
+first_len : (l : Line) (ls : List Line) → byte_len (joined (l ∷ ls)) ≡ byte_len (line_with_ending l) + byte_len (joined ls)
+first_len l ls = ap byte_len (joined-cons l ls) ∙ byte_len-append (line_with_ending l) (joined ls)
 
-first_end : (l : Line) (ls : List Line) (at end : ℕ) → (1 < length (l ∷ ls) → end ≡ get_or (starts_from at (l ∷ ls)) 1 0) → (length (l ∷ ls) ≤ 1 → end ≡ at + byte_len (joined (l ∷ ls))) → at + byte_len (with_ending l) ≡ end
+first_end : (l : Line) (ls : List Line) (at end : ℕ) → (1 < length (l ∷ ls) → end ≡ get_or (starts_from at (l ∷ ls)) 1 0) → (length (l ∷ ls) ≤ 1 → end ≡ at + byte_len (joined (l ∷ ls))) → at + byte_len (line_with_ending l) ≡ end
 unfolding starts_from joined
 first_end l [] at end next last = let all : end ≡ at + byte_len (joined (l ∷ [])) = last (omega arith) in omega (arith, all, first_len l [])
 first_end l (m ∷ ms) at end next last = sym (next (omega arith))
@@ -42,7 +42,7 @@ unfolding starts_from
 line_at [] at k end inside next last = absurd (omega arith)
 line_at (l ∷ ls) at zero end inside next last = record {
   line = l;
-  is_line = refl;
+  is_indented_break = refl;
   front = [];
   rest = encode_utf8_all (joined ls);
   split = first_split l ls;
@@ -50,13 +50,13 @@ line_at (l ∷ ls) at zero end inside next last = record {
   there = first_end l ls at end next last;
 }
 line_at (l ∷ ls) at (suc k) end inside next last =
-    let more = line_at ls (at + byte_len (with_ending l)) k end (omega arith) (λ low. next (omega arith)) (λ up. let all : end ≡ at + byte_len (joined (l ∷ ls)) = last (omega arith) in omega (arith, all, first_len l ls)) in
-    let long : length (encode_utf8_all (with_ending l) ++ more.front) ≡ byte_len (with_ending l) + length more.front = length-append (encode_utf8_all (with_ending l)) more.front in record {
+    let more = line_at ls (at + byte_len (line_with_ending l)) k end (omega arith) (λ low. next (omega arith)) (λ up. let all : end ≡ at + byte_len (joined (l ∷ ls)) = last (omega arith) in omega (arith, all, first_len l ls)) in
+    let long : length (encode_utf8_all (line_with_ending l) ++ more.front) ≡ byte_len (line_with_ending l) + length more.front = length-append (encode_utf8_all (line_with_ending l)) more.front in record {
       line = more.line;
-      is_line = more.is_line;
-      front = encode_utf8_all (with_ending l) ++ more.front;
+      is_indented_break = more.is_indented_break;
+      front = encode_utf8_all (line_with_ending l) ++ more.front;
       rest = more.rest;
-      split = first_split l ls ∙ ap (λ t. encode_utf8_all (with_ending l) ++ t) more.split ∙ sym (append_assoc (encode_utf8_all (with_ending l)) more.front (encode_utf8_all (with_ending more.line) ++ more.rest));
+      split = first_split l ls ∙ ap (λ t. encode_utf8_all (line_with_ending l) ++ t) more.split ∙ sym (append_assoc (encode_utf8_all (line_with_ending l)) more.front (encode_utf8_all (line_with_ending more.line) ++ more.rest));
       here = omega (arith, long, more.here);
       there = more.there;
     }
@@ -64,7 +64,7 @@ line_at (l ∷ ls) at (suc k) end inside next last =
 length-starts : (at : ℕ) (ls : List Line) → length (starts_from at ls) ≡ length ls
 unfolding starts_from
 length-starts at [] = refl
-length-starts at (l ∷ ls) = ap suc (length-starts (at + byte_len (with_ending l)) ls)
+length-starts at (l ∷ ls) = ap suc (length-starts (at + byte_len (line_with_ending l)) ls)
 
 past_last : (ls : List Line) (k : ℕ) → length ls ≤ k → slice_get ls k ≡ None
 past_last [] k h = refl

@@ -9,7 +9,7 @@ use Rattle.std.proofs.lemmas.Bool.Decides.{nat_tests}
 use Rattle.std.specs.Char.{len_utf8}
 use Rattle.std.proofs.lemmas.Str.{length-encode, len_utf8_ascii, encode_ascii, inside_one, encodes-append, encodes-chars}
 use Rattle.ob0_text.specs.Texts.{LF, CR, Line, starts_with_lf, ends_line, add_character, add_to_ending, lines, byte_len}
-use Rattle.ob0_text.specs.LineStarts.{with_ending, starts_from, line_starts, starts_after, AllUnder, AllFrom}
+use Rattle.ob0_text.specs.LineStarts.{line_with_ending, starts_from, line_starts, starts_after, AreAllBelow, AreAllAtLeast}
 use Rattle.ob0_text.proofs.LineLaws.{has_line, lines-ends, lines-before_lf, lines-in_front, no_line_end, lf_ends}
 use Rattle.ob0_text.proofs.FirstBytes.{lf_byte}
 use Rattle.ob0_text.proofs.PlaceSteps.{byte_len-cons}
@@ -71,28 +71,28 @@ following-moved at there to by (x ∷ xs) next up e =
     ]
 
 -- A list whose numbers are at least `suc at`, with `at` in front, has numbers of at least `at`.
-from_next : (at : ℕ) (ns : List ℕ) → AllFrom (suc at) ns → AllFrom at (at ∷ ns)
+from_next : (at : ℕ) (ns : List ℕ) → AreAllAtLeast (suc at) ns → AreAllAtLeast at (at ∷ ns)
 from_next at ns more zero h = omega arith
 from_next at ns more (suc k) h = let here : suc at ≤ get_or ns k 0 = more k (omega arith) in omega (arith, here)
 
-pub following-from : (at : ℕ) (xs next : List ℕ) → AllFrom at (starts_after at xs next)
+pub following-from : (at : ℕ) (xs next : List ℕ) → AreAllAtLeast at (starts_after at xs next)
 unfolding starts_after
 following-from at [] next = λ k h. absurd (omega arith)
 following-from at (x ∷ xs) next =
-    elim (ends_line x (xs ++ next)) as (λ b. AllFrom at (if b then at ∷ starts_after (suc at) xs next else starts_after (suc at) xs next)) [
+    elim (ends_line x (xs ++ next)) as (λ b. AreAllAtLeast at (if b then at ∷ starts_after (suc at) xs next else starts_after (suc at) xs next)) [
       | true ↦ from_next at (starts_after (suc at) xs next) (following-from (suc at) xs next)
       | false ↦ λ k h. let more : suc at ≤ get_or (starts_after (suc at) xs next) k 0 = following-from (suc at) xs next k h in omega (arith, more)
     ]
 
-under_next : (at bound : ℕ) (ns : List ℕ) → at < bound → AllUnder bound ns → AllUnder bound (at ∷ ns)
+under_next : (at bound : ℕ) (ns : List ℕ) → at < bound → AreAllBelow bound ns → AreAllBelow bound (at ∷ ns)
 under_next at bound ns low more zero h = low
 under_next at bound ns low more (suc k) h = more k (omega arith)
 
-pub following-under : (at bound : ℕ) (xs next : List ℕ) → at + length xs ≡ bound → AllUnder bound (starts_after at xs next)
+pub following-under : (at bound : ℕ) (xs next : List ℕ) → at + length xs ≡ bound → AreAllBelow bound (starts_after at xs next)
 unfolding starts_after
 following-under at bound [] next e = λ k h. absurd (omega arith)
 following-under at bound (x ∷ xs) next e =
-    elim (ends_line x (xs ++ next)) as (λ b. AllUnder bound (if b then at ∷ starts_after (suc at) xs next else starts_after (suc at) xs next)) [
+    elim (ends_line x (xs ++ next)) as (λ b. AreAllBelow bound (if b then at ∷ starts_after (suc at) xs next else starts_after (suc at) xs next)) [
       | true ↦ under_next at bound (starts_after (suc at) xs next) (omega (arith, e)) (following-under (suc at) bound xs next (omega (arith, e)))
       | false ↦ following-under (suc at) bound xs next (omega (arith, e))
     ]
@@ -183,12 +183,12 @@ ends-bytes at (c ∷ cs) = by_low (ends-bytes (at + len_utf8 c) cs) (nat_lt c 12
 pub byte_len-append : (xs ys : List ℕ) → byte_len (xs ++ ys) ≡ byte_len xs + byte_len ys
 byte_len-append xs ys = ap length (encodes-append xs ys) ∙ length-append (encode_utf8_all xs) (encode_utf8_all ys)
 
-longer_first : (at c : ℕ) (cs : List ℕ) (l l' : Line) (ls : List Line) → lines cs ≡ l ∷ ls → byte_len (with_ending l') ≡ len_utf8 c + byte_len (with_ending l) → starts_from (at + len_utf8 c) (lines cs) ≡ (at + len_utf8 c) ∷ following_ends (at + len_utf8 c) cs → starts_from at (l' ∷ ls) ≡ at ∷ following_ends (at + len_utf8 c) cs
+longer_first : (at c : ℕ) (cs : List ℕ) (l l' : Line) (ls : List Line) → lines cs ≡ l ∷ ls → byte_len (line_with_ending l') ≡ len_utf8 c + byte_len (line_with_ending l) → starts_from (at + len_utf8 c) (lines cs) ≡ (at + len_utf8 c) ∷ following_ends (at + len_utf8 c) cs → starts_from at (l' ∷ ls) ≡ at ∷ following_ends (at + len_utf8 c) cs
 unfolding starts_from
 longer_first at c cs l l' ls is long more =
     let both : starts_from (at + len_utf8 c) (l ∷ ls) ≡ (at + len_utf8 c) ∷ following_ends (at + len_utf8 c) cs = ap (starts_from (at + len_utf8 c)) (sym is) ∙ more in
-    let rest : starts_from (at + len_utf8 c + byte_len (with_ending l)) ls ≡ following_ends (at + len_utf8 c) cs = ap (drop 1) both in
-    let there : at + byte_len (with_ending l') ≡ at + len_utf8 c + byte_len (with_ending l) = omega (arith, long) in
+    let rest : starts_from (at + len_utf8 c + byte_len (line_with_ending l)) ls ≡ following_ends (at + len_utf8 c) cs = ap (drop 1) both in
+    let there : at + byte_len (line_with_ending l') ≡ at + len_utf8 c + byte_len (line_with_ending l) = omega (arith, long) in
     ap (λ k. at ∷ starts_from k ls) there ∙ ap (λ t. at ∷ t) rest
 
 pub starts-lines : (at : ℕ) (cs : List ℕ) → starts_from at (lines cs) ≡ at ∷ following_ends at cs
@@ -223,8 +223,8 @@ table bs u =
 -- Holds if the starts are split into those below m and the others.
 pub record IsSplit (starts : List ℕ) (m : ℕ) (front back : List ℕ) : Type 0 where
   pub whole : starts ≡ front ++ back
-  pub under : AllUnder m front
-  pub from : AllFrom m back
+  pub under : AreAllBelow m front
+  pub from : AreAllAtLeast m back
 
 pub table-split : (xs : List ℕ) (m : ℕ) → m ≤ length xs → IsSplit (starts_after 0 xs []) m (starts_after 0 (take m xs) (drop m xs)) (starts_after m (drop m xs) [])
 table-split xs m within =

@@ -10,7 +10,7 @@ use Rattle.std.proofs.lemmas.List.Elements.{All-nil, All-cons, All-head, All-dro
 use Rattle.std.proofs.Math.Seq.{drop-append_seam}
 use Rattle.std.proofs.lemmas.Str.{encode_ascii, encodes-chars, length-encode}
 use Rattle.ob0_text.specs.Texts.{LF, CR, utf16_width, byte_len}
-use Rattle.ob0_text.specs.Stretches.{EndsNoLine, utf16_units_at, AreOfALine}
+use Rattle.ob0_text.specs.Stretches.{IsNotLineBreak, utf16_units_at, AreOfALine}
 
 -- The units counted at the bytes of a character are its UTF-16 units.
 units_of_char : (c : ℕ) → sum_by utf16_units_at (encode_utf8 c) ≡ utf16_width c
@@ -28,24 +28,24 @@ bytes_of_chars (c ∷ cs) =
     length-append (encode_utf8 c) (encode_utf8_all cs) ∙ (λ i. length-encode c i + bytes_of_chars cs i) ∙ sym (sum_by-cons len_utf8 c cs)
 
 -- If no byte of a character ends a line, the character doesn't end one either.
-char_of_line : (c : ℕ) (bs : List ℕ) → All EndsNoLine (encode_utf8 c ++ bs) → EndsNoLine c
+char_of_line : (c : ℕ) (bs : List ℕ) → All IsNotLineBreak (encode_utf8 c ++ bs) → IsNotLineBreak c
 char_of_line c bs h = by_end (c == LF || c == CR) refl
   where
-    by_end : (b : Bool) → (c == LF || c == CR) ≡ b → EndsNoLine c
+    by_end : (b : Bool) → (c == LF || c == CR) ≡ b → IsNotLineBreak c
     by_end true e =
         let low : c < 128 = grind (arith, nat_tests) in
-        All-head EndsNoLine c bs (subst (λ t. All EndsNoLine (t ++ bs)) (encode_ascii c low) h)
+        All-head IsNotLineBreak c bs (subst (λ t. All IsNotLineBreak (t ++ bs)) (encode_ascii c low) h)
     by_end false e = e
 
-pub chars_of_line : (cs : List ℕ) → All EndsNoLine (encode_utf8_all cs) → All EndsNoLine cs
-chars_of_line [] h = All-nil EndsNoLine
+pub chars_of_line : (cs : List ℕ) → All IsNotLineBreak (encode_utf8_all cs) → All IsNotLineBreak cs
+chars_of_line [] h = All-nil IsNotLineBreak
 chars_of_line (c ∷ cs) h =
-    All-cons EndsNoLine c cs (char_of_line c (encode_utf8_all cs) h)
-    (chars_of_line cs (subst (All EndsNoLine) (drop-append_seam (encode_utf8 c) (encode_utf8_all cs)) (All-drop EndsNoLine (length (encode_utf8 c)) (encode_utf8 c ++ encode_utf8_all cs) h)))
+    All-cons IsNotLineBreak c cs (char_of_line c (encode_utf8_all cs) h)
+    (chars_of_line cs (subst (All IsNotLineBreak) (drop-append_seam (encode_utf8 c) (encode_utf8_all cs)) (All-drop IsNotLineBreak (length (encode_utf8 c)) (encode_utf8 c ++ encode_utf8_all cs) h)))
 
-module _ (bs : List ℕ) (u : IsUtf8 bs) (h : All EndsNoLine bs) where
-  of_one : All EndsNoLine (chars bs)
-  of_one = chars_of_line (chars bs) (subst (All EndsNoLine) (sym (encodes-chars bs u)) h)
+module _ (bs : List ℕ) (u : IsUtf8 bs) (h : All IsNotLineBreak bs) where
+  of_one : All IsNotLineBreak (chars bs)
+  of_one = chars_of_line (chars bs) (subst (All IsNotLineBreak) (sym (encodes-chars bs u)) h)
 
   pub counted_in_utf16 : AreOfALine utf16_width (chars bs) (sum_by utf16_units_at bs)
   counted_in_utf16 = record {

@@ -13,13 +13,13 @@ use Rattle.ob0_text.specs.declared.position_types.Position.{Position}
 use Rattle.ob0_text.specs.declared.passes.PassState.{PassState}
 use Rattle.ob0_text.specs.declared.stretches.Stretch.{Stretch}
 use Rattle.ob0_text.specs.Texts.{CR, byte_len}
-use Rattle.ob0_text.specs.Stretches.{EndsNoLine, IsPieceOfLine}
-use Rattle.ob0_text.specs.Places.{IsSought, IsPlaceBefore, IsCounted, IsPlace}
+use Rattle.ob0_text.specs.Stretches.{IsNotLineBreak, IsPieceOfLine}
+use Rattle.ob0_text.specs.Places.{IsSought, CanSeekFrom, IsCounted, CanCountFrom}
 use Rattle.ob0_text.proofs.LineLaws.{no_line_end}
 use Rattle.ob0_text.proofs.PositionSteps.{counted_past_char}
 use Rattle.ob0_text.proofs.PlaceSteps.{byte_len-cons, sought_past_char}
 
-no_cr : (c : ℕ) → EndsNoLine c → c ≡ CR → ⊥
+no_cr : (c : ℕ) → IsNotLineBreak c → c ≡ CR → ⊥
 no_cr c h e = grind (arith, nat_tests)
 
 module _ (width : ℕ → ℕ) (text : List ℕ) where
@@ -46,17 +46,17 @@ module _ (width : ℕ → ℕ) (text : List ℕ) where
 
   -- Lemmas on the search for a position.
   module _ (p : Position) where
-    sought_past : (cs rest : List ℕ) (offset line character : ℕ) → All EndsNoLine cs → IsSought width text p (encode_utf8_all cs ++ rest) offset line character → line ≡ p.line → character + sum_by width cs ≤ p.character → IsSought width text p rest (offset + byte_len cs) line (character + sum_by width cs)
+    sought_past : (cs rest : List ℕ) (offset line character : ℕ) → All IsNotLineBreak cs → IsSought width text p (encode_utf8_all cs ++ rest) offset line character → line ≡ p.line → character + sum_by width cs ≤ p.character → IsSought width text p rest (offset + byte_len cs) line (character + sum_by width cs)
     sought_past [] rest offset line character of_one h here room =
         subst (λ n. IsSought width text p rest n line (character + 0)) (omega arith) (subst (λ n. IsSought width text p rest offset line n) (omega arith) h)
     sought_past (c ∷ cs) rest offset line character of_one h here room =
         let wide : sum_by width (c ∷ cs) ≡ width c + sum_by width cs = sum_by-cons width c cs in
-        let next = sought_past_char width text p (encode_utf8_all (c ∷ cs) ++ rest) offset line character h c (encode_utf8_all cs ++ rest) (append_assoc (encode_utf8 c) (encode_utf8_all cs) rest) (omega (arith, here)) (All-head EndsNoLine c cs of_one) (omega (arith, wide, room)) in
-        let last = sought_past cs rest (offset + len_utf8 c) line (character + width c) (All-tail EndsNoLine c cs of_one) next here (omega (arith, wide, room)) in
+        let next = sought_past_char width text p (encode_utf8_all (c ∷ cs) ++ rest) offset line character h c (encode_utf8_all cs ++ rest) (append_assoc (encode_utf8 c) (encode_utf8_all cs) rest) (omega (arith, here)) (All-head IsNotLineBreak c cs of_one) (omega (arith, wide, room)) in
+        let last = sought_past cs rest (offset + len_utf8 c) line (character + width c) (All-tail IsNotLineBreak c cs of_one) next here (omega (arith, wide, room)) in
         subst (λ n. IsSought width text p rest n line (character + sum_by width (c ∷ cs))) (omega (arith, byte_len-cons c cs))
         (subst (λ n. IsSought width text p rest (offset + len_utf8 c + byte_len cs) line n) (omega (arith, wide)) last)
 
-    pub sought_past_stretch : (place : PassState) (s : Stretch) → IsPlaceBefore width text p place → IsPieceOfLine width text place.offset s → place.line ≡ p.line → place.character + s.units ≤ p.character → IsSought width text p (drop s.end text) s.end place.line (place.character + s.units)
+    pub sought_past_stretch : (place : PassState) (s : Stretch) → CanSeekFrom width text p place → IsPieceOfLine width text place.offset s → place.line ≡ p.line → place.character + s.units ≤ p.character → IsSought width text p (drop s.end text) s.end place.line (place.character + s.units)
     unfolding piece
     sought_past_stretch place s h is here room =
         let passed = sought_past (chars (piece place.offset s is)) (drop s.end text) place.offset place.line place.character is.of_a_line.of_one (subst (λ r. IsSought width text p r place.offset place.line place.character) (split place.offset s is) h) here (omega (arith, is.of_a_line.counted, room)) in
@@ -65,18 +65,18 @@ module _ (width : ℕ → ℕ) (text : List ℕ) where
 
   -- Lemmas on the pass that counts.
   module _ (narrow : (c : ℕ) → width c ≤ len_utf8 c) where
-    counted_past : (cs rest : List ℕ) (offset line character : ℕ) → All EndsNoLine cs → IsCounted width text (encode_utf8_all cs ++ rest) offset line character → IsCounted width text rest (offset + byte_len cs) line (character + sum_by width cs)
+    counted_past : (cs rest : List ℕ) (offset line character : ℕ) → All IsNotLineBreak cs → IsCounted width text (encode_utf8_all cs ++ rest) offset line character → IsCounted width text rest (offset + byte_len cs) line (character + sum_by width cs)
     counted_past [] rest offset line character of_one h =
         subst (λ n. IsCounted width text rest n line (character + 0)) (omega arith) (subst (λ n. IsCounted width text rest offset line n) (omega arith) h)
     counted_past (c ∷ cs) rest offset line character of_one h =
         let wide : sum_by width (c ∷ cs) ≡ width c + sum_by width cs = sum_by-cons width c cs in
-        let this = All-head EndsNoLine c cs of_one in
+        let this = All-head IsNotLineBreak c cs of_one in
         let next = counted_past_char width text (encode_utf8_all (c ∷ cs) ++ rest) offset line character h c (encode_utf8_all cs ++ rest) (append_assoc (encode_utf8 c) (encode_utf8_all cs) rest) (narrow c) (no_line_end c (chars (encode_utf8_all cs ++ rest)) this) (no_cr c this) in
-        let last = counted_past cs rest (offset + len_utf8 c) line (character + width c) (All-tail EndsNoLine c cs of_one) next in
+        let last = counted_past cs rest (offset + len_utf8 c) line (character + width c) (All-tail IsNotLineBreak c cs of_one) next in
         subst (λ n. IsCounted width text rest n line (character + sum_by width (c ∷ cs))) (omega (arith, byte_len-cons c cs))
         (subst (λ n. IsCounted width text rest (offset + len_utf8 c + byte_len cs) line n) (omega (arith, wide)) last)
 
-    pub counted_past_stretch : (place : PassState) (s : Stretch) → IsPlace width text place → IsPieceOfLine width text place.offset s → IsCounted width text (drop s.end text) s.end place.line (place.character + s.units)
+    pub counted_past_stretch : (place : PassState) (s : Stretch) → CanCountFrom width text place → IsPieceOfLine width text place.offset s → IsCounted width text (drop s.end text) s.end place.line (place.character + s.units)
     unfolding piece
     counted_past_stretch place s h is =
         let passed = counted_past (chars (piece place.offset s is)) (drop s.end text) place.offset place.line place.character is.of_a_line.of_one (subst (λ r. IsCounted width text r place.offset place.line place.character) (split place.offset s is) h) in

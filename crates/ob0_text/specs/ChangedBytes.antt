@@ -19,10 +19,10 @@ pub record IsChangedAt (old new : List ℕ) (r : ReplacedBytes) : Type 0 where
 
 -- Holds if the replaced bytes contain every change from the old text (first argument) to the new
 -- one. They are None if the old text isn't known. They may be None if the text is unchanged.
-abbrev pub Covers : Option (List ℕ) → Option (List ℕ) → Option ReplacedBytes → Type 0
-Covers None new hull = hull ≡ None
-Covers (Some old) new None = new ≡ Some old
-Covers (Some old) new (Some r) =
+abbrev pub CoversAllChanges : Option (List ℕ) → Option (List ℕ) → Option ReplacedBytes → Type 0
+CoversAllChanges None new hull = hull ≡ None
+CoversAllChanges (Some old) new None = new ≡ Some old
+CoversAllChanges (Some old) new (Some r) =
     (text : List ℕ) × (new ≡ Some text) × IsChangedAt old text r
 
 -- Returns the text of the document with this uri, or None if the document isn't open or is out of

@@ -16,13 +16,13 @@ use Rattle.ob0_text.specs.Units.{unit_code}
 use Rattle.ob0_text.specs.Texts.{Line, lines, ends_line, byte_len}
 
 -- Returns a line's characters followed by its ending.
-abbrev pub with_ending : Line → List ℕ
-with_ending l = l.body ++ l.ending
+abbrev pub line_with_ending : Line → List ℕ
+line_with_ending l = l.body ++ l.ending
 
 -- Returns the byte offsets at which consecutive lines start, if the first of them starts at `at`.
 unfoldable pub starts_from : ℕ → List Line → List ℕ
 starts_from at [] = []
-starts_from at (l ∷ ls) = at ∷ starts_from (at + byte_len (with_ending l)) ls
+starts_from at (l ∷ ls) = at ∷ starts_from (at + byte_len (line_with_ending l)) ls
 
 -- Returns the byte offsets at which the lines of a text start.
 abbrev pub line_starts : List ℕ → List ℕ
@@ -38,18 +38,18 @@ starts_after at (b ∷ bs) next =
     else starts_after (suc at) bs next
 
 -- Holds if each number of the list is below the bound.
-abbrev pub AllUnder : ℕ → List ℕ → Type 0
-AllUnder bound ns = (k : ℕ) → k < length ns → slice_index ns k < bound
+abbrev pub AreAllBelow : ℕ → List ℕ → Type 0
+AreAllBelow bound ns = (k : ℕ) → k < length ns → slice_index ns k < bound
 
 -- Holds if each number of the list is at least the bound.
-abbrev pub AllFrom : ℕ → List ℕ → Type 0
-AllFrom bound ns = (k : ℕ) → k < length ns → bound ≤ slice_index ns k
+abbrev pub AreAllAtLeast : ℕ → List ℕ → Type 0
+AreAllAtLeast bound ns = (k : ℕ) → k < length ns → bound ≤ slice_index ns k
 
 -- Holds if `count` is the number of starts below the offset: however the list is split into starts
 -- below the offset and starts at or above it, the first part has this length.
 abbrev pub IsCountBefore : List ℕ → ℕ → ℕ → Type 0
 IsCountBefore starts offset count =
-    (front back : List ℕ) → starts ≡ front ++ back → AllUnder offset front → AllFrom offset back
+    (front back : List ℕ) → starts ≡ front ++ back → AreAllBelow offset front → AreAllAtLeast offset back
     → count ≡ length front
 
 -- A text, and the unit in which its positions are counted.
@@ -66,16 +66,16 @@ text_code =
 -- Returns the line starts that two lists store. The first list has the starts of the first lines.
 -- The second has the other lines, the last one first: the distances of their starts from the end of
 -- a text of length `len`.
-abbrev pub starts_in : ℕ → List ℕ → List ℕ → List ℕ
-starts_in len front back = front ++ map (λ d. len - d) (reverse back)
+abbrev pub stored_starts : ℕ → List ℕ → List ℕ → List ℕ
+stored_starts len front back = front ++ map (λ d. len - d) (reverse back)
 
 -- The table of a text's lines: the byte offsets at which they start, and the text's length in
 -- bytes.
-pub record Table : Type 0 where
+pub record LineStartTable : Type 0 where
   pub starts : List ℕ
   pub len : ℕ
 
 -- Holds if the table has the line starts of the text and its length in bytes.
-pub record HasLines (text : List ℕ) (t : Table) : Type 0 where
+pub record HasLines (text : List ℕ) (t : LineStartTable) : Type 0 where
   pub starts : t.starts ≡ line_starts (chars text)
   pub len : t.len ≡ length text

@@ -18,19 +18,19 @@ at line character = record { line = line; character = character }
 
 -- Returns the position in the whole text for `p`, which is relative to the place with this line and
 -- character.
-abbrev pub counted_from : ℕ → ℕ → Position → Position
-counted_from line character p =
+abbrev pub absolute_position : ℕ → ℕ → Position → Position
+absolute_position line character p =
     if p.line == 0 then at line (character + p.character) else at (line + p.line) p.character
 
 -- Returns the position `p` of the whole text, relative to the place with this line and character.
--- This is the inverse of `counted_from`.
-abbrev pub left_of : ℕ → ℕ → Position → Position
-left_of line character p =
+-- This is the inverse of `absolute_position`.
+abbrev pub relative_position : ℕ → ℕ → Position → Position
+relative_position line character p =
     if p.line == line then at 0 (p.character - character) else at (p.line - line) p.character
 
 -- Holds if the position `p` equals `q` or comes after it.
-abbrev pub IsFrom : Position → Position → Type 0
-IsFrom q p = (q.line < p.line) ⊎ ((q.line ≡ p.line) × (q.character ≤ p.character))
+abbrev pub IsAtOrAfter : Position → Position → Type 0
+IsAtOrAfter q p = (q.line < p.line) ⊎ ((q.line ≡ p.line) × (q.character ≤ p.character))
 
 -- Holds if `rest` is the text without its first `offset` bytes, and consists of whole characters.
 pub record IsRest (text rest : List ℕ) (offset : ℕ) : Type 0 where
@@ -48,12 +48,12 @@ pub record IsCounted (width : ℕ → ℕ) (text rest : List ℕ) (offset line c
   pub characters_fit : character + length rest ≤ length text
   pub same : (o : ℕ)
       → offset ≤ o
-      → counted_from line character (position_of width (chars rest) (o - offset))
+      → absolute_position line character (position_of width (chars rest) (o - offset))
       ≡ position_of width (chars text) o
 
 -- Holds if the positions of all later offsets can be counted from this place.
-abbrev pub IsPlace : (ℕ → ℕ) → List ℕ → PassState → Type 0
-IsPlace width text p = IsCounted width text (drop p.offset text) p.offset p.line p.character
+abbrev pub CanCountFrom : (ℕ → ℕ) → List ℕ → PassState → Type 0
+CanCountFrom width text p = IsCounted width text (drop p.offset text) p.offset p.line p.character
 
 -- Holds if a pass that looks for the position `sought` has reached an offset at or before it. The
 -- offset of that position, and of each later one, can be found from this line and character and the
@@ -61,14 +61,14 @@ IsPlace width text p = IsCounted width text (drop p.offset text) p.offset p.line
 pub record IsSought (width : ℕ → ℕ) (text : List ℕ) (sought : Position) (rest : List ℕ)
     (offset line character : ℕ) : Type 0 where
   pub rest_is : IsRest text rest offset
-  pub not_past : IsFrom (at line character) sought
+  pub not_past : IsAtOrAfter (at line character) sought
   pub same : (p : Position)
-      → IsFrom sought p
-      → offset + byte_len (before width (chars rest) (left_of line character p))
+      → IsAtOrAfter sought p
+      → offset + byte_len (before width (chars rest) (relative_position line character p))
       ≡ byte_len (before width (chars text) p)
 
 -- Holds if the offsets of the position `sought`, and of each later position, can be found from this
 -- place.
-abbrev pub IsPlaceBefore : (ℕ → ℕ) → List ℕ → Position → PassState → Type 0
-IsPlaceBefore width text sought p =
+abbrev pub CanSeekFrom : (ℕ → ℕ) → List ℕ → Position → PassState → Type 0
+CanSeekFrom width text sought p =
     IsSought width text sought (drop p.offset text) p.offset p.line p.character

@@ -8,8 +8,8 @@ use Rattle.ob0_text.specs.declared.stretches.Stretch.{Stretch}
 use Rattle.ob0_text.specs.Texts.{LF, CR}
 
 -- Holds if the character or byte is neither LF nor CR.
-abbrev pub EndsNoLine : ℕ → Type 0
-EndsNoLine c = (c == LF || c == CR) ≡ false
+abbrev pub IsNotLineBreak : ℕ → Type 0
+IsNotLineBreak c = (c == LF || c == CR) ≡ false
 
 -- Returns the number of UTF-16 units that are counted at a byte of UTF-8: 1 at the first byte of a
 -- character, 2 if that character has four bytes, and 0 at any other byte.
@@ -19,7 +19,7 @@ utf16_units_at b =
 
 -- Holds if no character of the list is LF or CR, and their widths add up to `units`.
 pub record AreOfALine (width : ℕ → ℕ) (cs : List ℕ) (units : ℕ) : Type 0 where
-  pub of_one : All EndsNoLine cs
+  pub of_one : All IsNotLineBreak cs
   pub counted : sum_by width cs ≡ units
 
 -- Holds if `s` consists of whole characters of one line that begin at the byte offset `from`. It

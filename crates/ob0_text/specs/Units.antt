@@ -18,10 +18,10 @@ is_utf8 Utf16 = false
 is_utf8 Utf8 = true
 
 -- Returns UTF-8 if the argument is true, otherwise UTF-16.
-abbrev pub utf8_where : Bool → unit.Unit
-utf8_where false = Utf16
-utf8_where true = Utf8
+abbrev pub utf8_if : Bool → unit.Unit
+utf8_if false = Utf16
+utf8_if true = Utf8
 
 -- The encoding (`Coded`) of a unit, from which the encodings of texts and documents are made.
 abbrev pub unit_code : Coded unit.Unit
-unit_code = code_by Bool coded_bool is_utf8 utf8_where (elim [ Utf16 ↦ refl | Utf8 ↦ refl ])
+unit_code = code_by Bool coded_bool is_utf8 utf8_if (elim [ Utf16 ↦ refl | Utf8 ↦ refl ])

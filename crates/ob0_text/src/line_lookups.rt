@@ -1,6 +1,6 @@
 //! Looks up offsets and positions with the table of a text's lines.
 //!
-//! `starts_before` is a binary search. Its contract covers each split of the table into offsets
+//! `count_starts_before` is a binary search. Its contract covers each split of the table into offsets
 //! below a bound and offsets at or above it: the result is the length of the first part. In the
 //! loop this length stays between `low` and `high` (`in_front`, `not_in_front` in `Halving`). A
 //! pass may begin at the start of any line (`line_counted`, `line_sought` in `LinePlaces`). So the
@@ -8,43 +8,45 @@
 //!
 //! In a list of offsets or positions, each look-up continues at the previous place if the next one
 //! follows in the same line or less than 32 bytes later. Otherwise it starts at the beginning of
-//! the line, which the table gives (`nearest_before`, `place_after`). So places in one line take
+//! the line, which the table gives (`nearest_place_before`, `place_from_last`). So places in one line take
 //! time only for the text between them, and each other place takes a binary search. In one long
 //! line this is a single pass, as in the plain store `Whole`. If both ends of a changed range are
-//! in one line, one pass finds them (`bounds_in`).
+//! in one line, one pass finds them (`range_offsets`).
 
 ghost use Rattle.std.specs.Prelude.{◌≡◌, ◌+◌, ◌-◌, ◌<◌, ◌≤◌, IfOk, length, map, min, slice_get, slice_index};
 ghost use Rattle.std.specs.Option.{option_map};
 ghost use Rattle.std.specs.Str.{chars};
 ghost use Rattle.ob0_text.specs.Texts.{lines, offset_of, position_of};
 ghost use Rattle.ob0_text.specs.Units.{width_of};
-ghost use Rattle.ob0_text.specs.Places.{IsPlace, IsPlaceBefore};
+ghost use Rattle.ob0_text.specs.Places.{CanCountFrom, CanSeekFrom};
 ghost use Rattle.ob0_text.specs.declared.position_types.Unit.{Unit};
-ghost use Rattle.ob0_text.specs.LineStarts.{HasLines, with_ending};
+ghost use Rattle.ob0_text.specs.LineStarts.{HasLines, line_with_ending};
 ghost use Rattle.ob0_text.specs.Stretches.{IsPieceOfLine};
 
-use crate::counted_pieces::{CountedPiece, counted_to};
+use crate::counted_pieces::{CountedPiece, count_up_to};
 use crate::line_table::LineTable;
-use crate::passes::{PassState, START, is_from, onward_to_offset, onward_to_position, position_at};
+use crate::passes::{
+    PassState, START, advance_to_offset, advance_to_position, is_at_or_after, position_at,
+};
 use crate::position_types::{Position, Range, Unit};
 use std::alloc::{AllocError, Global};
 
 /// The distance in bytes below which an offset is near: a pass continues to a near offset without a
 /// look-up in the table.
-const NEAR: usize = 32;
+const NEAR_BYTES: usize = 32;
 
 /// Returns the byte offset of a position.
 pub fn offset_in(text: &str, table: &LineTable, unit: Unit, position: Position) -> usize
     requires { HasLines text.now table.now }
     ensures { result ≡ offset_of (width_of unit) (chars text.now) position }
 {
-    place_in(text, table, unit, position).offset
+    place_of_position(text, table, unit, position).offset
 }
 
 /// The byte offsets at which a range starts and ends, and the counted part of the line in which the
 /// range starts.
 #[derive(Clone, Copy, Drop)]
-pub struct Bounds {
+pub struct RangeOffsets {
     pub start: usize,
     pub end: usize,
     pub counted: CountedPiece,
@@ -53,13 +55,13 @@ pub struct Bounds {
 /// Returns the byte offsets of a range's start and end. The search for the start begins at the part
 /// of the line that was counted last (`last`). If the range ends in the line in which it starts,
 /// the search for the end begins at the start.
-pub fn bounds_in(
+pub fn range_offsets(
     text: &str,
     table: &LineTable,
     unit: Unit,
     last: CountedPiece,
     range: Range,
-) -> Bounds
+) -> RangeOffsets
     requires lines { HasLines text.now table.now }
     requires last { IsPieceOfLine (width_of unit) text.now last.start last.counted }
     ensures start { result.start ≡ offset_of (width_of unit) (chars text.now) range.start }
@@ -67,14 +69,14 @@ pub fn bounds_in(
     ensures counted { IsPieceOfLine (width_of unit) text.now result.counted.start
         result.counted.counted }
 {
-    let counted = counted_before(text, table, unit, last, range.start);
+    let counted = counted_piece_before(text, table, unit, last, range.start);
     let start = place_after_counted(text, table, unit, counted, range.start);
-    let end = if range.start.line == range.end.line && is_from(range.start, range.end) {
-        onward_to_position(text, unit, start, range.end)
+    let end = if range.start.line == range.end.line && is_at_or_after(range.start, range.end) {
+        advance_to_position(text, unit, start, range.end)
     } else {
-        place_in(text, table, unit, range.end)
+        place_of_position(text, table, unit, range.end)
     };
-    Bounds {
+    RangeOffsets {
         start: start.offset,
         end: end.offset,
         counted,
@@ -83,7 +85,7 @@ pub fn bounds_in(
 
 /// Counts a piece of the position's line that ends at or shortly before the position. Counting
 /// begins at the piece that was counted last (`last`).
-fn counted_before(
+fn counted_piece_before(
     text: &str,
     table: &LineTable,
     unit: Unit,
@@ -94,13 +96,13 @@ fn counted_before(
     requires last { IsPieceOfLine (width_of unit) text.now last.start last.counted }
     ensures { IsPieceOfLine (width_of unit) text.now result.start result.counted }
 {
-    let start = line_place(table, position.line);
+    let start = line_start_place(table, position.line);
     if start.offset > text.len() {
         return last;
     }
     CountedPiece {
         start: start.offset,
-        counted: counted_to(text, unit, start.offset, last, position.character),
+        counted: count_up_to(text, unit, start.offset, last, position.character),
     }
 }
 
@@ -115,33 +117,33 @@ fn place_after_counted(
 ) -> PassState
     requires lines { HasLines text.now table.now }
     requires counted { IsPieceOfLine (width_of unit) text.now counted.start counted.counted }
-    ensures place { IsPlaceBefore (width_of unit) text.now position result }
+    ensures place { CanSeekFrom (width_of unit) text.now position result }
     ensures offset { result.offset ≡ offset_of (width_of unit) (chars text.now) position }
 {
-    let start = line_place(table, position.line);
+    let start = line_start_place(table, position.line);
     if start.line != position.line
         || start.offset != counted.start
         || counted.counted.units > position.character
     {
-        return place_in(text, table, unit, position);
+        return place_of_position(text, table, unit, position);
     }
     let near = PassState {
         offset: counted.counted.end,
         line: start.line,
         character: counted.counted.units,
     };
-    onward_to_position(text, unit, near, position)
+    advance_to_position(text, unit, near, position)
 }
 
 /// Returns the place of a position. Its line is looked up in the table, and the characters of the
 /// line are counted.
-fn place_in(text: &str, table: &LineTable, unit: Unit, position: Position) -> PassState
+fn place_of_position(text: &str, table: &LineTable, unit: Unit, position: Position) -> PassState
     requires { HasLines text.now table.now }
-    ensures place { IsPlaceBefore (width_of unit) text.now position result }
+    ensures place { CanSeekFrom (width_of unit) text.now position result }
     ensures offset { result.offset ≡ offset_of (width_of unit) (chars text.now) position }
 {
-    let start = line_place(table, position.line);
-    onward_to_position(text, unit, start, position)
+    let start = line_start_place(table, position.line);
+    advance_to_position(text, unit, start, position)
 }
 
 /// Returns the position of a byte offset. The line is found by binary search.
@@ -149,8 +151,8 @@ pub fn position_in(text: &str, table: &LineTable, unit: Unit, offset: usize) -> 
     requires { HasLines text.now table.now }
     ensures { result ≡ position_of (width_of unit) (chars text.now) offset }
 {
-    let place = line_before(text, table, offset);
-    position_at(onward_to_offset(text, unit, place, offset))
+    let place = line_start_before(text, table, offset);
+    position_at(advance_to_offset(text, unit, place, offset))
 }
 
 /// Returns the positions of byte offsets, in order. Each is counted from the previous place or from
@@ -169,8 +171,8 @@ pub fn positions_in(
     let mut positions = Vec::with_capacity(alloc, offsets.len())?;
     let mut place = START;
     for offset in offsets {
-        let from = nearest_before(text, table, place, *offset);
-        place = onward_to_offset(text, unit, from, *offset);
+        let from = nearest_place_before(text, table, place, *offset);
+        place = advance_to_offset(text, unit, from, *offset);
         positions.push(position_at(place))?;
     }
     Ok(positions)
@@ -193,7 +195,7 @@ pub fn offsets_in(
     let mut place = START;
     let mut last = position_at(START);
     for position in positions {
-        place = place_after(text, table, unit, last, place, *position);
+        place = place_from_last(text, table, unit, last, place, *position);
         last = *position;
         offsets.push(place.offset)?;
     }
@@ -202,7 +204,7 @@ pub fn offsets_in(
 
 /// Returns the place of a position. If the previous position `last` is in the same line and not
 /// after it, the search begins at the place of `last`.
-fn place_after(
+fn place_from_last(
     text: &str,
     table: &LineTable,
     unit: Unit,
@@ -211,29 +213,29 @@ fn place_after(
     position: Position,
 ) -> PassState
     requires lines { HasLines text.now table.now }
-    requires last { IsPlaceBefore (width_of unit) text.now last place }
-    ensures place { IsPlaceBefore (width_of unit) text.now position result }
+    requires last { CanSeekFrom (width_of unit) text.now last place }
+    ensures place { CanSeekFrom (width_of unit) text.now position result }
     ensures offset { result.offset ≡ offset_of (width_of unit) (chars text.now) position }
 {
-    if last.line == position.line && is_from(last, position) {
-        onward_to_position(text, unit, place, position)
+    if last.line == position.line && is_at_or_after(last, position) {
+        advance_to_position(text, unit, place, position)
     } else {
-        place_in(text, table, unit, position)
+        place_of_position(text, table, unit, position)
     }
 }
 
 /// Returns the place from which an offset is counted: the last place of a pass if that is near or
 /// in the same line, otherwise the start of the offset's line.
-fn nearest_before(text: &str, table: &LineTable, place: PassState, offset: usize) -> PassState
+fn nearest_place_before(text: &str, table: &LineTable, place: PassState, offset: usize) -> PassState
     requires { HasLines text.now table.now }
-    ensures place { (unit : Unit) → IsPlace (width_of unit) text.now place
-        → IsPlace (width_of unit) text.now result }
+    ensures place { (unit : Unit) → CanCountFrom (width_of unit) text.now place
+        → CanCountFrom (width_of unit) text.now result }
     ensures following { result.offset ≤ offset }
 {
-    if place.offset <= offset && offset - place.offset < NEAR {
+    if place.offset <= offset && offset - place.offset < NEAR_BYTES {
         return place;
     }
-    let start = line_before(text, table, offset);
+    let start = line_start_before(text, table, offset);
     if start.offset <= place.offset && place.offset <= offset {
         return place;
     }
@@ -241,31 +243,31 @@ fn nearest_before(text: &str, table: &LineTable, place: PassState, offset: usize
 }
 
 /// Returns the place at which the line of a byte offset starts. The line is found by binary search.
-fn line_before(text: &str, table: &LineTable, offset: usize) -> PassState
+fn line_start_before(text: &str, table: &LineTable, offset: usize) -> PassState
     requires { HasLines text.now table.now }
-    ensures place { (unit : Unit) → IsPlace (width_of unit) text.now result }
+    ensures place { (unit : Unit) → CanCountFrom (width_of unit) text.now result }
     ensures following { result.offset ≤ offset }
 {
-    let started = table.starts_before(offset.min(text.len()) + 1);
-    line_place(table, started as u64 - 1)
+    let started = table.count_starts_before(offset.min(text.len()) + 1);
+    line_start_place(table, started as u64 - 1)
 }
 
 /// Returns line `k`, counted from 0, with its ending. Returns None if the text has no such line.
 pub fn line_in<'a>(text: &'a str, table: &LineTable, k: usize) -> Option<&'a str>
     requires { HasLines text.now table.now }
     ensures { option_map (λ line. chars line.now) result
-        ≡ option_map with_ending (slice_get (lines (chars text.now)) k) }
+        ≡ option_map line_with_ending (slice_get (lines (chars text.now)) k) }
 {
     if k >= table.count() {
         return None;
     }
-    let end = end_of(table, text.len(), k);
+    let end = line_end_offset(table, text.len(), k);
     Some(&text[table.at(k)..end])
 }
 
 /// Returns the byte offset at which line `k` ends: the start of the next line, or the end of the
 /// text.
-fn end_of(table: &LineTable, len: usize, k: usize) -> usize
+fn line_end_offset(table: &LineTable, len: usize, k: usize) -> usize
     requires { k < length table.now.starts }
     ensures next { k + 1 < length table.now.starts → result ≡ slice_index table.now.starts (k + 1) }
     ensures last { length table.now.starts ≤ k + 1 → result ≡ len }
@@ -275,7 +277,7 @@ fn end_of(table: &LineTable, len: usize, k: usize) -> usize
 }
 
 /// Returns the place at which a line starts. A number after the last line means the last line.
-fn line_place(table: &LineTable, line: u64) -> PassState
+fn line_start_place(table: &LineTable, line: u64) -> PassState
     requires { 0 < length table.now.starts }
     ensures offset { result.offset ≡ slice_index table.now.starts result.line }
     ensures line { result.line ≡ min line (length table.now.starts - 1) }

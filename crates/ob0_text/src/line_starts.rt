@@ -8,18 +8,18 @@ ghost use Rattle.ob0_text.specs.LineStarts.{line_starts, starts_after};
 use std::alloc::{AllocError, Global};
 
 /// Returns the byte offsets at which the lines of a text start.
-pub fn starts_of(alloc: Global, text: &str) -> Result<Vec<usize>, AllocError>
+pub fn line_starts_of(alloc: Global, text: &str) -> Result<Vec<usize>, AllocError>
     ensures { IfOk result (λ starts. starts.items ≡ line_starts (chars text.now)) }
 {
     let mut starts = Vec::new(alloc);
-    add_starts(&mut starts, 0, b'\n', text.as_bytes(), &[])?;
+    add_line_starts(&mut starts, 0, b'\n', text.as_bytes(), &[])?;
     Ok(starts)
 }
 
 /// Returns the offsets, from the start of `new` to its end, at which a line starts if `new`
 /// replaces the bytes `from..to` of the text. The byte before the change and the bytes after it are
 /// considered as well.
-pub fn starts_in_change(
+pub fn line_starts_in_change(
     alloc: Global,
     text: &str,
     from: usize,
@@ -33,7 +33,7 @@ pub fn starts_in_change(
 {
     let bytes = text.as_bytes();
     let mut starts = Vec::new(alloc);
-    add_starts(
+    add_line_starts(
         &mut starts,
         from,
         byte_before(bytes, from),
@@ -59,7 +59,7 @@ fn byte_before(bytes: &[u8], offset: usize) -> u8
 /// Appends the offsets at which a line starts, from the start of `bytes` to its end, both included.
 /// `bytes` begins at the offset `from`, after the byte `before`. The bytes `following` come after
 /// `bytes`.
-fn add_starts(
+fn add_line_starts(
     starts: &mut Vec<usize>,
     from: usize,
     before: u8,
@@ -74,13 +74,13 @@ fn add_starts(
     let mut last = before;
     let mut at = from;
     for byte in bytes {
-        if parts_lines(last, Some(*byte)) {
+        if separates_lines(last, Some(*byte)) {
             starts.push(at)?;
         }
         last = *byte;
         at += 1;
     }
-    if parts_lines(last, following.first().copied()) {
+    if separates_lines(last, following.first().copied()) {
         starts.push(at)?;
     }
     Ok(())
@@ -90,7 +90,7 @@ fn add_starts(
 /// starts between CR and LF.
 #[tactic(auto, unfolding(crate::specs::Texts::ends_line, crate::specs::Texts::starts_with_lf))]
 #[inline(always)]
-fn parts_lines(last: u8, next: Option<u8>) -> bool
+fn separates_lines(last: u8, next: Option<u8>) -> bool
     ensures { result ≡ ends_line last (option_to_list next) }
 {
     // Most bytes of a text are greater than CR, so for them this comparison is enough.

@@ -11,10 +11,12 @@ ghost use Rattle.std.specs.Option.{option_map};
 ghost use Rattle.std.specs.Str.{chars};
 ghost use Rattle.ob0_text.specs.Texts.{lines, offset_of};
 ghost use Rattle.ob0_text.specs.Units.{width_of};
-ghost use Rattle.ob0_text.specs.LineStarts.{with_ending};
+ghost use Rattle.ob0_text.specs.LineStarts.{line_with_ending};
 
-use crate::counted_pieces::{CountedPiece, nothing_counted};
-use crate::line_lookups::{bounds_in, line_in, offset_in, offsets_in, position_in, positions_in};
+use crate::counted_pieces::{CountedPiece, empty_counted_piece};
+use crate::line_lookups::{
+    line_in, offset_in, offsets_in, position_in, positions_in, range_offsets,
+};
 use crate::line_table::LineTable;
 use crate::position_types::{Position, Range, Unit};
 use crate::replaced_bytes::ReplacedBytes;
@@ -53,7 +55,7 @@ impl Lines {
     /// Only the last line has no ending.
     pub fn line(&self, k: usize) -> Option<&str>
         ensures { option_map (λ line. chars line.now) result
-            ≡ option_map with_ending (slice_get (lines self.now.text) k) }
+            ≡ option_map line_with_ending (slice_get (lines self.now.text) k) }
     {
         line_in(self.text.as_str(), &self.table, k)
     }
@@ -71,7 +73,7 @@ impl TextStore for Lines {
             text,
             table,
             unit,
-            counted: nothing_counted(),
+            counted: empty_counted_piece(),
         })
     }
 
@@ -100,7 +102,7 @@ impl TextStore for Lines {
     }
 
     fn replace_at(&mut self, range: Range, text: &str) -> Result<ReplacedBytes, AllocError> {
-        let found = bounds_in(
+        let found = range_offsets(
             self.text.as_str(),
             &self.table,
             self.unit,
@@ -109,7 +111,7 @@ impl TextStore for Lines {
         );
         let (from, to) = (found.start.min(found.end), found.start.max(found.end));
         self.table.replace(&mut self.text, from, to, text)?;
-        self.counted = found.counted.up_to(from);
+        self.counted = found.counted.kept_if_before(from);
         Ok(ReplacedBytes {
             from,
             removed: to - from,

@@ -3,20 +3,20 @@
 //! Line starts before the last change are kept as offsets. The starts after it are kept as
 //! distances from the text's end, last line first. So a change doesn't alter the distances of the
 //! starts after it (`with_the_end` in `LineTables`). A change takes time for the starts that it
-//! adds or drops, and for the starts between it and the previous change. `move_left` and
-//! `move_right` move these from one part to the other; their clauses say that no start changes. If
+//! adds or drops, and for the starts between it and the previous change. `move_starts_to_back` and
+//! `move_starts_to_front` move these from one part to the other; their clauses say that no start changes. If
 //! changes alternate between two distant places, each change moves all starts between them.
 //!
-//! `put` allocates all memory first: for the new starts, for both parts of the table, then for the
+//! `replace_untrimmed` allocates all memory first: for the new starts, for both parts of the table, then for the
 //! text. After that no allocation can fail, as the contracts of `reserve` and `extend_from_slice`
 //! say. If an allocation fails while starts are moved, the table is split at another line but is
 //! still the text's. At the end `replace` releases spare memory (`spare_room.rt`).
 
 ghost use Rattle.std.specs.Prelude.{◌≡◌, ◌+◌, ◌<◌, ◌≤◌, ◌++◌, IfOk, OnOk, OnErr, drop, length, min, slice_index, string_bytes, take};
 ghost use Rattle.std.specs.Str.{IsCharBoundary};
-ghost use Rattle.ob0_text.specs.LineStarts.{AllUnder, HasLines, IsCountBefore, starts_in};
+ghost use Rattle.ob0_text.specs.LineStarts.{AreAllBelow, HasLines, IsCountBefore, stored_starts};
 
-use crate::line_starts::{starts_in_change, starts_of};
+use crate::line_starts::{line_starts_in_change, line_starts_of};
 use crate::spare_room::{trim_list, trim_text};
 use std::alloc::{AllocError, Global};
 use std::marker::Model;
@@ -32,12 +32,12 @@ pub struct LineTable {
 }
 
 impl Model for LineTable {
-    ghost use Rattle.ob0_text.specs.LineStarts.{Table, starts_in};
+    ghost use Rattle.ob0_text.specs.LineStarts.{LineStartTable, stored_starts};
 
-    ghost Value = { Table };
+    ghost Value = { LineStartTable };
 
     ghost view = { λ t. record {
-      starts = starts_in t.len t.front.items t.back.items;
+      starts = stored_starts t.len t.front.items t.back.items;
       len = t.len;
     } };
 }
@@ -47,7 +47,7 @@ impl LineTable {
     pub fn of(alloc: Global, text: &str) -> Result<LineTable, AllocError>
         ensures { IfOk result (HasLines text.now) }
     {
-        let front = starts_of(alloc, text)?;
+        let front = line_starts_of(alloc, text)?;
         Ok(LineTable {
             front,
             back: Vec::new(alloc),
@@ -76,7 +76,7 @@ impl LineTable {
     }
 
     /// Returns the number of lines that start before an offset, by binary search.
-    pub fn starts_before(&self, offset: usize) -> usize
+    pub fn count_starts_before(&self, offset: usize) -> usize
         ensures bound { result ≤ length self.now.starts }
         ensures count { IsCountBefore self.now.starts offset result }
     {
@@ -112,7 +112,7 @@ impl LineTable {
             ≡ (take from (string_bytes text.old) ++ new.now) ++ drop to (string_bytes text.old)) }
         ensures err { OnErr result (string_bytes text.new ≡ string_bytes text.old) }
     {
-        self.put(text, from, to, new)?;
+        self.replace_untrimmed(text, from, to, new)?;
         trim_text(text);
         self.trim();
         Ok(())
@@ -128,7 +128,7 @@ impl LineTable {
 
     /// Replaces the bytes `from..to` of the text by `new`, and updates this table of the text. If
     /// an allocation fails, the text is unchanged.
-    fn put(
+    fn replace_untrimmed(
         &mut self,
         text: &mut String,
         from: usize,
@@ -144,12 +144,12 @@ impl LineTable {
             ≡ (take from (string_bytes text.old) ++ new.now) ++ drop to (string_bytes text.old)) }
         ensures err { OnErr result (string_bytes text.new ≡ string_bytes text.old) }
     {
-        let kept = self.starts_before(from);
-        let moved = self.starts_before(to + 1);
+        let kept = self.count_starts_before(from);
+        let moved = self.count_starts_before(to + 1);
         let alloc = *self.front.allocator();
-        let added = starts_in_change(alloc, text.as_str(), from, to, new)?;
-        move_left(&mut self.front, &mut self.back, self.len, kept)?;
-        move_right(&mut self.front, &mut self.back, self.len, kept)?;
+        let added = line_starts_in_change(alloc, text.as_str(), from, to, new)?;
+        move_starts_to_back(&mut self.front, &mut self.back, self.len, kept)?;
+        move_starts_to_front(&mut self.front, &mut self.back, self.len, kept)?;
         self.front.reserve(added.len())?;
         text.replace_range(from..to, new)?;
         let gone = moved.saturating_sub(kept);
@@ -161,15 +161,15 @@ impl LineTable {
 
 /// Moves starts from the front part to the back part until at most `count` are left in the front.
 /// The starts of the table don't change, even if an allocation fails.
-fn move_left(
+fn move_starts_to_back(
     front: &mut Vec<usize>,
     back: &mut Vec<usize>,
     len: usize,
     count: usize,
 ) -> Result<(), AllocError>
-    requires { AllUnder (len + 1) (starts_in len front.old.items back.old.items) }
-    ensures same { starts_in len front.new.items back.new.items
-        ≡ starts_in len front.old.items back.old.items }
+    requires { AreAllBelow (len + 1) (stored_starts len front.old.items back.old.items) }
+    ensures same { stored_starts len front.new.items back.new.items
+        ≡ stored_starts len front.old.items back.old.items }
     ensures left { OnOk result (length front.new.items ≡ min count (length front.old.items)) }
 {
     let gone = front.len().saturating_sub(count);
@@ -185,16 +185,16 @@ fn move_left(
 
 /// Moves starts from the back part to the front part until the front has `count` of them. The
 /// starts of the table don't change, even if an allocation fails.
-fn move_right(
+fn move_starts_to_front(
     front: &mut Vec<usize>,
     back: &mut Vec<usize>,
     len: usize,
     count: usize,
 ) -> Result<(), AllocError>
-    ensures same { starts_in len front.new.items back.new.items
-        ≡ starts_in len front.old.items back.old.items }
+    ensures same { stored_starts len front.new.items back.new.items
+        ≡ stored_starts len front.old.items back.old.items }
     ensures left { OnOk result (length front.old.items ≤ count
-        → count ≤ length (starts_in len front.old.items back.old.items)
+        → count ≤ length (stored_starts len front.old.items back.old.items)
         → length front.new.items ≡ count) }
 {
     let added = count.saturating_sub(front.len());

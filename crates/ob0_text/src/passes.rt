@@ -1,10 +1,10 @@
 //! Converts offsets to positions, and positions to offsets, in passes over a text.
 //!
 //! Both passes first advance by whole stretches of a line. Then the pass towards an offset advances
-//! over ASCII bytes, even across lines (`past_ascii`), because the places of edits are close
+//! over ASCII bytes, even across lines (`skip_ascii`), because the places of edits are close
 //! together. It decodes only CR and characters outside ASCII. The pass towards a position decodes
 //! each character: in the store `Lines` fewer than 64 characters of the line are left. Each pass
-//! preserves one invariant (`IsPlace`, `IsPlaceBefore`). `StretchSteps` proves that a whole stretch
+//! preserves one invariant (`CanCountFrom`, `CanSeekFrom`). `StretchSteps` proves that a whole stretch
 //! preserves it, from the step over one character.
 
 ghost use Rattle.std.specs.Prelude.{◌≡◌, ◌↔◌, ◌==◌, ◌||◌, ◌+◌, ◌-◌, ◌<◌, ◌≤◌, IfOk, IfSome, IsTrue, None, map};
@@ -12,7 +12,7 @@ ghost use Rattle.std.specs.Str.{IsCharBoundary, chars};
 ghost use Rattle.ob0_text.specs.Texts.{LF, CR, ends_line, offset_of, position_of};
 ghost use Rattle.ob0_text.specs.Units.{width_of};
 ghost use Rattle.ob0_text.specs.Stretches.{IsStretch};
-ghost use Rattle.ob0_text.specs.Places.{at, IsFrom, IsPlace, IsPlaceBefore};
+ghost use Rattle.ob0_text.specs.Places.{at, IsAtOrAfter, CanCountFrom, CanSeekFrom};
 
 use crate::position_types::{Position, Unit};
 use crate::stretches::{Stretch, next_stretch};
@@ -50,7 +50,7 @@ pub fn positions_of(
         if *offset < place.offset {
             place = START;
         }
-        place = onward_to_offset(text, unit, place, *offset);
+        place = advance_to_offset(text, unit, place, *offset);
         positions.push(position_at(place))?;
     }
     Ok(positions)
@@ -70,10 +70,10 @@ pub fn offsets_of(
     let mut place = START;
     let mut last = position_at(START);
     for position in positions {
-        if !is_from(last, *position) {
+        if !is_at_or_after(last, *position) {
             place = START;
         }
-        place = onward_to_position(text, unit, place, *position);
+        place = advance_to_position(text, unit, place, *position);
         last = *position;
         offsets.push(place.offset)?;
     }
@@ -84,14 +84,14 @@ pub fn offsets_of(
 pub fn position_of(text: &str, unit: Unit, offset: usize) -> Position
     ensures { result ≡ position_of (width_of unit) (chars text.now) offset }
 {
-    position_at(onward_to_offset(text, unit, START, offset))
+    position_at(advance_to_offset(text, unit, START, offset))
 }
 
 /// Returns the byte offset of a position. Its character is counted in `unit`.
 pub fn offset_of(text: &str, unit: Unit, position: Position) -> usize
     ensures { result ≡ offset_of (width_of unit) (chars text.now) position }
 {
-    onward_to_position(text, unit, START, position).offset
+    advance_to_position(text, unit, START, position).offset
 }
 
 /// Returns the position of the place that a pass has reached.
@@ -105,8 +105,8 @@ pub fn position_at(place: PassState) -> Position
 }
 
 /// Returns true if `position` equals `from` or comes after it.
-pub fn is_from(from: Position, position: Position) -> bool
-    ensures { IsTrue result ↔ IsFrom from position }
+pub fn is_at_or_after(from: Position, position: Position) -> bool
+    ensures { IsTrue result ↔ IsAtOrAfter from position }
 {
     from.line < position.line
         || (from.line == position.line && from.character <= position.character)
@@ -140,28 +140,28 @@ fn width(c: char, unit: Unit) -> u64
 /// Advances from the place `from` to a byte offset, and returns the place there. If the offset is
 /// inside a character, the result is the place before that character. If the offset is after the
 /// text's end, it is the end.
-pub fn onward_to_offset(text: &str, unit: Unit, from: PassState, offset: usize) -> PassState
-    requires place { IsPlace (width_of unit) text.now from }
+pub fn advance_to_offset(text: &str, unit: Unit, from: PassState, offset: usize) -> PassState
+    requires place { CanCountFrom (width_of unit) text.now from }
     requires following { from.offset ≤ offset }
-    ensures place { IsPlace (width_of unit) text.now result }
+    ensures place { CanCountFrom (width_of unit) text.now result }
     ensures within { result.offset ≤ offset }
     ensures position { at result.line result.character
         ≡ position_of (width_of unit) (chars text.now) offset }
 {
-    let from = past_stretches_to(text, unit, from, offset);
-    let mut place = past_ascii(text, unit, from, offset);
-    while let Some(next) = past_char(text, unit, place, offset) {
-        place = past_ascii(text, unit, next, offset);
+    let from = skip_stretches_to(text, unit, from, offset);
+    let mut place = skip_ascii(text, unit, from, offset);
+    while let Some(next) = skip_char(text, unit, place, offset) {
+        place = skip_ascii(text, unit, next, offset);
     }
     place
 }
 
 /// Skips stretches of the line that end at or before a byte offset, and returns the place after
 /// them.
-fn past_stretches_to(text: &str, unit: Unit, from: PassState, offset: usize) -> PassState
-    requires place { IsPlace (width_of unit) text.now from }
+fn skip_stretches_to(text: &str, unit: Unit, from: PassState, offset: usize) -> PassState
+    requires place { CanCountFrom (width_of unit) text.now from }
     requires following { from.offset ≤ offset }
-    ensures place { IsPlace (width_of unit) text.now result }
+    ensures place { CanCountFrom (width_of unit) text.now result }
     ensures within { result.offset ≤ offset }
 {
     let mut place = from;
@@ -182,10 +182,10 @@ fn past_stretches_to(text: &str, unit: Unit, from: PassState, offset: usize) -> 
 
 /// Skips ASCII characters other than CR that end at or before a byte offset, and returns the place
 /// after them. They are recognized by their bytes, without decoding.
-fn past_ascii(text: &str, unit: Unit, from: PassState, offset: usize) -> PassState
-    requires place { IsPlace (width_of unit) text.now from }
+fn skip_ascii(text: &str, unit: Unit, from: PassState, offset: usize) -> PassState
+    requires place { CanCountFrom (width_of unit) text.now from }
     requires following { from.offset ≤ offset }
-    ensures place { IsPlace (width_of unit) text.now result }
+    ensures place { CanCountFrom (width_of unit) text.now result }
     ensures within { result.offset ≤ offset }
     ensures onward { from.offset ≤ result.offset }
 {
@@ -219,10 +219,10 @@ fn past_ascii(text: &str, unit: Unit, from: PassState, offset: usize) -> PassSta
 
 /// Returns the place after the next character. Returns None if that place is after the byte offset,
 /// or if no character follows.
-fn past_char(text: &str, unit: Unit, place: PassState, offset: usize) -> Option<PassState>
-    requires place { IsPlace (width_of unit) text.now place }
+fn skip_char(text: &str, unit: Unit, place: PassState, offset: usize) -> Option<PassState>
+    requires place { CanCountFrom (width_of unit) text.now place }
     requires following { place.offset ≤ offset }
-    ensures next { IfSome result (λ p. IsPlace (width_of unit) text.now p) }
+    ensures next { IfSome result (λ p. CanCountFrom (width_of unit) text.now p) }
     ensures onward { IfSome result (λ p. (place.offset < p.offset) × (p.offset ≤ offset)) }
     ensures last { result ≡ None
         → at place.line place.character ≡ position_of (width_of unit) (chars text.now) offset }
@@ -255,12 +255,12 @@ fn past_char(text: &str, unit: Unit, place: PassState, offset: usize) -> Option<
 
 /// Advances from the place `from` to a position, and returns the place there. `from` must be at or
 /// before the position.
-pub fn onward_to_position(text: &str, unit: Unit, from: PassState, position: Position) -> PassState
-    requires place { IsPlaceBefore (width_of unit) text.now position from }
-    ensures place { IsPlaceBefore (width_of unit) text.now position result }
+pub fn advance_to_position(text: &str, unit: Unit, from: PassState, position: Position) -> PassState
+    requires place { CanSeekFrom (width_of unit) text.now position from }
+    ensures place { CanSeekFrom (width_of unit) text.now position result }
     ensures offset { result.offset ≡ offset_of (width_of unit) (chars text.now) position }
 {
-    let from = past_stretches(text, unit, from, position);
+    let from = skip_stretches(text, unit, from, position);
     let (mut line, mut character, mut reached) = (from.line, from.character, from.offset);
     let mut chars = text[from.offset..].chars();
     while let Some(c) = chars.next() {
@@ -290,12 +290,12 @@ pub fn onward_to_position(text: &str, unit: Unit, from: PassState, position: Pos
 
 /// Skips stretches of the position's line that end at or before the position, and returns the place
 /// after them. A place outside that line is returned unchanged.
-fn past_stretches(text: &str, unit: Unit, from: PassState, position: Position) -> PassState
-    requires place { IsPlaceBefore (width_of unit) text.now position from }
-    ensures place { IsPlaceBefore (width_of unit) text.now position result }
+fn skip_stretches(text: &str, unit: Unit, from: PassState, position: Position) -> PassState
+    requires place { CanSeekFrom (width_of unit) text.now position from }
+    ensures place { CanSeekFrom (width_of unit) text.now position result }
 {
     let mut place = from;
-    while let Some(stretch) = stretch_before(text, unit, place, position) {
+    while let Some(stretch) = next_stretch_before(text, unit, place, position) {
         place = PassState {
             offset: stretch.end,
             line: place.line,
@@ -307,7 +307,12 @@ fn past_stretches(text: &str, unit: Unit, from: PassState, position: Position) -
 
 /// Returns the stretch after a place. Returns None if the place isn't in the position's line, or if
 /// the next stretch might end after the position.
-fn stretch_before(text: &str, unit: Unit, place: PassState, position: Position) -> Option<Stretch>
+fn next_stretch_before(
+    text: &str,
+    unit: Unit,
+    place: PassState,
+    position: Position,
+) -> Option<Stretch>
     requires { IsCharBoundary text.now place.offset }
     ensures is { IfSome result (λ s. IsStretch (width_of unit) text.now place.offset s) }
     ensures line { IfSome result (λ s. place.line ≡ position.line) }

@@ -1,15 +1,15 @@
 //! Describes which bytes of a text a change has replaced.
 //!
 //! The result for all changes of a notification is one range of bytes that contains them: the text
-//! before and after it is unchanged, byte by byte (`Covers`, `IsChangedAt`). `IsReplaced` of
-//! `ob0_scan` requires this. `replace_at` of a store returns the bytes of one change, and `around`
+//! before and after it is unchanged, byte by byte (`CoversAllChanges`, `IsChangedAt`). `ReplacesRange` of
+//! `ob0_scan` requires this. `replace_at` of a store returns the bytes of one change, and `merged_with`
 //! joins the bytes of two changes. In the text between the two changes, everything after the later
 //! of their ends is unchanged by both. A change of the whole text replaces all bytes. The contract
 //! allows more bytes than necessary; a smaller range only saves time. If the text wasn't known, the
 //! result is None, since no part of it is known to be unchanged.
 
 ghost use Rattle.std.specs.Prelude.{◌≡◌, ℕ, List, Option, is_some};
-ghost use Rattle.ob0_text.specs.ChangedBytes.{Covers, IsChangedAt};
+ghost use Rattle.ob0_text.specs.ChangedBytes.{CoversAllChanges, IsChangedAt};
 
 /// A change of a text: at the byte offset `from`, `removed` bytes were replaced by `added` other
 /// bytes.
@@ -23,7 +23,7 @@ pub struct ReplacedBytes {
 impl ReplacedBytes {
     /// Returns one change that contains both this change and the next one. The next change was made
     /// to the result of this one.
-    pub(crate) fn around(self, next: ReplacedBytes) -> ReplacedBytes
+    pub(crate) fn merged_with(self, next: ReplacedBytes) -> ReplacedBytes
         ensures { (first middle last : List ℕ)
             → IsChangedAt first middle self
             → IsChangedAt middle last next
@@ -58,9 +58,9 @@ pub(crate) fn extend_hull(
 ) -> Option<ReplacedBytes>
     ensures { (first middle last : Option (List ℕ))
         → known ≡ is_some first
-        → Covers first middle hull
-        → Covers middle last next
-        → Covers first last result }
+        → CoversAllChanges first middle hull
+        → CoversAllChanges middle last next
+        → CoversAllChanges first last result }
 {
     if !known {
         return None;
@@ -71,5 +71,5 @@ pub(crate) fn extend_hull(
     let Some(one) = next else {
         return hull;
     };
-    Some(before.around(one))
+    Some(before.merged_with(one))
 }

@@ -1,7 +1,7 @@
 //! Releases spare memory.
 //!
 //! A list keeps its capacity when it gets shorter. `trim_list` and `trim_text` release most of the
-//! capacity once less than a quarter of it is used, and more than a little (`SPARED`) would be
+//! capacity once less than a quarter of it is used, and more than a little (`MAX_SPARE`) would be
 //! released. So an open document occupies a few times its own length, however long it was before.
 //! Room for twice the length is kept, so a list has to grow or shrink by its own length before
 //! memory is moved again. No clause bounds the capacity, because std's `shrink_to` keeps it if a
@@ -10,7 +10,7 @@
 ghost use Rattle.std.specs.Prelude.{◌≡◌, string_bytes};
 
 /// The spare capacity that isn't worth releasing, in entries of a list or bytes of a text.
-const SPARED: usize = 512;
+const MAX_SPARE: usize = 512;
 
 /// Releases most of a list's memory if little of it is used (`is_sparse`). Room for twice the
 /// list's length is kept.
@@ -32,7 +32,7 @@ pub(crate) fn trim_text(text: &mut String)
     }
 }
 
-/// Returns true if a quarter of a capacity is more than the used part and `SPARED` together.
+/// Returns true if a quarter of a capacity is more than the used part and `MAX_SPARE` together.
 fn is_sparse(capacity: usize, used: usize) -> bool {
-    capacity / 4 > used.saturating_add(SPARED)
+    capacity / 4 > used.saturating_add(MAX_SPARE)
 }

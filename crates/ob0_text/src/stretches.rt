@@ -12,7 +12,7 @@ ghost use Rattle.std.specs.List.{All};
 ghost use Rattle.std.specs.Str.{IsCharBoundary, chars};
 ghost use Rattle.ob0_text.specs.Texts.{LF, CR};
 ghost use Rattle.ob0_text.specs.Units.{width_of};
-ghost use Rattle.ob0_text.specs.Stretches.{EndsNoLine, utf16_units_at, AreOfALine, IsStretch};
+ghost use Rattle.ob0_text.specs.Stretches.{IsNotLineBreak, utf16_units_at, AreOfALine, IsStretch};
 
 use crate::position_types::Unit;
 
@@ -24,7 +24,7 @@ pub struct Stretch {
 }
 
 /// The greatest number of bytes in a stretch.
-pub(crate) const BYTES: usize = 64;
+pub(crate) const STRETCH_BYTES: usize = 64;
 
 /// Returns the stretch of up to 64 bytes that begins at a byte offset. Returns None if fewer than
 /// 64 bytes follow, if `room` is less than 64, or if one of the bytes is LF or CR.
@@ -33,10 +33,10 @@ pub fn next_stretch(text: &str, unit: Unit, from: usize, room: u64) -> Option<St
     ensures is { IfSome result (λ s. IsStretch (width_of unit) text.now from s) }
     ensures fits { IfSome result (λ s. s.end ≤ from + room) }
 {
-    if room < BYTES as u64 || text.len().saturating_sub(from) < BYTES {
+    if room < STRETCH_BYTES as u64 || text.len().saturating_sub(from) < STRETCH_BYTES {
         return None;
     }
-    let end = text.floor_char_boundary(from + BYTES);
+    let end = text.floor_char_boundary(from + STRETCH_BYTES);
     if end <= from {
         return None;
     }
@@ -62,7 +62,7 @@ pub(crate) fn units_of(piece: &str, unit: Unit) -> Option<u64>
 /// the first, because the compiler vectorizes that.
 fn has_line_break(bytes: &[u8]) -> bool
     requires { length bytes.now ≤ 64 }
-    ensures no { result ≡ false → All EndsNoLine bytes.now }
+    ensures no { result ≡ false → All IsNotLineBreak bytes.now }
 {
     let mut breaks: u8 = 0;
     for byte in bytes {

@@ -3,7 +3,7 @@ use Rattle.std.proofs.Common.{◌≡◌, ℕ, List, [], ◌∷◌, ◌++◌, map
 use Rattle.std.proofs.lemmas.List.{map-append}
 use Rattle.ob0_tree.specs.declared.tree.Role.{Role}
 use Rattle.ob0_tree.specs.declared.tree.Role.TheVariants as role
-use Rattle.ob0_tree.specs.Lexeme.{EndOfText, Mark, Name, Number, Terminal, relabelled}
+use Rattle.ob0_tree.specs.Lexeme.{EndOfText, Mark, Name, Number, Terminal, mapped_terminal}
 use Rattle.ob0_tree.specs.Order.{leaves}
 use Rattle.ob0_tree.specs.Tree.{Sort, Tree, identifiers, mapped, spell, adds, array_type, assigns, begins, branches, calls, compares, declares, declares_constant, declares_constants, declares_procedure, declares_type, declares_types, declares_variable, declares_variables, designator, else_branch, elsif_branch, empty, end, field, has_body, index, integer, is_module, listed, more, multiplies, named_type, negation, no_arguments, no_fields, no_formals, none, one, parenthesised, product, record_type, relates, repeat_loop, runs, some_arguments, some_fields, some_formals, sum, then_argument, then_fields, then_name, then_section, then_statement, value_section, variable_section, while_loop}
 use Rattle.ob0_tree.proofs.Leaves.{leaves_spelled, lexeme_names}
@@ -71,7 +71,7 @@ identifiers-mapped f g r (begins a) = identifiers-mapped f g r a
 identifiers-mapped f g r (has_body a b) = both (beside_role f) (identifiers r a) (identifiers r b) (identifiers-mapped f g r a) (identifiers-mapped f g r b)
 identifiers-mapped f g r (is_module x b c) = ap (λ z. (role.ModuleName, f x) ∷ z) (both (beside_role f) (identifiers r b) ((role.ModuleName, c) ∷ []) (identifiers-mapped f g r b) refl)
 
-names_mapped : {N M : Type 0} (f : N → M) (g : ℕ → ℕ) (xs : List (Terminal N)) → lexeme_names (map (relabelled f g) xs) ≡ map f (lexeme_names xs)
+names_mapped : {N M : Type 0} (f : N → M) (g : ℕ → ℕ) (xs : List (Terminal N)) → lexeme_names (map (mapped_terminal f g) xs) ≡ map f (lexeme_names xs)
 names_mapped f g [] = refl
 names_mapped f g (Name n ∷ xs) = ap (λ z. f n ∷ z) (names_mapped f g xs)
 names_mapped f g (Number n ∷ xs) = names_mapped f g xs

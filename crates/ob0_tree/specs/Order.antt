@@ -10,33 +10,33 @@ use Rattle.ob0_tree.specs.declared.tree.Role.TheVariants as role
 use Rattle.ob0_tree.specs.Tree.{Sort, Tree, identifiers}
 
 -- Holds if the numbers are strictly ascending, from `low` up to but not including `high`.
-abbrev pub Ascending : ℕ → List ℕ → ℕ → Type 0
-Ascending low [] high = low ≤ high
-Ascending low (x ∷ xs) high = (low ≤ x) × Ascending (x + 1) xs high
+abbrev pub AreAscending : ℕ → List ℕ → ℕ → Type 0
+AreAscending low [] high = low ≤ high
+AreAscending low (x ∷ xs) high = (low ≤ x) × AreAscending (x + 1) xs high
 
 -- Returns only the identifiers from a list of identifiers with their roles.
-abbrev pub names_only : {N : Type 0} → List (Role × N) → List N
-names_only xs = map (λ x. x.1) xs
+abbrev pub names_without_roles : {N : Type 0} → List (Role × N) → List N
+names_without_roles xs = map (λ x. x.1) xs
 
 -- Returns all identifiers of a tree, in text order, without their roles.
 abbrev pub leaves : {N : Type 0} {s : Sort} → Tree N s → List N
-leaves t = names_only (identifiers role.Declaring t)
+leaves t = names_without_roles (identifiers role.Declaring t)
 
 -- Returns a list of the index `i` if the kind is the identifier, otherwise an empty list.
-abbrev pub identifier_at : ℕ → TokenKind → List ℕ
-identifier_at i kind.Identifier = i ∷ []
-identifier_at i k = []
+abbrev pub identifier_index : ℕ → TokenKind → List ℕ
+identifier_index i kind.Identifier = i ∷ []
+identifier_index i k = []
 
 -- Returns the indexes of the identifiers among these tokens. The first token has the index `i`.
-abbrev pub identifiers_from : ℕ → List Token → List ℕ
-identifiers_from i [] = []
-identifiers_from i (t ∷ ts) = identifier_at i t.kind ++ identifiers_from (i + 1) ts
+abbrev pub identifier_indexes_from : ℕ → List Token → List ℕ
+identifier_indexes_from i [] = []
+identifier_indexes_from i (t ∷ ts) = identifier_index i t.kind ++ identifier_indexes_from (i + 1) ts
 
 -- Holds if there is a token with this index and it is an identifier.
 abbrev pub IsIdentifierToken : List Token → ℕ → Type 0
 IsIdentifierToken ts i = (i < length ts) × HoldsAt (λ t. t.kind ≡ kind.Identifier) ts i
 
 -- Holds if there is an identifier at each of these indexes in the list of tokens.
-abbrev pub AreIdentifiers : List Token → List ℕ → Type 0
-AreIdentifiers ts [] = Unit {0}
-AreIdentifiers ts (i ∷ others) = IsIdentifierToken ts i × AreIdentifiers ts others
+abbrev pub AreIdentifierTokens : List Token → List ℕ → Type 0
+AreIdentifierTokens ts [] = Unit {0}
+AreIdentifierTokens ts (i ∷ others) = IsIdentifierToken ts i × AreIdentifierTokens ts others

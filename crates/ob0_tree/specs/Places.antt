@@ -5,52 +5,52 @@ use Rattle.std.specs.Prelude.{ℕ, ◌+◌, Option, Some, None, List, [], ◌∷
 use Rattle.ob0_scan.specs.declared.lexeme.TokenKind.{TokenKind}
 use Rattle.ob0_scan.specs.declared.lexeme.TokenKind.TheVariants as kind
 use Rattle.ob0_scan.specs.declared.lexeme.Token.{Token}
-use Rattle.ob0_scan.specs.Scanned.{Scanned, spanned}
+use Rattle.ob0_scan.specs.TextWithTokens.{TextWithTokens, text_in_span}
 use Rattle.ob0_tree.specs.Lexeme.{Terminal, Name, Number, Mark, EndOfText}
 use Rattle.ob0_tree.specs.Tree.{Sort, Tree, mapped}
 
 -- Returns the token at the index `i`, in the form in which a tree over indexes spells it: an
 -- identifier or an integer has `i` instead of its name or value.
-abbrev pub lexeme_of : ℕ → TokenKind → Terminal ℕ
-lexeme_of i kind.Identifier = Name i
-lexeme_of i (kind.Integer value) = Number i
-lexeme_of i k = Mark k
+abbrev pub index_terminal : ℕ → TokenKind → Terminal ℕ
+index_terminal i kind.Identifier = Name i
+index_terminal i (kind.Integer value) = Number i
+index_terminal i k = Mark k
 
 -- Returns the tokens, in the form in which a tree over indexes spells them, followed by the end of
 -- the text. The first token has the index `i`.
-abbrev pub lexemes_from : ℕ → List Token → List (Terminal ℕ)
-lexemes_from i [] = EndOfText ∷ []
-lexemes_from i (t ∷ ts) = lexeme_of i t.kind ∷ lexemes_from (i + 1) ts
+abbrev pub index_terminals_from : ℕ → List Token → List (Terminal ℕ)
+index_terminals_from i [] = EndOfText ∷ []
+index_terminals_from i (t ∷ ts) = index_terminal i t.kind ∷ index_terminals_from (i + 1) ts
 
 -- Returns the tokens of a text, in the form in which a tree over indexes spells them, followed by
 -- the end of the text.
-abbrev pub lexemes : List Token → List (Terminal ℕ)
-lexemes ts = lexemes_from 0 ts
+abbrev pub index_terminals : List Token → List (Terminal ℕ)
+index_terminals ts = index_terminals_from 0 ts
 
 -- Returns the text of a token, or the empty text for None.
-abbrev pub text_in : List ℕ → Option Token → List ℕ
-text_in text None = []
-text_in text (Some t) = spanned text t.span
+abbrev pub token_text_or_empty : List ℕ → Option Token → List ℕ
+token_text_or_empty text None = []
+token_text_or_empty text (Some t) = text_in_span text t.span
 
 -- Returns the value of an integer, or 0 for any other kind of token.
-abbrev pub value_of : TokenKind → ℕ
-value_of (kind.Integer value) = value
-value_of _ = 0
+abbrev pub kind_value_or_zero : TokenKind → ℕ
+kind_value_or_zero (kind.Integer value) = value
+kind_value_or_zero _ = 0
 
 -- Returns the value of a token, or 0 if it isn't an integer or is None.
-abbrev pub value_in : Option Token → ℕ
-value_in None = 0
-value_in (Some t) = value_of t.kind
+abbrev pub token_value_or_zero : Option Token → ℕ
+token_value_or_zero None = 0
+token_value_or_zero (Some t) = kind_value_or_zero t.kind
 
 -- Returns the text of the token with this index, or the empty text if there is no such token.
-abbrev pub text_at : Scanned → ℕ → List ℕ
-text_at s i = text_in s.text (slice_get s.tokens i)
+abbrev pub text_at : TextWithTokens → ℕ → List ℕ
+text_at s i = token_text_or_empty s.text (slice_get s.tokens i)
 
 -- Returns the value of the token with this index, or 0 if it isn't an integer or there is no such
 -- token.
-abbrev pub value_at : Scanned → ℕ → ℕ
-value_at s i = value_in (slice_get s.tokens i)
+abbrev pub value_at : TextWithTokens → ℕ → ℕ
+value_at s i = token_value_or_zero (slice_get s.tokens i)
 
 -- Returns the tree with each index replaced by the spelling or the number of its token.
-abbrev pub named : {s : Sort} → Scanned → Tree ℕ s → Tree (List ℕ) s
-named s t = mapped (text_at s) (value_at s) t
+abbrev pub tree_with_names : {s : Sort} → TextWithTokens → Tree ℕ s → Tree (List ℕ) s
+tree_with_names s t = mapped (text_at s) (value_at s) t

@@ -3,7 +3,7 @@
 use Rattle.std.specs.Prelude.{ℕ, ◌+◌, Option, List, [], ◌∷◌, ◌++◌, max}
 use Rattle.ob0_scan.specs.declared.lexeme.TokenKind.{TokenKind}
 use Rattle.ob0_scan.specs.declared.lexeme.TokenKind.TheVariants as kind
-use Rattle.ob0_scan.specs.declared.lexeme.Reserved.TheVariants as reserved
+use Rattle.ob0_scan.specs.declared.lexeme.ReservedWord.TheVariants as reserved
 use Rattle.ob0_scan.specs.declared.lexeme.Symbol.TheVariants as symbol
 use Rattle.ob0_tree.specs.declared.tree.Relation.{Relation}
 use Rattle.ob0_tree.specs.declared.tree.Sign.{Sign}
@@ -11,7 +11,7 @@ use Rattle.ob0_tree.specs.declared.tree.AddOperator.{AddOperator}
 use Rattle.ob0_tree.specs.declared.tree.MultiplyOperator.{MultiplyOperator}
 use Rattle.ob0_tree.specs.declared.tree.Role.{Role}
 use Rattle.ob0_tree.specs.declared.tree.Role.TheVariants as role
-use Rattle.ob0_tree.specs.Lexeme.{Terminal, Name, Number, Mark, relation_mark, sign_marks, add_mark, multiply_mark}
+use Rattle.ob0_tree.specs.Lexeme.{Terminal, Name, Number, Mark, relation_token, sign_tokens, add_operator_token, multiply_operator_token}
 
 -- The parts of productions that may be repeated or omitted.
 pub data Item : Type 0 where
@@ -122,8 +122,8 @@ pub data Tree (N : Type 0) : Sort → Type 0 where
   is_module : N → Tree N block → N → Tree N module_text
 
 -- Returns a list of only the reserved word or symbol of this kind.
-abbrev pub mark : {N : Type 0} → TokenKind → List (Terminal N)
-mark k = Mark k ∷ []
+abbrev pub single_token : {N : Type 0} → TokenKind → List (Terminal N)
+single_token k = Mark k ∷ []
 
 -- Returns the tokens of a tree, with one case for each production of the grammar.
 abbrev pub spell : {N : Type 0} {s : Sort} → Tree N s → List (Terminal N)
@@ -132,93 +132,93 @@ spell (one t) = spell t
 spell end = []
 spell (more t ts) = spell t ++ spell ts
 spell (compares left compared) = spell left ++ spell compared
-spell (relates relation right) = Mark (relation_mark relation) ∷ spell right
-spell (sum sign first terms) = sign_marks sign ++ (spell first ++ spell terms)
-spell (adds operator t) = Mark (add_mark operator) ∷ spell t
+spell (relates relation right) = Mark (relation_token relation) ∷ spell right
+spell (sum sign first terms) = sign_tokens sign ++ (spell first ++ spell terms)
+spell (adds operator t) = Mark (add_operator_token operator) ∷ spell t
 spell (product first factors) = spell first ++ spell factors
-spell (multiplies operator f) = Mark (multiply_mark operator) ∷ spell f
+spell (multiplies operator f) = Mark (multiply_operator_token operator) ∷ spell f
 spell (designator name selectors) = Name name ∷ spell selectors
 spell (integer n) = Number n ∷ []
 spell (parenthesised e) =
-    Mark (kind.Symbol symbol.LeftParen) ∷ (spell e ++ mark (kind.Symbol symbol.RightParen))
+    Mark (kind.Symbol symbol.LeftParen) ∷ (spell e ++ single_token (kind.Symbol symbol.RightParen))
 spell (negation f) = Mark (kind.Symbol symbol.Not) ∷ spell f
 spell (field name) = Mark (kind.Symbol symbol.Dot) ∷ Name name ∷ []
 spell (index e) =
-    Mark (kind.Symbol symbol.LeftBracket) ∷ (spell e ++ mark (kind.Symbol symbol.RightBracket))
+    Mark (kind.Symbol symbol.LeftBracket) ∷ (spell e ++ single_token (kind.Symbol symbol.RightBracket))
 spell empty = []
 spell (assigns name selectors e) =
     Name name ∷ (spell selectors ++ (Mark (kind.Symbol symbol.Becomes) ∷ spell e))
 spell (calls name args) = Name name ∷ spell args
 spell (branches condition s elsifs rest) =
-    Mark (kind.Reserved reserved.If)
+    Mark (kind.ReservedWord reserved.If)
     ∷ (spell condition
-    ++ (Mark (kind.Reserved reserved.Then)
-    ∷ (spell s ++ (spell elsifs ++ (spell rest ++ mark (kind.Reserved reserved.End))))))
+    ++ (Mark (kind.ReservedWord reserved.Then)
+    ∷ (spell s ++ (spell elsifs ++ (spell rest ++ single_token (kind.ReservedWord reserved.End))))))
 spell (while_loop condition s) =
-    Mark (kind.Reserved reserved.While)
+    Mark (kind.ReservedWord reserved.While)
     ∷ (spell condition
-    ++ (Mark (kind.Reserved reserved.Do) ∷ (spell s ++ mark (kind.Reserved reserved.End))))
+    ++ (Mark (kind.ReservedWord reserved.Do) ∷ (spell s ++ single_token (kind.ReservedWord reserved.End))))
 spell (repeat_loop s condition) =
-    Mark (kind.Reserved reserved.Repeat)
-    ∷ (spell s ++ (Mark (kind.Reserved reserved.Until) ∷ spell condition))
-spell no_arguments = Mark (kind.Symbol symbol.LeftParen) ∷ mark (kind.Symbol symbol.RightParen)
+    Mark (kind.ReservedWord reserved.Repeat)
+    ∷ (spell s ++ (Mark (kind.ReservedWord reserved.Until) ∷ spell condition))
+spell no_arguments = Mark (kind.Symbol symbol.LeftParen) ∷ single_token (kind.Symbol symbol.RightParen)
 spell (some_arguments e es) =
     Mark (kind.Symbol symbol.LeftParen)
-    ∷ (spell e ++ (spell es ++ mark (kind.Symbol symbol.RightParen)))
+    ∷ (spell e ++ (spell es ++ single_token (kind.Symbol symbol.RightParen)))
 spell (then_argument e) = Mark (kind.Symbol symbol.Comma) ∷ spell e
 spell (runs first statements) = spell first ++ spell statements
 spell (then_statement s) = Mark (kind.Symbol symbol.Semicolon) ∷ spell s
 spell (elsif_branch condition s) =
-    Mark (kind.Reserved reserved.Elsif)
-    ∷ (spell condition ++ (Mark (kind.Reserved reserved.Then) ∷ spell s))
-spell (else_branch s) = Mark (kind.Reserved reserved.Else) ∷ spell s
+    Mark (kind.ReservedWord reserved.Elsif)
+    ∷ (spell condition ++ (Mark (kind.ReservedWord reserved.Then) ∷ spell s))
+spell (else_branch s) = Mark (kind.ReservedWord reserved.Else) ∷ spell s
 spell (listed name others) = Name name ∷ spell others
 spell (then_name name) = Mark (kind.Symbol symbol.Comma) ∷ Name name ∷ []
 spell (named_type name) = Name name ∷ []
 spell (array_type size t) =
-    Mark (kind.Reserved reserved.Array)
-    ∷ (spell size ++ (Mark (kind.Reserved reserved.Of) ∷ spell t))
+    Mark (kind.ReservedWord reserved.Array)
+    ∷ (spell size ++ (Mark (kind.ReservedWord reserved.Of) ∷ spell t))
 spell (record_type first others) =
-    Mark (kind.Reserved reserved.Record)
-    ∷ (spell first ++ (spell others ++ mark (kind.Reserved reserved.End)))
+    Mark (kind.ReservedWord reserved.Record)
+    ∷ (spell first ++ (spell others ++ single_token (kind.ReservedWord reserved.End)))
 spell no_fields = []
 spell (some_fields ns t) = spell ns ++ (Mark (kind.Symbol symbol.Colon) ∷ spell t)
 spell (then_fields f) = Mark (kind.Symbol symbol.Semicolon) ∷ spell f
-spell no_formals = Mark (kind.Symbol symbol.LeftParen) ∷ mark (kind.Symbol symbol.RightParen)
+spell no_formals = Mark (kind.Symbol symbol.LeftParen) ∷ single_token (kind.Symbol symbol.RightParen)
 spell (some_formals first others) =
     Mark (kind.Symbol symbol.LeftParen)
-    ∷ (spell first ++ (spell others ++ mark (kind.Symbol symbol.RightParen)))
+    ∷ (spell first ++ (spell others ++ single_token (kind.Symbol symbol.RightParen)))
 spell (value_section ns t) = spell ns ++ (Mark (kind.Symbol symbol.Colon) ∷ spell t)
 spell (variable_section ns t) =
-    Mark (kind.Reserved reserved.Var) ∷ (spell ns ++ (Mark (kind.Symbol symbol.Colon) ∷ spell t))
+    Mark (kind.ReservedWord reserved.Var) ∷ (spell ns ++ (Mark (kind.Symbol symbol.Colon) ∷ spell t))
 spell (then_section s) = Mark (kind.Symbol symbol.Semicolon) ∷ spell s
 spell (declares_constant name e) =
-    Name name ∷ Mark (kind.Symbol symbol.Equal) ∷ (spell e ++ mark (kind.Symbol symbol.Semicolon))
-spell (declares_constants cs) = Mark (kind.Reserved reserved.Const) ∷ spell cs
+    Name name ∷ Mark (kind.Symbol symbol.Equal) ∷ (spell e ++ single_token (kind.Symbol symbol.Semicolon))
+spell (declares_constants cs) = Mark (kind.ReservedWord reserved.Const) ∷ spell cs
 spell (declares_type name t) =
-    Name name ∷ Mark (kind.Symbol symbol.Equal) ∷ (spell t ++ mark (kind.Symbol symbol.Semicolon))
-spell (declares_types ts) = Mark (kind.Reserved reserved.Type) ∷ spell ts
+    Name name ∷ Mark (kind.Symbol symbol.Equal) ∷ (spell t ++ single_token (kind.Symbol symbol.Semicolon))
+spell (declares_types ts) = Mark (kind.ReservedWord reserved.Type) ∷ spell ts
 spell (declares_variable ns t) =
-    spell ns ++ (Mark (kind.Symbol symbol.Colon) ∷ (spell t ++ mark (kind.Symbol symbol.Semicolon)))
-spell (declares_variables vs) = Mark (kind.Reserved reserved.Var) ∷ spell vs
+    spell ns ++ (Mark (kind.Symbol symbol.Colon) ∷ (spell t ++ single_token (kind.Symbol symbol.Semicolon)))
+spell (declares_variables vs) = Mark (kind.ReservedWord reserved.Var) ∷ spell vs
 spell (declares_procedure name fs b closing) =
-    Mark (kind.Reserved reserved.Procedure)
+    Mark (kind.ReservedWord reserved.Procedure)
     ∷ Name name
     ∷ (spell fs
     ++ (Mark (kind.Symbol symbol.Semicolon)
     ∷ (spell b
-    ++ (Mark (kind.Reserved reserved.End)
+    ++ (Mark (kind.ReservedWord reserved.End)
     ∷ Name closing
-    ∷ mark (kind.Symbol symbol.Semicolon)))))
+    ∷ single_token (kind.Symbol symbol.Semicolon)))))
 spell (declares cs ts vs ps) = spell cs ++ (spell ts ++ (spell vs ++ spell ps))
-spell (begins s) = Mark (kind.Reserved reserved.Begin) ∷ spell s
+spell (begins s) = Mark (kind.ReservedWord reserved.Begin) ∷ spell s
 spell (has_body ds b) = spell ds ++ spell b
 spell (is_module name b closing) =
-    Mark (kind.Reserved reserved.Module)
+    Mark (kind.ReservedWord reserved.Module)
     ∷ Name name
     ∷ Mark (kind.Symbol symbol.Semicolon)
     ∷ (spell b
-    ++ (Mark (kind.Reserved reserved.End) ∷ Name closing ∷ mark (kind.Symbol symbol.Dot)))
+    ++ (Mark (kind.ReservedWord reserved.End) ∷ Name closing ∷ single_token (kind.Symbol symbol.Dot)))
 
 -- Returns the greatest number of constructs that are nested in each other. A construct counts if
 -- its case of this definition adds 1.

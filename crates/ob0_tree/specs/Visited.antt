@@ -7,12 +7,12 @@ use Rattle.ob0_tree.specs.Tree.{Sort, Tree, identifiers}
 
 -- Returns the state that results from the state `known` by visiting these identifiers one after
 -- another. `step` gives the state after one identifier.
-abbrev pub visited_all : {A : Type 0} → (Role → ℕ → A → A) → List (Role × ℕ) → A → A
-visited_all step [] known = known
-visited_all step (x ∷ xs) known = visited_all step xs (step x.0 x.1 known)
+abbrev pub state_after_identifiers : {A : Type 0} → (Role → ℕ → A → A) → List (Role × ℕ) → A → A
+state_after_identifiers step [] known = known
+state_after_identifiers step (x ∷ xs) known = state_after_identifiers step xs (step x.0 x.1 known)
 
 -- Returns the state that results from the state `known` by visiting the identifiers of a part of a
 -- module in text order. `step` gives the state after one identifier. If the part is only a list of
 -- names, these names count as declared.
-abbrev pub visited : {A : Type 0} {s : Sort} → (Role → ℕ → A → A) → Tree ℕ s → A → A
-visited step t known = visited_all step (identifiers role.Declaring t) known
+abbrev pub state_after_visit : {A : Type 0} {s : Sort} → (Role → ℕ → A → A) → Tree ℕ s → A → A
+state_after_visit step t known = state_after_identifiers step (identifiers role.Declaring t) known

@@ -3,9 +3,11 @@
 
 ghost use Rattle.std.specs.Prelude.{◌≡◌};
 ghost use Rattle.ob0_tree.specs.FirstIdentifier.{first_identifier};
-ghost use Rattle.ob0_tree.specs.View.{expression_of, compound_of, simple_of, term_of, factor_of, statement_of, if_of, elsifs_in, sequence_in, body_of};
+ghost use Rattle.ob0_tree.specs.View.{expression_of, compound_of, simple_of, term_of, factor_of, statement_of, if_of, elsifs_of_vec, sequence_of_vec, body_of};
 
-use crate::tree::{Compound, Elsif, Expression, Factor, If, Simple, Statement, Term};
+use crate::tree::{
+    CompoundExpression, Elsif, Expression, Factor, If, SimpleExpression, Statement, Term,
+};
 
 /// Returns the index of the token of the first identifier in a block's statements, or None if they
 /// have no identifier.
@@ -13,7 +15,7 @@ pub fn first_identifier(statements: &Option<Vec<Statement>>) -> Option<usize>
     ensures { result ≡ first_identifier (body_of statements.now) }
 {
     match statements {
-        Some(statements) => sequence(statements),
+        Some(statements) => first_in_sequence(statements),
         None => None,
     }
 }
@@ -21,11 +23,11 @@ pub fn first_identifier(statements: &Option<Vec<Statement>>) -> Option<usize>
 /// Returns the token index of the first identifier in a sequence of statements, or None if there is
 /// none.
 #[cycle(statements)]
-fn sequence(statements: &Vec<Statement>) -> Option<usize>
-    ensures { result ≡ first_identifier (sequence_in statements.now) }
+fn first_in_sequence(statements: &Vec<Statement>) -> Option<usize>
+    ensures { result ≡ first_identifier (sequence_of_vec statements.now) }
 {
     for s in statements {
-        let found = statement(s);
+        let found = first_in_statement(s);
         if found.is_some() {
             return found;
         }
@@ -35,50 +37,50 @@ fn sequence(statements: &Vec<Statement>) -> Option<usize>
 
 /// Returns the token index of the first identifier in a statement, or None if there is none.
 #[cycle(statements)]
-fn statement(s: &Statement) -> Option<usize>
+fn first_in_statement(s: &Statement) -> Option<usize>
     ensures { result ≡ first_identifier (statement_of s.now) }
 {
     match s {
         Statement::Empty => None,
         Statement::Assign(a) => Some(a.target.name),
         Statement::Call(c) => Some(c.procedure),
-        Statement::If(i) => branches(i),
+        Statement::If(i) => first_in_if(i),
         Statement::While(w) => {
-            let found = expression(&w.condition);
+            let found = first_in_expression(&w.condition);
             if found.is_some() {
                 return found;
             }
-            sequence(&w.body)
+            first_in_sequence(&w.body)
         }
         Statement::Repeat(r) => {
-            let found = sequence(&r.body);
+            let found = first_in_sequence(&r.body);
             if found.is_some() {
                 return found;
             }
-            expression(&r.condition)
+            first_in_expression(&r.condition)
         }
     }
 }
 
 /// Returns the token index of the first identifier in an IF statement, or None if there is none.
 #[cycle(statements)]
-fn branches(i: &If) -> Option<usize>
+fn first_in_if(i: &If) -> Option<usize>
     ensures { result ≡ first_identifier (if_of i.now) }
 {
-    let found = expression(&i.condition);
+    let found = first_in_expression(&i.condition);
     if found.is_some() {
         return found;
     }
-    let found = sequence(&i.then);
+    let found = first_in_sequence(&i.then);
     if found.is_some() {
         return found;
     }
-    let found = elsifs(&i.elsifs);
+    let found = first_in_elsifs(&i.elsifs);
     if found.is_some() {
         return found;
     }
     match &i.otherwise {
-        Some(statements) => sequence(statements),
+        Some(statements) => first_in_sequence(statements),
         None => None,
     }
 }
@@ -86,15 +88,15 @@ fn branches(i: &If) -> Option<usize>
 /// Returns the token index of the first identifier in the ELSIF parts of an IF statement, or None
 /// if there is none.
 #[cycle(statements)]
-fn elsifs(parts: &Vec<Elsif>) -> Option<usize>
-    ensures { result ≡ first_identifier (elsifs_in parts.now) }
+fn first_in_elsifs(parts: &Vec<Elsif>) -> Option<usize>
+    ensures { result ≡ first_identifier (elsifs_of_vec parts.now) }
 {
     for e in parts {
-        let found = expression(&e.condition);
+        let found = first_in_expression(&e.condition);
         if found.is_some() {
             return found;
         }
-        let found = sequence(&e.then);
+        let found = first_in_sequence(&e.then);
         if found.is_some() {
             return found;
         }
@@ -104,27 +106,27 @@ fn elsifs(parts: &Vec<Elsif>) -> Option<usize>
 
 /// Returns the token index of the first identifier in an expression, or None if there is none.
 #[cycle(expressions)]
-fn expression(e: &Expression) -> Option<usize>
+fn first_in_expression(e: &Expression) -> Option<usize>
     ensures { result ≡ first_identifier (expression_of e.now) }
 {
     match e {
-        Expression::Factor(f) => factor(f),
-        Expression::Compound(c) => compound(c),
+        Expression::Factor(f) => first_in_factor(f),
+        Expression::CompoundExpression(c) => first_in_compound(c),
     }
 }
 
 /// Returns the token index of the first identifier in an expression that isn't a single factor, or
 /// None if there is none.
 #[cycle(expressions)]
-fn compound(c: &Compound) -> Option<usize>
+fn first_in_compound(c: &CompoundExpression) -> Option<usize>
     ensures { result ≡ first_identifier (compound_of c.now) }
 {
-    let found = simple(&c.left);
+    let found = first_in_simple(&c.left);
     if found.is_some() {
         return found;
     }
     match &c.compared {
-        Some(compared) => simple(&compared.right),
+        Some(compared) => first_in_simple(&compared.right),
         None => None,
     }
 }
@@ -132,15 +134,15 @@ fn compound(c: &Compound) -> Option<usize>
 /// Returns the token index of the first identifier in a simple expression, or None if there is
 /// none.
 #[cycle(expressions)]
-fn simple(s: &Simple) -> Option<usize>
+fn first_in_simple(s: &SimpleExpression) -> Option<usize>
     ensures { result ≡ first_identifier (simple_of s.now) }
 {
-    let found = term(&s.first);
+    let found = first_in_term(&s.first);
     if found.is_some() {
         return found;
     }
     for addend in &s.more {
-        let found = term(&addend.term);
+        let found = first_in_term(&addend.term);
         if found.is_some() {
             return found;
         }
@@ -150,15 +152,15 @@ fn simple(s: &Simple) -> Option<usize>
 
 /// Returns the token index of the first identifier in a term, or None if there is none.
 #[cycle(expressions)]
-fn term(t: &Term) -> Option<usize>
+fn first_in_term(t: &Term) -> Option<usize>
     ensures { result ≡ first_identifier (term_of t.now) }
 {
-    let found = factor(&t.first);
+    let found = first_in_factor(&t.first);
     if found.is_some() {
         return found;
     }
     for multiplier in &t.more {
-        let found = factor(&multiplier.factor);
+        let found = first_in_factor(&multiplier.factor);
         if found.is_some() {
             return found;
         }
@@ -168,13 +170,13 @@ fn term(t: &Term) -> Option<usize>
 
 /// Returns the token index of the first identifier in a factor, or None if there is none.
 #[cycle(expressions)]
-fn factor(f: &Factor) -> Option<usize>
+fn first_in_factor(f: &Factor) -> Option<usize>
     ensures { result ≡ first_identifier (factor_of f.now) }
 {
     match f {
         Factor::Designator(d) => Some(d.name),
         Factor::Integer(_) => None,
-        Factor::Parenthesised(e) => expression(e),
-        Factor::Not(f) => factor(f),
+        Factor::Parenthesised(e) => first_in_expression(e),
+        Factor::Not(f) => first_in_factor(f),
     }
 }

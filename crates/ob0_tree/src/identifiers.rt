@@ -3,7 +3,7 @@
 ghost use Rattle.std.specs.Prelude.{◌≡◌, ◌++◌, ◌∷◌, [], IfOk};
 ghost use Rattle.ob0_tree.specs.declared.tree.Role.TheVariants as roles;
 ghost use Rattle.ob0_tree.specs.Tree.{identifiers};
-ghost use Rattle.ob0_tree.specs.Parsed.{tree_of};
+ghost use Rattle.ob0_tree.specs.ParsedModule.{tree_of};
 
 use crate::tree::{Module, Role};
 use crate::walk::Visitor;
@@ -12,11 +12,11 @@ use std::marker::Model;
 
 /// The identifiers visited so far, in text order, each with its role and the index of its token.
 #[derive(Drop)]
-struct Seen {
+struct IdentifierCollector {
     listed: Vec<(Role, usize)>,
 }
 
-impl Model for Seen {
+impl Model for IdentifierCollector {
     ghost use Rattle.std.specs.Prelude.{ℕ, List};
     ghost use Rattle.ob0_tree.specs.declared.tree.Role.{Role};
 
@@ -25,21 +25,21 @@ impl Model for Seen {
     ghost view = { λ s. s.listed.items };
 }
 
-impl Visitor for Seen {
+impl Visitor for IdentifierCollector {
     ghost seen = { λ role token before. before ++ ((role, token) ∷ []) };
 
-    fn see(&mut self, role: Role, token: usize) -> Result<(), AllocError> {
+    fn see_identifier(&mut self, role: Role, token: usize) -> Result<(), AllocError> {
         self.listed.push((role, token))?;
         Ok(())
     }
 }
 
-impl Seen {
+impl IdentifierCollector {
     /// Returns the listed identifiers, in text order.
     fn into_list(self) -> Vec<(Role, usize)>
         ensures { result.items ≡ self }
     {
-        let Seen { listed } = self;
+        let IdentifierCollector { listed } = self;
         listed
     }
 }
@@ -51,7 +51,7 @@ impl<'t> Module<'t> {
     pub fn identifiers(&self, alloc: Global) -> Result<Vec<(Role, usize)>, AllocError>
         ensures { IfOk result (λ v. v.items ≡ identifiers roles.Declaring (tree_of self.now)) }
     {
-        let mut seen = Seen {
+        let mut seen = IdentifierCollector {
             listed: Vec::new(alloc),
         };
         self.visit(&mut seen)?;

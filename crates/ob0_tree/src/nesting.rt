@@ -6,14 +6,14 @@
 
 ghost use Rattle.std.specs.Prelude.{◌≡◌, ◌+◌};
 ghost use Rattle.ob0_tree.specs.Tree.{nesting};
-ghost use Rattle.ob0_tree.specs.Parsed.{tree_of};
+ghost use Rattle.ob0_tree.specs.ParsedModule.{tree_of};
 ghost use Rattle.ob0_tree.specs.Depth.{capped};
-ghost use Rattle.ob0_tree.specs.View.{expression_of, compound_of, simple_of, term_of, factor_of, designator_of, selector_of, assignment_of, call_of, statement_of, if_of, elsifs_in, sequence_in, type_of, record_in, fields_of, section_of, formals_of, constants_of, types_of, variables_of, body_of, procedure_of, block_of};
+ghost use Rattle.ob0_tree.specs.View.{expression_of, compound_of, simple_of, term_of, factor_of, designator_of, selector_of, assignment_of, call_of, statement_of, if_of, elsifs_of_vec, sequence_of_vec, type_of, record_type_of, fields_of, section_of, formals_of, constants_of, types_of, variables_of, body_of, procedure_of, block_of};
 
 use crate::tree::{
-    Assignment, Block, Call, Compound, Constant, Designator, Elsif, Expression, Factor, Fields, If,
-    Module, Procedure, RecordType, Section, Selector, Simple, Statement, Term, TypeDeclaration,
-    Variables, WrittenType,
+    Assignment, Block, Call, CompoundExpression, Constant, Designator, Elsif, Expression, Factor,
+    Fields, If, Module, ParameterSection, Procedure, RecordType, Selector, SimpleExpression,
+    Statement, Term, TypeDeclaration, VariableDeclaration, WrittenType,
 };
 
 /// The greatest number of nested constructs in a module.
@@ -28,12 +28,12 @@ impl<'t> Module<'t> {
     {
         // The contract of this call gives the proof the module's invariant.
         let _parsed = self.tokens();
-        block(self.block())
+        block_nesting(self.block())
     }
 }
 
 /// Returns the number of levels plus 1, at most 2^32 - 1.
-fn deeper(levels: u32) -> u32
+fn one_level_deeper(levels: u32) -> u32
     ensures { result ≡ capped (levels + 1) }
 {
     levels.saturating_add(1)
@@ -41,96 +41,96 @@ fn deeper(levels: u32) -> u32
 
 /// Returns the nesting depth of an expression, at most 2^32 - 1.
 #[cycle(expressions)]
-fn expression(e: &Expression) -> u32
+fn expression_nesting(e: &Expression) -> u32
     ensures { result ≡ capped (nesting (expression_of e.now)) }
 {
     match e {
-        Expression::Factor(f) => factor(f),
-        Expression::Compound(c) => compound(c),
+        Expression::Factor(f) => factor_nesting(f),
+        Expression::CompoundExpression(c) => compound_nesting(c),
     }
 }
 
 /// Returns the nesting depth of an expression that isn't a single factor, at most 2^32 - 1.
 #[cycle(expressions)]
-fn compound(c: &Compound) -> u32
+fn compound_nesting(c: &CompoundExpression) -> u32
     ensures { result ≡ capped (nesting (compound_of c.now)) }
 {
-    let left = simple(&c.left);
+    let left = simple_nesting(&c.left);
     match &c.compared {
-        Some(compared) => left.max(simple(&compared.right)),
+        Some(compared) => left.max(simple_nesting(&compared.right)),
         None => left,
     }
 }
 
 /// Returns the nesting depth of a simple expression, at most 2^32 - 1.
 #[cycle(expressions)]
-fn simple(s: &Simple) -> u32
+fn simple_nesting(s: &SimpleExpression) -> u32
     ensures { result ≡ capped (nesting (simple_of s.now)) }
 {
-    let mut deepest = term(&s.first);
+    let mut deepest = term_nesting(&s.first);
     for addend in &s.more {
-        deepest = deepest.max(term(&addend.term));
+        deepest = deepest.max(term_nesting(&addend.term));
     }
     deepest
 }
 
 /// Returns the nesting depth of a term, at most 2^32 - 1.
 #[cycle(expressions)]
-fn term(t: &Term) -> u32
+fn term_nesting(t: &Term) -> u32
     ensures { result ≡ capped (nesting (term_of t.now)) }
 {
-    let mut deepest = factor(&t.first);
+    let mut deepest = factor_nesting(&t.first);
     for multiplier in &t.more {
-        deepest = deepest.max(factor(&multiplier.factor));
+        deepest = deepest.max(factor_nesting(&multiplier.factor));
     }
     deepest
 }
 
 /// Returns the nesting depth of a factor, at most 2^32 - 1.
 #[cycle(expressions)]
-fn factor(f: &Factor) -> u32
+fn factor_nesting(f: &Factor) -> u32
     ensures { result ≡ capped (nesting (factor_of f.now)) }
 {
     match f {
-        Factor::Designator(d) => designator(d),
+        Factor::Designator(d) => designator_nesting(d),
         Factor::Integer(_) => 0,
-        Factor::Parenthesised(e) => deeper(expression(e)),
-        Factor::Not(f) => deeper(factor(f)),
+        Factor::Parenthesised(e) => one_level_deeper(expression_nesting(e)),
+        Factor::Not(f) => one_level_deeper(factor_nesting(f)),
     }
 }
 
 /// Returns the nesting depth of a name with its selectors, at most 2^32 - 1.
 #[cycle(expressions)]
-fn designator(d: &Designator) -> u32
+fn designator_nesting(d: &Designator) -> u32
     ensures { result ≡ capped (nesting (designator_of d.now)) }
 {
     let mut deepest: u32 = 0;
     for s in &d.selectors {
-        deepest = deepest.max(selector(s));
+        deepest = deepest.max(selector_nesting(s));
     }
     deepest
 }
 
 /// Returns the nesting depth of a selector, at most 2^32 - 1.
 #[cycle(expressions)]
-fn selector(s: &Selector) -> u32
+fn selector_nesting(s: &Selector) -> u32
     ensures { result ≡ capped (nesting (selector_of s.now)) }
 {
     match s {
         Selector::Field(_) => 0,
-        Selector::Index(e) => deeper(expression(e)),
+        Selector::Index(e) => one_level_deeper(expression_nesting(e)),
     }
 }
 
 /// Returns the nesting depth of an assignment, at most 2^32 - 1.
-fn assignment(a: &Assignment) -> u32
+fn assignment_nesting(a: &Assignment) -> u32
     ensures { result ≡ capped (nesting (assignment_of a.now)) }
 {
-    designator(&a.target).max(expression(&a.value))
+    designator_nesting(&a.target).max(expression_nesting(&a.value))
 }
 
 /// Returns the nesting depth of a call, at most 2^32 - 1.
-fn call(c: &Call) -> u32
+fn call_nesting(c: &Call) -> u32
     ensures { result ≡ capped (nesting (call_of c.now)) }
 {
     let Some(arguments) = &c.arguments else {
@@ -138,107 +138,113 @@ fn call(c: &Call) -> u32
     };
     let mut deepest: u32 = 0;
     for e in arguments {
-        deepest = deepest.max(expression(e));
+        deepest = deepest.max(expression_nesting(e));
     }
     deepest
 }
 
 /// Returns the nesting depth of a sequence of statements, at most 2^32 - 1.
 #[cycle(statements)]
-fn sequence(statements: &Vec<Statement>) -> u32
-    ensures { result ≡ capped (nesting (sequence_in statements.now)) }
+fn sequence_nesting(statements: &Vec<Statement>) -> u32
+    ensures { result ≡ capped (nesting (sequence_of_vec statements.now)) }
 {
     let mut deepest: u32 = 0;
     for s in statements {
-        deepest = deepest.max(statement(s));
+        deepest = deepest.max(statement_nesting(s));
     }
     deepest
 }
 
 /// Returns the nesting depth of a statement, at most 2^32 - 1.
 #[cycle(statements)]
-fn statement(s: &Statement) -> u32
+fn statement_nesting(s: &Statement) -> u32
     ensures { result ≡ capped (nesting (statement_of s.now)) }
 {
     match s {
         Statement::Empty => 0,
-        Statement::Assign(a) => assignment(a),
-        Statement::Call(c) => call(c),
-        Statement::If(i) => branches(i),
-        Statement::While(w) => deeper(expression(&w.condition).max(sequence(&w.body))),
-        Statement::Repeat(r) => deeper(sequence(&r.body).max(expression(&r.condition))),
+        Statement::Assign(a) => assignment_nesting(a),
+        Statement::Call(c) => call_nesting(c),
+        Statement::If(i) => if_nesting(i),
+        Statement::While(w) => one_level_deeper(expression_nesting(&w.condition).max(
+            sequence_nesting(&w.body),
+        )),
+        Statement::Repeat(r) => one_level_deeper(sequence_nesting(&r.body).max(expression_nesting(
+            &r.condition,
+        ))),
     }
 }
 
 /// Returns the nesting depth of an IF statement, which counts itself, at most 2^32 - 1.
 #[cycle(statements)]
-fn branches(i: &If) -> u32
+fn if_nesting(i: &If) -> u32
     ensures { result ≡ capped (nesting (if_of i.now)) }
 {
-    let first = expression(&i.condition).max(sequence(&i.then));
-    let others = elsifs(&i.elsifs);
+    let first = expression_nesting(&i.condition).max(sequence_nesting(&i.then));
+    let others = elsifs_nesting(&i.elsifs);
     match &i.otherwise {
-        Some(statements) => deeper(first.max(others.max(sequence(statements)))),
-        None => deeper(first.max(others)),
+        Some(statements) => one_level_deeper(first.max(others.max(sequence_nesting(statements)))),
+        None => one_level_deeper(first.max(others)),
     }
 }
 
 /// Returns the nesting depth of the ELSIF parts of an IF statement, at most 2^32 - 1.
 #[cycle(statements)]
-fn elsifs(parts: &Vec<Elsif>) -> u32
-    ensures { result ≡ capped (nesting (elsifs_in parts.now)) }
+fn elsifs_nesting(parts: &Vec<Elsif>) -> u32
+    ensures { result ≡ capped (nesting (elsifs_of_vec parts.now)) }
 {
     let mut deepest: u32 = 0;
     for e in parts {
-        deepest = deepest.max(expression(&e.condition).max(sequence(&e.then)));
+        deepest = deepest.max(expression_nesting(&e.condition).max(sequence_nesting(&e.then)));
     }
     deepest
 }
 
 /// Returns the nesting depth of a written type, at most 2^32 - 1.
 #[cycle(types)]
-fn written_type(t: &WrittenType) -> u32
+fn type_nesting(t: &WrittenType) -> u32
     ensures { result ≡ capped (nesting (type_of t.now)) }
 {
     match t {
         WrittenType::Named(_) => 0,
-        WrittenType::Array(a) => deeper(expression(&a.size).max(written_type(&a.element))),
-        WrittenType::Record(r) => record(r),
+        WrittenType::Array(a) => one_level_deeper(expression_nesting(&a.size).max(type_nesting(
+            &a.element,
+        ))),
+        WrittenType::Record(r) => record_nesting(r),
     }
 }
 
 /// Returns the nesting depth of a record type, which counts itself, at most 2^32 - 1.
 #[cycle(types)]
-fn record(r: &RecordType) -> u32
-    ensures { result ≡ capped (nesting (record_in r.now)) }
+fn record_nesting(r: &RecordType) -> u32
+    ensures { result ≡ capped (nesting (record_type_of r.now)) }
 {
     let mut deepest: u32 = 0;
     for group in &r.groups {
-        deepest = deepest.max(fields(group));
+        deepest = deepest.max(fields_nesting(group));
     }
-    deeper(deepest)
+    one_level_deeper(deepest)
 }
 
 /// Returns the nesting depth of a group of fields, at most 2^32 - 1.
 #[cycle(types)]
-fn fields(f: &Fields) -> u32
+fn fields_nesting(f: &Fields) -> u32
     ensures { result ≡ capped (nesting (fields_of f.now)) }
 {
     match f {
         Fields::Empty => 0,
-        Fields::Listed(l) => written_type(&l.written),
+        Fields::Listed(l) => type_nesting(&l.written),
     }
 }
 
 /// Returns the nesting depth of a section of parameters, at most 2^32 - 1.
-fn section(s: &Section) -> u32
+fn section_nesting(s: &ParameterSection) -> u32
     ensures { result ≡ capped (nesting (section_of s.now)) }
 {
-    written_type(&s.written)
+    type_nesting(&s.written)
 }
 
 /// Returns the nesting depth of the formal parameters of a heading, at most 2^32 - 1.
-fn formals(sections: &Option<Vec<Section>>) -> u32
+fn formals_nesting(sections: &Option<Vec<ParameterSection>>) -> u32
     ensures { result ≡ capped (nesting (formals_of sections.now)) }
 {
     let Some(sections) = sections else {
@@ -246,13 +252,13 @@ fn formals(sections: &Option<Vec<Section>>) -> u32
     };
     let mut deepest: u32 = 0;
     for s in sections {
-        deepest = deepest.max(section(s));
+        deepest = deepest.max(section_nesting(s));
     }
     deepest
 }
 
 /// Returns the nesting depth of a CONST section, at most 2^32 - 1.
-fn constants(declared: &Option<Vec<Constant>>) -> u32
+fn constants_nesting(declared: &Option<Vec<Constant>>) -> u32
     ensures { result ≡ capped (nesting (constants_of declared.now)) }
 {
     let Some(declared) = declared else {
@@ -260,13 +266,13 @@ fn constants(declared: &Option<Vec<Constant>>) -> u32
     };
     let mut deepest: u32 = 0;
     for c in declared {
-        deepest = deepest.max(expression(&c.value));
+        deepest = deepest.max(expression_nesting(&c.value));
     }
     deepest
 }
 
 /// Returns the nesting depth of a TYPE section, at most 2^32 - 1.
-fn types(declared: &Option<Vec<TypeDeclaration>>) -> u32
+fn types_nesting(declared: &Option<Vec<TypeDeclaration>>) -> u32
     ensures { result ≡ capped (nesting (types_of declared.now)) }
 {
     let Some(declared) = declared else {
@@ -274,13 +280,13 @@ fn types(declared: &Option<Vec<TypeDeclaration>>) -> u32
     };
     let mut deepest: u32 = 0;
     for d in declared {
-        deepest = deepest.max(written_type(&d.written));
+        deepest = deepest.max(type_nesting(&d.written));
     }
     deepest
 }
 
 /// Returns the nesting depth of a VAR section, at most 2^32 - 1.
-fn variables(declared: &Option<Vec<Variables>>) -> u32
+fn variables_nesting(declared: &Option<Vec<VariableDeclaration>>) -> u32
     ensures { result ≡ capped (nesting (variables_of declared.now)) }
 {
     let Some(declared) = declared else {
@@ -288,41 +294,41 @@ fn variables(declared: &Option<Vec<Variables>>) -> u32
     };
     let mut deepest: u32 = 0;
     for v in declared {
-        deepest = deepest.max(written_type(&v.written));
+        deepest = deepest.max(type_nesting(&v.written));
     }
     deepest
 }
 
 /// Returns the nesting depth of a block's statements, at most 2^32 - 1.
-fn body(statements: &Option<Vec<Statement>>) -> u32
+fn body_nesting(statements: &Option<Vec<Statement>>) -> u32
     ensures { result ≡ capped (nesting (body_of statements.now)) }
 {
     match statements {
-        Some(statements) => sequence(statements),
+        Some(statements) => sequence_nesting(statements),
         None => 0,
     }
 }
 
 /// Returns the nesting depth of a block and its procedures, at most 2^32 - 1.
 #[cycle(blocks)]
-fn block(b: &Block) -> u32
+fn block_nesting(b: &Block) -> u32
     ensures { result ≡ capped (nesting (block_of b.now)) }
 {
-    let constants = constants(&b.constants);
-    let types = types(&b.types);
-    let variables = variables(&b.variables);
+    let constants = constants_nesting(&b.constants);
+    let types = types_nesting(&b.types);
+    let variables = variables_nesting(&b.variables);
     let mut procedures: u32 = 0;
     for p in &b.procedures {
-        procedures = procedures.max(procedure(p));
+        procedures = procedures.max(procedure_nesting(p));
     }
     let declared = constants.max(types).max(variables.max(procedures));
-    declared.max(body(&b.body))
+    declared.max(body_nesting(&b.body))
 }
 
 /// Returns the nesting depth of a procedure, which counts itself, at most 2^32 - 1.
 #[cycle(blocks)]
-fn procedure(p: &Procedure) -> u32
+fn procedure_nesting(p: &Procedure) -> u32
     ensures { result ≡ capped (nesting (procedure_of p.now)) }
 {
-    deeper(formals(&p.formals).max(block(&p.block)))
+    one_level_deeper(formals_nesting(&p.formals).max(block_nesting(&p.block)))
 }

@@ -10,15 +10,15 @@
 ghost use Rattle.std.specs.Prelude.{◌≡◌, ℕ, OnOk};
 ghost use Rattle.ob0_tree.specs.declared.tree.Role.{Role};
 ghost use Rattle.ob0_tree.specs.declared.tree.Role.TheVariants as roles;
-ghost use Rattle.ob0_tree.specs.Parsed.{tree_of};
+ghost use Rattle.ob0_tree.specs.ParsedModule.{tree_of};
 ghost use Rattle.ob0_tree.specs.Tree.{identifiers};
-ghost use Rattle.ob0_tree.specs.Visited.{visited, visited_all};
-ghost use Rattle.ob0_tree.specs.View.{expression_of, compound_of, simple_of, term_of, factor_of, designator_of, selector_of, assignment_of, call_of, arguments_in, statement_of, if_of, elsifs_in, sequence_in, names_of, type_of, record_in, fields_of, section_of, formals_of, constants_of, types_of, variables_of, body_of, procedure_of, block_of};
+ghost use Rattle.ob0_tree.specs.Visited.{state_after_visit, state_after_identifiers};
+ghost use Rattle.ob0_tree.specs.View.{expression_of, compound_of, simple_of, term_of, factor_of, designator_of, selector_of, assignment_of, call_of, arguments_of_vec, statement_of, if_of, elsifs_of_vec, sequence_of_vec, names_of, type_of, record_type_of, fields_of, section_of, formals_of, constants_of, types_of, variables_of, body_of, procedure_of, block_of};
 
 use crate::tree::{
-    Assignment, Block, Call, Compound, Constant, Designator, Elsif, Expression, Factor, Fields, If,
-    Module, Names, Procedure, RecordType, Role, Section, Selector, Simple, Statement, Term,
-    TypeDeclaration, Variables, WrittenType,
+    Assignment, Block, Call, CompoundExpression, Constant, Designator, Elsif, Expression, Factor,
+    Fields, If, Module, Names, ParameterSection, Procedure, RecordType, Role, Selector,
+    SimpleExpression, Statement, Term, TypeDeclaration, VariableDeclaration, WrittenType,
 };
 use std::alloc::AllocError;
 
@@ -30,355 +30,358 @@ pub trait Visitor {
     ghost seen: { Role → ℕ → Self → Self };
 
     /// Visits an identifier, given its role and the index of its token.
-    fn see(&mut self, role: Role, token: usize) -> Result<(), AllocError>
+    fn see_identifier(&mut self, role: Role, token: usize) -> Result<(), AllocError>
         ensures { OnOk result (self.new ≡ seen role token self.old) };
 }
 
 impl<'t> Module<'t> {
     /// Visits every identifier of the module, in text order.
     pub fn visit<V: Visitor>(&self, visitor: &mut V) -> Result<(), AllocError>
-        ensures { OnOk result (visitor.new ≡ visited V.seen (tree_of self.now) visitor.old) }
+        ensures { OnOk result (visitor.new ≡ state_after_visit V.seen (tree_of self.now) visitor.old) }
     {
-        visitor.see(Role::ModuleName, self.name())?;
-        block(visitor, self.block())?;
-        visitor.see(Role::ModuleName, self.closing())
+        visitor.see_identifier(Role::ModuleName, self.name())?;
+        walk_block(visitor, self.block())?;
+        visitor.see_identifier(Role::ModuleName, self.closing_name())
     }
 }
 
 /// Visits the identifiers of an expression.
 #[cycle(expressions)]
-pub fn expression<V: Visitor>(visitor: &mut V, e: &Expression) -> Result<(), AllocError>
-    ensures { OnOk result (visitor.new ≡ visited V.seen (expression_of e.now) visitor.old) }
+pub fn walk_expression<V: Visitor>(visitor: &mut V, e: &Expression) -> Result<(), AllocError>
+    ensures { OnOk result (visitor.new ≡ state_after_visit V.seen (expression_of e.now) visitor.old) }
 {
     match e {
-        Expression::Factor(f) => factor(visitor, f),
-        Expression::Compound(c) => compound(visitor, c),
+        Expression::Factor(f) => walk_factor(visitor, f),
+        Expression::CompoundExpression(c) => walk_compound(visitor, c),
     }
 }
 
 /// Visits the identifiers of an expression that isn't a single factor.
 #[cycle(expressions)]
-fn compound<V: Visitor>(visitor: &mut V, c: &Compound) -> Result<(), AllocError>
-    ensures { OnOk result (visitor.new ≡ visited V.seen (compound_of c.now) visitor.old) }
+fn walk_compound<V: Visitor>(visitor: &mut V, c: &CompoundExpression) -> Result<(), AllocError>
+    ensures { OnOk result (visitor.new ≡ state_after_visit V.seen (compound_of c.now) visitor.old) }
 {
-    simple(visitor, &c.left)?;
+    walk_simple(visitor, &c.left)?;
     if let Some(compared) = &c.compared {
-        simple(visitor, &compared.right)?;
+        walk_simple(visitor, &compared.right)?;
     }
     Ok(())
 }
 
 /// Visits the identifiers of a simple expression.
 #[cycle(expressions)]
-fn simple<V: Visitor>(visitor: &mut V, s: &Simple) -> Result<(), AllocError>
-    ensures { OnOk result (visitor.new ≡ visited V.seen (simple_of s.now) visitor.old) }
+fn walk_simple<V: Visitor>(visitor: &mut V, s: &SimpleExpression) -> Result<(), AllocError>
+    ensures { OnOk result (visitor.new ≡ state_after_visit V.seen (simple_of s.now) visitor.old) }
 {
-    term(visitor, &s.first)?;
+    walk_term(visitor, &s.first)?;
     for addend in &s.more {
-        term(visitor, &addend.term)?;
+        walk_term(visitor, &addend.term)?;
     }
     Ok(())
 }
 
 /// Visits the identifiers of a term.
 #[cycle(expressions)]
-fn term<V: Visitor>(visitor: &mut V, t: &Term) -> Result<(), AllocError>
-    ensures { OnOk result (visitor.new ≡ visited V.seen (term_of t.now) visitor.old) }
+fn walk_term<V: Visitor>(visitor: &mut V, t: &Term) -> Result<(), AllocError>
+    ensures { OnOk result (visitor.new ≡ state_after_visit V.seen (term_of t.now) visitor.old) }
 {
-    factor(visitor, &t.first)?;
+    walk_factor(visitor, &t.first)?;
     for multiplier in &t.more {
-        factor(visitor, &multiplier.factor)?;
+        walk_factor(visitor, &multiplier.factor)?;
     }
     Ok(())
 }
 
 /// Visits the identifiers of a factor.
 #[cycle(expressions)]
-fn factor<V: Visitor>(visitor: &mut V, f: &Factor) -> Result<(), AllocError>
-    ensures { OnOk result (visitor.new ≡ visited V.seen (factor_of f.now) visitor.old) }
+fn walk_factor<V: Visitor>(visitor: &mut V, f: &Factor) -> Result<(), AllocError>
+    ensures { OnOk result (visitor.new ≡ state_after_visit V.seen (factor_of f.now) visitor.old) }
 {
     match f {
-        Factor::Designator(d) => designator(visitor, d),
+        Factor::Designator(d) => walk_designator(visitor, d),
         Factor::Integer(_) => Ok(()),
-        Factor::Parenthesised(e) => expression(visitor, e),
-        Factor::Not(f) => factor(visitor, f),
+        Factor::Parenthesised(e) => walk_expression(visitor, e),
+        Factor::Not(f) => walk_factor(visitor, f),
     }
 }
 
 /// Visits the identifiers of a name with its selectors.
 #[cycle(expressions)]
-fn designator<V: Visitor>(visitor: &mut V, d: &Designator) -> Result<(), AllocError>
-    ensures { OnOk result (visitor.new ≡ visited V.seen (designator_of d.now) visitor.old) }
+fn walk_designator<V: Visitor>(visitor: &mut V, d: &Designator) -> Result<(), AllocError>
+    ensures { OnOk result (visitor.new ≡ state_after_visit V.seen (designator_of d.now) visitor.old) }
 {
-    visitor.see(Role::LookedUp, d.name)?;
+    visitor.see_identifier(Role::LookedUp, d.name)?;
     for s in &d.selectors {
-        selector(visitor, s)?;
+        walk_selector(visitor, s)?;
     }
     Ok(())
 }
 
 /// Visits the identifiers of a selector.
 #[cycle(expressions)]
-fn selector<V: Visitor>(visitor: &mut V, s: &Selector) -> Result<(), AllocError>
-    ensures { OnOk result (visitor.new ≡ visited V.seen (selector_of s.now) visitor.old) }
+fn walk_selector<V: Visitor>(visitor: &mut V, s: &Selector) -> Result<(), AllocError>
+    ensures { OnOk result (visitor.new ≡ state_after_visit V.seen (selector_of s.now) visitor.old) }
 {
     match s {
         Selector::Field(name) => {
-            visitor.see(Role::FieldName, *name)?;
+            visitor.see_identifier(Role::FieldName, *name)?;
             Ok(())
         }
-        Selector::Index(e) => expression(visitor, e),
+        Selector::Index(e) => walk_expression(visitor, e),
     }
 }
 
 /// Visits the identifiers of an assignment.
-fn assignment<V: Visitor>(visitor: &mut V, a: &Assignment) -> Result<(), AllocError>
-    ensures { OnOk result (visitor.new ≡ visited V.seen (assignment_of a.now) visitor.old) }
+fn walk_assignment<V: Visitor>(visitor: &mut V, a: &Assignment) -> Result<(), AllocError>
+    ensures { OnOk result (visitor.new ≡ state_after_visit V.seen (assignment_of a.now) visitor.old) }
 {
-    designator(visitor, &a.target)?;
-    expression(visitor, &a.value)
+    walk_designator(visitor, &a.target)?;
+    walk_expression(visitor, &a.value)
 }
 
 /// Visits the identifiers of a call.
-fn call<V: Visitor>(visitor: &mut V, c: &Call) -> Result<(), AllocError>
-    ensures { OnOk result (visitor.new ≡ visited V.seen (call_of c.now) visitor.old) }
+fn walk_call<V: Visitor>(visitor: &mut V, c: &Call) -> Result<(), AllocError>
+    ensures { OnOk result (visitor.new ≡ state_after_visit V.seen (call_of c.now) visitor.old) }
 {
-    visitor.see(Role::LookedUp, c.procedure)?;
+    visitor.see_identifier(Role::LookedUp, c.procedure)?;
     if let Some(given) = &c.arguments {
-        arguments(visitor, given)?;
+        walk_arguments(visitor, given)?;
     }
     Ok(())
 }
 
 /// Visits the identifiers of the arguments of a call.
-fn arguments<V: Visitor>(visitor: &mut V, given: &Vec<Expression>) -> Result<(), AllocError>
-    ensures { OnOk result (visitor.new ≡ visited V.seen (arguments_in given.now) visitor.old) }
+fn walk_arguments<V: Visitor>(visitor: &mut V, given: &Vec<Expression>) -> Result<(), AllocError>
+    ensures { OnOk result (visitor.new ≡ state_after_visit V.seen (arguments_of_vec given.now) visitor.old) }
 {
     for e in given {
-        expression(visitor, e)?;
+        walk_expression(visitor, e)?;
     }
     Ok(())
 }
 
 /// Visits the identifiers of a sequence of statements.
 #[cycle(statements)]
-fn sequence<V: Visitor>(visitor: &mut V, statements: &Vec<Statement>) -> Result<(), AllocError>
-    ensures { OnOk result (visitor.new ≡ visited V.seen (sequence_in statements.now) visitor.old) }
+fn walk_sequence<V: Visitor>(visitor: &mut V, statements: &Vec<Statement>) -> Result<(), AllocError>
+    ensures { OnOk result (visitor.new ≡ state_after_visit V.seen (sequence_of_vec statements.now) visitor.old) }
 {
     for s in statements {
-        statement(visitor, s)?;
+        walk_statement(visitor, s)?;
     }
     Ok(())
 }
 
 /// Visits the identifiers of a statement.
 #[cycle(statements)]
-fn statement<V: Visitor>(visitor: &mut V, s: &Statement) -> Result<(), AllocError>
-    ensures { OnOk result (visitor.new ≡ visited V.seen (statement_of s.now) visitor.old) }
+fn walk_statement<V: Visitor>(visitor: &mut V, s: &Statement) -> Result<(), AllocError>
+    ensures { OnOk result (visitor.new ≡ state_after_visit V.seen (statement_of s.now) visitor.old) }
 {
     match s {
         Statement::Empty => Ok(()),
-        Statement::Assign(a) => assignment(visitor, a),
-        Statement::Call(c) => call(visitor, c),
-        Statement::If(i) => branches(visitor, i),
+        Statement::Assign(a) => walk_assignment(visitor, a),
+        Statement::Call(c) => walk_call(visitor, c),
+        Statement::If(i) => walk_if(visitor, i),
         Statement::While(w) => {
-            expression(visitor, &w.condition)?;
-            sequence(visitor, &w.body)
+            walk_expression(visitor, &w.condition)?;
+            walk_sequence(visitor, &w.body)
         }
         Statement::Repeat(r) => {
-            sequence(visitor, &r.body)?;
-            expression(visitor, &r.condition)
+            walk_sequence(visitor, &r.body)?;
+            walk_expression(visitor, &r.condition)
         }
     }
 }
 
 /// Visits the identifiers of an IF statement.
 #[cycle(statements)]
-fn branches<V: Visitor>(visitor: &mut V, i: &If) -> Result<(), AllocError>
-    ensures { OnOk result (visitor.new ≡ visited V.seen (if_of i.now) visitor.old) }
+fn walk_if<V: Visitor>(visitor: &mut V, i: &If) -> Result<(), AllocError>
+    ensures { OnOk result (visitor.new ≡ state_after_visit V.seen (if_of i.now) visitor.old) }
 {
-    expression(visitor, &i.condition)?;
-    sequence(visitor, &i.then)?;
-    elsifs(visitor, &i.elsifs)?;
+    walk_expression(visitor, &i.condition)?;
+    walk_sequence(visitor, &i.then)?;
+    walk_elsifs(visitor, &i.elsifs)?;
     match &i.otherwise {
-        Some(statements) => sequence(visitor, statements),
+        Some(statements) => walk_sequence(visitor, statements),
         None => Ok(()),
     }
 }
 
 /// Visits the identifiers of the ELSIF parts of an IF statement.
 #[cycle(statements)]
-fn elsifs<V: Visitor>(visitor: &mut V, parts: &Vec<Elsif>) -> Result<(), AllocError>
-    ensures { OnOk result (visitor.new ≡ visited V.seen (elsifs_in parts.now) visitor.old) }
+fn walk_elsifs<V: Visitor>(visitor: &mut V, parts: &Vec<Elsif>) -> Result<(), AllocError>
+    ensures { OnOk result (visitor.new ≡ state_after_visit V.seen (elsifs_of_vec parts.now) visitor.old) }
 {
     for e in parts {
-        expression(visitor, &e.condition)?;
-        sequence(visitor, &e.then)?;
+        walk_expression(visitor, &e.condition)?;
+        walk_sequence(visitor, &e.then)?;
     }
     Ok(())
 }
 
 /// Visits names that all have this role, in text order.
-fn names<V: Visitor>(visitor: &mut V, role: Role, ns: &Names) -> Result<(), AllocError>
-    ensures { OnOk result (visitor.new ≡ visited_all V.seen (identifiers role (names_of ns.now)) visitor.old) }
+fn walk_names<V: Visitor>(visitor: &mut V, role: Role, ns: &Names) -> Result<(), AllocError>
+    ensures { OnOk result (visitor.new ≡ state_after_identifiers V.seen (identifiers role (names_of ns.now)) visitor.old) }
 {
-    visitor.see(role, ns.first)?;
+    visitor.see_identifier(role, ns.first)?;
     for name in &ns.more {
-        visitor.see(role, *name)?;
+        visitor.see_identifier(role, *name)?;
     }
     Ok(())
 }
 
 /// Visits the identifiers of a written type.
 #[cycle(types)]
-pub fn written_type<V: Visitor>(visitor: &mut V, t: &WrittenType) -> Result<(), AllocError>
-    ensures { OnOk result (visitor.new ≡ visited V.seen (type_of t.now) visitor.old) }
+pub fn walk_type<V: Visitor>(visitor: &mut V, t: &WrittenType) -> Result<(), AllocError>
+    ensures { OnOk result (visitor.new ≡ state_after_visit V.seen (type_of t.now) visitor.old) }
 {
     match t {
         WrittenType::Named(name) => {
-            visitor.see(Role::LookedUp, *name)?;
+            visitor.see_identifier(Role::LookedUp, *name)?;
             Ok(())
         }
         WrittenType::Array(a) => {
-            expression(visitor, &a.size)?;
-            written_type(visitor, &a.element)
+            walk_expression(visitor, &a.size)?;
+            walk_type(visitor, &a.element)
         }
-        WrittenType::Record(r) => record(visitor, r),
+        WrittenType::Record(r) => walk_record(visitor, r),
     }
 }
 
 /// Visits the identifiers of a record type.
 #[cycle(types)]
-fn record<V: Visitor>(visitor: &mut V, r: &RecordType) -> Result<(), AllocError>
-    ensures { OnOk result (visitor.new ≡ visited V.seen (record_in r.now) visitor.old) }
+fn walk_record<V: Visitor>(visitor: &mut V, r: &RecordType) -> Result<(), AllocError>
+    ensures { OnOk result (visitor.new ≡ state_after_visit V.seen (record_type_of r.now) visitor.old) }
 {
     for group in &r.groups {
-        fields(visitor, group)?;
+        walk_fields(visitor, group)?;
     }
     Ok(())
 }
 
 /// Visits the identifiers of a group of fields.
 #[cycle(types)]
-fn fields<V: Visitor>(visitor: &mut V, f: &Fields) -> Result<(), AllocError>
-    ensures { OnOk result (visitor.new ≡ visited V.seen (fields_of f.now) visitor.old) }
+fn walk_fields<V: Visitor>(visitor: &mut V, f: &Fields) -> Result<(), AllocError>
+    ensures { OnOk result (visitor.new ≡ state_after_visit V.seen (fields_of f.now) visitor.old) }
 {
     match f {
         Fields::Empty => Ok(()),
         Fields::Listed(l) => {
-            names(visitor, Role::FieldName, &l.names)?;
-            written_type(visitor, &l.written)
+            walk_names(visitor, Role::FieldName, &l.names)?;
+            walk_type(visitor, &l.written)
         }
     }
 }
 
 /// Visits the identifiers of a section of parameters.
-fn section<V: Visitor>(visitor: &mut V, s: &Section) -> Result<(), AllocError>
-    ensures { OnOk result (visitor.new ≡ visited V.seen (section_of s.now) visitor.old) }
+fn walk_section<V: Visitor>(visitor: &mut V, s: &ParameterSection) -> Result<(), AllocError>
+    ensures { OnOk result (visitor.new ≡ state_after_visit V.seen (section_of s.now) visitor.old) }
 {
-    names(visitor, Role::Declaring, &s.names)?;
-    written_type(visitor, &s.written)
+    walk_names(visitor, Role::Declaring, &s.names)?;
+    walk_type(visitor, &s.written)
 }
 
 /// Visits the identifiers of the formal parameters of a heading.
-fn formals<V: Visitor>(visitor: &mut V, sections: &Option<Vec<Section>>) -> Result<(), AllocError>
-    ensures { OnOk result (visitor.new ≡ visited V.seen (formals_of sections.now) visitor.old) }
+fn walk_formals<V: Visitor>(
+    visitor: &mut V,
+    sections: &Option<Vec<ParameterSection>>,
+) -> Result<(), AllocError>
+    ensures { OnOk result (visitor.new ≡ state_after_visit V.seen (formals_of sections.now) visitor.old) }
 {
     let Some(sections) = sections else {
         return Ok(());
     };
     for s in sections {
-        section(visitor, s)?;
+        walk_section(visitor, s)?;
     }
     Ok(())
 }
 
 /// Visits the identifiers of a CONST section.
-fn constants<V: Visitor>(
+fn walk_constants<V: Visitor>(
     visitor: &mut V,
     declared: &Option<Vec<Constant>>,
 ) -> Result<(), AllocError>
-    ensures { OnOk result (visitor.new ≡ visited V.seen (constants_of declared.now) visitor.old) }
+    ensures { OnOk result (visitor.new ≡ state_after_visit V.seen (constants_of declared.now) visitor.old) }
 {
     let Some(declared) = declared else {
         return Ok(());
     };
     for c in declared {
-        visitor.see(Role::Declaring, c.name)?;
-        expression(visitor, &c.value)?;
+        visitor.see_identifier(Role::Declaring, c.name)?;
+        walk_expression(visitor, &c.value)?;
     }
     Ok(())
 }
 
 /// Visits the identifiers of a TYPE section.
-fn types<V: Visitor>(
+fn walk_types<V: Visitor>(
     visitor: &mut V,
     declared: &Option<Vec<TypeDeclaration>>,
 ) -> Result<(), AllocError>
-    ensures { OnOk result (visitor.new ≡ visited V.seen (types_of declared.now) visitor.old) }
+    ensures { OnOk result (visitor.new ≡ state_after_visit V.seen (types_of declared.now) visitor.old) }
 {
     let Some(declared) = declared else {
         return Ok(());
     };
     for d in declared {
-        visitor.see(Role::Declaring, d.name)?;
-        written_type(visitor, &d.written)?;
+        visitor.see_identifier(Role::Declaring, d.name)?;
+        walk_type(visitor, &d.written)?;
     }
     Ok(())
 }
 
 /// Visits the identifiers of a VAR section.
-fn variables<V: Visitor>(
+fn walk_variables<V: Visitor>(
     visitor: &mut V,
-    declared: &Option<Vec<Variables>>,
+    declared: &Option<Vec<VariableDeclaration>>,
 ) -> Result<(), AllocError>
-    ensures { OnOk result (visitor.new ≡ visited V.seen (variables_of declared.now) visitor.old) }
+    ensures { OnOk result (visitor.new ≡ state_after_visit V.seen (variables_of declared.now) visitor.old) }
 {
     let Some(declared) = declared else {
         return Ok(());
     };
     for v in declared {
-        names(visitor, Role::Declaring, &v.names)?;
-        written_type(visitor, &v.written)?;
+        walk_names(visitor, Role::Declaring, &v.names)?;
+        walk_type(visitor, &v.written)?;
     }
     Ok(())
 }
 
 /// Visits the identifiers of a block's statements.
-pub fn body<V: Visitor>(
+pub fn walk_body<V: Visitor>(
     visitor: &mut V,
     statements: &Option<Vec<Statement>>,
 ) -> Result<(), AllocError>
-    ensures { OnOk result (visitor.new ≡ visited V.seen (body_of statements.now) visitor.old) }
+    ensures { OnOk result (visitor.new ≡ state_after_visit V.seen (body_of statements.now) visitor.old) }
 {
     match statements {
-        Some(statements) => sequence(visitor, statements),
+        Some(statements) => walk_sequence(visitor, statements),
         None => Ok(()),
     }
 }
 
 /// Visits the identifiers of a block and its procedures.
 #[cycle(blocks)]
-fn block<V: Visitor>(visitor: &mut V, b: &Block) -> Result<(), AllocError>
-    ensures { OnOk result (visitor.new ≡ visited V.seen (block_of b.now) visitor.old) }
+fn walk_block<V: Visitor>(visitor: &mut V, b: &Block) -> Result<(), AllocError>
+    ensures { OnOk result (visitor.new ≡ state_after_visit V.seen (block_of b.now) visitor.old) }
 {
-    constants(visitor, &b.constants)?;
-    types(visitor, &b.types)?;
-    variables(visitor, &b.variables)?;
+    walk_constants(visitor, &b.constants)?;
+    walk_types(visitor, &b.types)?;
+    walk_variables(visitor, &b.variables)?;
     for p in &b.procedures {
-        procedure(visitor, p)?;
+        walk_procedure(visitor, p)?;
     }
-    body(visitor, &b.body)
+    walk_body(visitor, &b.body)
 }
 
 /// Visits the identifiers of a procedure.
 #[cycle(blocks)]
-fn procedure<V: Visitor>(visitor: &mut V, p: &Procedure) -> Result<(), AllocError>
-    ensures { OnOk result (visitor.new ≡ visited V.seen (procedure_of p.now) visitor.old) }
+fn walk_procedure<V: Visitor>(visitor: &mut V, p: &Procedure) -> Result<(), AllocError>
+    ensures { OnOk result (visitor.new ≡ state_after_visit V.seen (procedure_of p.now) visitor.old) }
 {
-    visitor.see(Role::Declaring, p.name)?;
-    formals(visitor, &p.formals)?;
-    block(visitor, &p.block)?;
-    visitor.see(Role::ClosingName, p.closing)?;
+    visitor.see_identifier(Role::Declaring, p.name)?;
+    walk_formals(visitor, &p.formals)?;
+    walk_block(visitor, &p.block)?;
+    visitor.see_identifier(Role::ClosingName, p.closing)?;
     Ok(())
 }

@@ -3,17 +3,17 @@ use Rattle.std.proofs.Common.{◌≤◌, ◌≡◌, ◌↔◌, ◌+◌, ◌&&◌
 use Rattle.std.proofs.lemmas.List.{nil_from_length}
 use Rattle.std.specs.List.{filter, list_any}
 use Rattle.ob0_scan.specs.declared.fault.Fault.{Fault}
-use Rattle.ob0_language_names.specs.Names.{as_names}
+use Rattle.ob0_language_names.specs.Names.{naming_by_spelling}
 use Rattle.ob0_language_names.specs.DeclaredOnce.{declared_once}
-use Rattle.ob0_scope_table.specs.Resolution.{IsResolution, Resolution, is_of_declarations}
-use Rattle.ob0_tree.specs.Parsed.{named_tree_of}
+use Rattle.ob0_scope_table.specs.Resolution.{IsResolution, Resolution, is_declaration_fault}
+use Rattle.ob0_tree.specs.ParsedModule.{named_tree_of}
 use Rattle.ob0_types_check.specs.DeclarationFaults.{reported_module}
 use Rattle.ob0_types_check.specs.ModuleLaws.{HasDeclarations, ModulesFit}
 use Rattle.ob0_types_check.specs.SomeBodies.{IsReportOf}
 use Rattle.ob0_types_check.specs.WellTypedLaws.{NoFaultInModules}
 use Rattle.ob0_types_check.specs.declared.reporting.Report.{Report}
 use Rattle.ob0_types.specs.FaultOrder.{AreFirstOf, faults_in}
-use Rattle.ob0_types.specs.CheckedModules.{IsChecked, IsKnownWhereTyped}
+use Rattle.ob0_types.specs.CheckedModules.{IsChecked, IsKnownIfTyped}
 use Rattle.ob0_types_table.specs.KnownTables.{Tables}
 use Rattle.ob0_language_types.specs.WellTyped.{WellTyped, fits_over}
 
@@ -28,16 +28,16 @@ length-nil xs e = ap length e
 pub empty_alike : (xs ys : List Fault) → (length xs ≡ 0 → length ys ≡ 0) → (length ys ≡ 0 → length xs ≡ 0) → (xs ≡ []) ↔ (ys ≡ [])
 empty_alike xs ys there back = ((λ e. nil_from_length ys (there (length-nil xs e))), (λ e. nil_from_length xs (back (length-nil ys e))))
 
-none_kept : (scopes : List Fault) → list_any is_of_declarations scopes ≡ false → length (filter is_of_declarations scopes) ≡ 0
+none_kept : (scopes : List Fault) → list_any is_declaration_fault scopes ≡ false → length (filter is_declaration_fault scopes) ≡ 0
 none_kept [] none = refl
 none_kept (fault ∷ faults) none =
-    (elim (is_of_declarations fault) as (λ b. (b || list_any is_of_declarations faults) ≡ false → length (if b then fault ∷ filter is_of_declarations faults else filter is_of_declarations faults) ≡ 0)
+    (elim (is_declaration_fault fault) as (λ b. (b || list_any is_declaration_fault faults) ≡ false → length (if b then fault ∷ filter is_declaration_fault faults else filter is_declaration_fault faults) ≡ 0)
     [ true ↦ λ e. absurd (true≢false e) | false ↦ λ e. none_kept faults e ]) none
 
-kept_none : (scopes : List Fault) → length (filter is_of_declarations scopes) ≡ 0 → list_any is_of_declarations scopes ≡ false
+kept_none : (scopes : List Fault) → length (filter is_declaration_fault scopes) ≡ 0 → list_any is_declaration_fault scopes ≡ false
 kept_none [] none = refl
 kept_none (fault ∷ faults) none =
-    (elim (is_of_declarations fault) as (λ b. length (if b then fault ∷ filter is_of_declarations faults else filter is_of_declarations faults) ≡ 0 → (b || list_any is_of_declarations faults) ≡ false)
+    (elim (is_declaration_fault fault) as (λ b. length (if b then fault ∷ filter is_declaration_fault faults else filter is_declaration_fault faults) ≡ 0 → (b || list_any is_declaration_fault faults) ≡ false)
     [ true ↦ λ e. absurd (omega (arith, e)) | false ↦ λ e. kept_none faults e ]) none
 
 both_right : (a b : Bool) → a ≡ true → b ≡ false → (a && not b) ≡ true
@@ -54,17 +54,17 @@ second_right false b e = absurd (true≢false (sym e))
 
 -- If a list of faults is empty exactly if a test is true, consider the list with the faults of declarations appended.
 -- It is empty exactly if the test is true and there are no such faults.
-reported_with : (right : Bool) (first scopes : List Fault) → IsReported right first → IsReported (right && not (list_any is_of_declarations scopes)) (first ++ filter is_of_declarations scopes)
+reported_with : (right : Bool) (first scopes : List Fault) → IsReported right first → IsReported (right && not (list_any is_declaration_fault scopes)) (first ++ filter is_declaration_fault scopes)
 reported_with right first scopes reported = (
   (λ e.
-      let all : length first + length (filter is_of_declarations scopes) ≡ 0 = sym (length-append first (filter is_of_declarations scopes)) ∙ length-nil (first ++ filter is_of_declarations scopes) e in
+      let all : length first + length (filter is_declaration_fault scopes) ≡ 0 = sym (length-append first (filter is_declaration_fault scopes)) ∙ length-nil (first ++ filter is_declaration_fault scopes) e in
       let none : length first ≡ 0 = omega (arith, all) in
-      let others : length (filter is_of_declarations scopes) ≡ 0 = omega (arith, all) in
-      both_right right (list_any is_of_declarations scopes) (reported.0 (nil_from_length first none)) (kept_none scopes others)),
+      let others : length (filter is_declaration_fault scopes) ≡ 0 = omega (arith, all) in
+      both_right right (list_any is_declaration_fault scopes) (reported.0 (nil_from_length first none)) (kept_none scopes others)),
   (λ r.
-      let none : length first ≡ 0 = length-nil first (reported.1 (first_right right (list_any is_of_declarations scopes) r)) in
-      let others : length (filter is_of_declarations scopes) ≡ 0 = none_kept scopes (second_right right (list_any is_of_declarations scopes) r) in
-      nil_from_length (first ++ filter is_of_declarations scopes) (length-append first (filter is_of_declarations scopes) ∙ omega (arith, none, others))),
+      let none : length first ≡ 0 = length-nil first (reported.1 (first_right right (list_any is_declaration_fault scopes) r)) in
+      let others : length (filter is_declaration_fault scopes) ≡ 0 = none_kept scopes (second_right right (list_any is_declaration_fault scopes) r) in
+      nil_from_length (first ++ filter is_declaration_fault scopes) (length-append first (filter is_declaration_fault scopes) ∙ omega (arith, none, others))),
 )
 
 once_from : (b : Bool) (any : Bool) → any ≡ not b → any ≡ false → b ≡ true
@@ -90,7 +90,7 @@ unfolding WellTyped
 none_reported law r is w = law r is w.1
 
 -- A table in a report has the module's declarations, and the report of a well-typed module has a table.
-pub known_where_typed : (r : Resolution) (report : Report) → NoFaultInModules → IsResolution r → IsReportOf r report → IsKnownWhereTyped r report.known
+pub known_where_typed : (r : Resolution) (report : Report) → NoFaultInModules → IsResolution r → IsReportOf r report → IsKnownIfTyped r report.known
 known_where_typed r report law is h = record {
   holds = known_declares (reported_module r ≡ []) report.known (HasDeclarations (named_tree_of r.module_read)) h.known;
   kept = λ typed. known_there (reported_module r ≡ []) report.known (HasDeclarations (named_tree_of r.module_read)) h.known (none_reported law r is typed);
@@ -104,8 +104,8 @@ pub checked_reported : (r : Resolution) (faults : List Fault) → ModulesFit →
 unfolding WellTyped
 checked_reported r faults reported_law none_law h alike known knows few first =
     let m = named_tree_of r.module_read in
-    let fits : Bool = fits_over as_names m in
-    let any = list_any is_of_declarations r.faults in
+    let fits : Bool = fits_over naming_by_spelling m in
+    let any = list_any is_declaration_fault r.faults in
     let of_types : IsReported fits (reported_module r) = (reported_law r h, none_law r h) in
     let whole : IsReported (fits && not any) (faults_in r) = reported_with fits (reported_module r) r.faults of_types in
     let reported : IsReported (fits && not any) faults = ((λ none. whole.0 (alike.0 none)), (λ right. alike.1 (whole.1 right))) in

@@ -1,6 +1,6 @@
 -- The order of codes is the order of the numbers that they are declared with. `declared_number` is written as the
--- derived order writes these numbers; with a `_` instead, the proof isn't found. The key of `faults_of` has a generated
--- name, which may change when `faults_of` changes: the check's message then shows the new name.
+-- derived order writes these numbers; with a `_` instead, the proof isn't found. The key of `first_faults` has a generated
+-- name, which may change when `first_faults` changes: the check's message then shows the new name.
 use denote.Enum.Declared.{tag_of}
 use Rattle.std.proofs.Common.{◌≡◌, ℕ, ◌+◌, ℤ, pos, Bool, true, false, cond, ◌==◌, nat_lt, List, [], ◌∷◌, refl, sym, ap, ◌∙◌, arith, true≢false, eqb-true, eq-eqb, ltb-true, ltb-false}
 use Rattle.std.specs.List.Sorted.{IsSorted, IsSortedByKey}
@@ -8,16 +8,16 @@ use Rattle.std.specs.Ordering.{int_cmp, is_lt, nat_cmp, ordering_then}
 use Rattle.std.specs.Prelude.{slice_index_or}
 use Rattle.std.specs.declared.cmp.Ordering.{Ordering}
 use Rattle.std.specs.declared.cmp.Ordering.TheVariants.{Less, Equal, Greater}
-use Rattle.ob0_scan.specs.declared.fault.Code.{Code}
-use Rattle.ob0_scan.specs.declared.fault.Code.TheVariants as code
-use Rattle.ob0_scan.specs.contracts.fault.Code.{the_type}
+use Rattle.ob0_scan.specs.declared.fault.FaultCode.{FaultCode}
+use Rattle.ob0_scan.specs.declared.fault.FaultCode.TheVariants as code
+use Rattle.ob0_scan.specs.contracts.fault.FaultCode.{the_type}
 use Rattle.ob0_scan.specs.declared.fault.Fault.{Fault}
 use Rattle.ob0_types.specs.FaultOrder.{code_number, fault_cmp, place_cmp}
 
-abbrev pub declared_number : Code → ℤ
+abbrev pub declared_number : FaultCode → ℤ
 declared_number x = slice_index_or (pos 1 ∷ pos 2 ∷ pos 3 ∷ pos 4 ∷ pos 5 ∷ pos 10 ∷ pos 11 ∷ pos 12 ∷ pos 13 ∷ pos 14 ∷ pos 15 ∷ pos 16 ∷ pos 17 ∷ pos 18 ∷ pos 19 ∷ pos 20 ∷ pos 21 ∷ pos 22 ∷ pos 23 ∷ []) (tag_of the_type x) (pos 0)
 
-pub numbered : (x : Code) → declared_number x ≡ pos (code_number x)
+pub numbered : (x : FaultCode) → declared_number x ≡ pos (code_number x)
 numbered x =
     elim x as (λ y. declared_number y ≡ pos (code_number y)) [
       | code.TooLong ↦ refl
@@ -52,8 +52,8 @@ pos_cmp a b = one (nat_lt a b) refl (nat_lt b a) refl (a == b) refl
     one false p false q false r = let e : a ≡ b = omega (arith, ltb-false a b p, ltb-false b a q) in absurd (true≢false (sym (eq-eqb a b e) ∙ r))
 
 -- A list that is sorted by the key of place and code is sorted in the order of faults.
-pub sorted_by_key : (cmp : ℕ × ℕ × Code → ℕ × ℕ × Code → Ordering) (xs : List Fault)
-    → ((s e : ℕ) (x : Code) (s₂ e₂ : ℕ) (y : Code) → cmp (s, e, x) (s₂, e₂, y) ≡ ordering_then (ordering_then (nat_cmp s s₂) (nat_cmp e e₂)) (int_cmp (declared_number x) (declared_number y)))
+pub sorted_by_key : (cmp : ℕ × ℕ × FaultCode → ℕ × ℕ × FaultCode → Ordering) (xs : List Fault)
+    → ((s e : ℕ) (x : FaultCode) (s₂ e₂ : ℕ) (y : FaultCode) → cmp (s, e, x) (s₂, e₂, y) ≡ ordering_then (ordering_then (nat_cmp s s₂) (nat_cmp e e₂)) (int_cmp (declared_number x) (declared_number y)))
     → IsSortedByKey (λ (f : Fault). (f.span.start, f.span.end, f.code)) cmp xs → IsSorted fault_cmp xs
 sorted_by_key cmp xs lexical sorted k d low high =
     let x = slice_index_or xs (k + 1) d in

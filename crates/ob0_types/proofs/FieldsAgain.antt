@@ -6,29 +6,29 @@ use Rattle.ob0_language_types.specs.Expressions.{Meanings}
 use Rattle.ob0_language_types.specs.WellTyped.{Signature, WellTyped}
 use Rattle.ob0_language_values.specs.Values.{Shape}
 use Rattle.ob0_scope_table.specs.Resolution.{IsResolution, Resolution}
-use Rattle.ob0_tree.specs.Order.{Ascending}
-use Rattle.ob0_tree.specs.Parsed.{named_tree_of, tree_of}
+use Rattle.ob0_tree.specs.Order.{AreAscending}
+use Rattle.ob0_tree.specs.ParsedModule.{named_tree_of, tree_of}
 use Rattle.ob0_tree.specs.Tree.{Tree, body, maybe}
-use Rattle.ob0_types_check.specs.AlikeBut.{IsAlikeAt}
+use Rattle.ob0_types_check.specs.EqualExceptBodies.{IsSameTokenAt}
 use Rattle.ob0_types_check.specs.SomeBodies.{is_among}
 use Rattle.ob0_types_check.specs.WellTypedLaws.{NoFaultInModules}
 use Rattle.ob0_types_check.proofs.DeclarationsStay.{declarations_stay}
 use Rattle.ob0_types_fields.specs.declared.field_name.FieldName.{FieldName}
 use Rattle.ob0_types_fields.specs.Identifiers.{field_identifiers, tokens_of}
-use Rattle.ob0_types_fields.specs.Listed.{AreFields, HasOthersWithin, Listed}
-use Rattle.ob0_types_fields.specs.Owned.{marked_module, marked_tree, token_objects}
-use Rattle.ob0_types_table.specs.KnownTables.{Tables, declared_in}
-use Rattle.ob0_types_fields.proofs.FieldTokens.{fields_ascend}
-use Rattle.ob0_types_fields.proofs.FieldsListed.{fields_listed-holds}
-use Rattle.ob0_types_fields.proofs.MarkedFields.{module-fields}
+use Rattle.ob0_types_fields.specs.FieldLists.{AreFieldListsOf, HasOthersWithin, FieldLists}
+use Rattle.ob0_types_fields.specs.Owned.{fields_in_module, fields_in_tree, meanings_by_token}
+use Rattle.ob0_types_table.specs.KnownTables.{Tables, declared_object_in}
+use Rattle.ob0_types_fields.proofs.FieldNameList.{fields_ascend}
+use Rattle.ob0_types_fields.proofs.FieldsMatchGrammar.{fields_match_grammar-holds}
+use Rattle.ob0_types_fields.proofs.WalkFindsAllFields.{module-fields}
 use Rattle.ob0_types_fields.proofs.MarkedSame.{MeansSame}
-use Rattle.ob0_types.specs.OneBody.{WereTypes, body_in_module}
+use Rattle.ob0_types.specs.OneBody.{WereTypesBeforeChange, body_in_module}
 use Rattle.ob0_types.specs.declared.checked.ModuleTypes.{ModuleTypes}
 use Rattle.ob0_types.proofs.AllReported.{none_reported}
 use Rattle.ob0_types.proofs.FieldsOutside.{AreAround, module_around}
 use Rattle.ob0_types.proofs.OneBody.{alike_outside, before, last_body, were_faulty}
 
-module _ (r : Resolution) (types : ModuleTypes) (low : ℕ) (w : WereTypes r types low) (law : NoFaultInModules) (is : IsResolution r) (typed : WellTyped (named_tree_of r.module_read)) (none : types.faults.items ≡ []) where
+module _ (r : Resolution) (types : ModuleTypes) (low : ℕ) (w : WereTypesBeforeChange r types low) (law : NoFaultInModules) (is : IsResolution r) (typed : WellTyped (named_tree_of r.module_read)) (none : types.faults.items ≡ []) where
   abbrev old : Resolution
   old = before r types low w
 
@@ -37,50 +37,50 @@ module _ (r : Resolution) (types : ModuleTypes) (low : ℕ) (w : WereTypes r typ
 
   -- returns the meanings of names before the change, according to their declarations
   abbrev meant_before : Meanings ℕ Shape Signature
-  meant_before = token_objects (declared_object (named_tree_of old.module_read)) old
+  meant_before = meanings_by_token (declared_object (named_tree_of old.module_read)) old
 
   abbrev meant_now : Meanings ℕ Shape Signature
-  meant_now = token_objects (declared_object (named_tree_of r.module_read)) r
+  meant_now = meanings_by_token (declared_object (named_tree_of r.module_read)) r
 
   declared_same : (k : ℕ) → declared_object (named_tree_of r.module_read) k ≡ declared_object (named_tree_of old.module_read) k
   declared_same =
       declarations_stay (is_among (types.faulty.items ++ last_body r types low w ∷ [])) r is (were_faulty r types low w is) (none_reported law old w.types_are.checked.resolved typed_before) (none_reported law r is typed)
 
-  means_same : (token : ℕ) → IsAlikeAt old r token → MeansSame meant_before meant_now token
+  means_same : (token : ℕ) → IsSameTokenAt old r token → MeansSame meant_before meant_now token
   means_same token h = record {
     object = (λ i. option_and_then (λ k. sym (declared_same k) i) (sym h.bound i));
     written = sym h.written;
   }
 
-  around : AreAround meant_before meant_now (marked_module meant_before (tree_of r.module_read)) (marked_module meant_now (tree_of r.module_read)) (body_in_module low (tree_of r.module_read)).statements
+  around : AreAround meant_before meant_now (fields_in_module meant_before (tree_of r.module_read)) (fields_in_module meant_now (tree_of r.module_read)) (body_in_module low (tree_of r.module_read)).statements
   around = module_around meant_before meant_now low (tree_of r.module_read) (alike_outside r types low w (λ token. MeansSame meant_before meant_now token) means_same is)
 
-  fields_before : types.fields.all ≡ around.before ++ (marked_tree meant_before (body_in_module low (tree_of r.module_read)).statements ++ around.after)
+  fields_before : types.fields.all ≡ around.before ++ (fields_in_tree meant_before (body_in_module low (tree_of r.module_read)).statements ++ around.after)
   fields_before = (w.types_are.fields none).1 ∙ (module-fields meant_before (tree_of r.module_read) ∙ around.first)
 
-  fields_now : field_identifiers r ≡ around.before ++ (marked_tree meant_now (body_in_module low (tree_of r.module_read)).statements ++ around.after)
+  fields_now : field_identifiers r ≡ around.before ++ (fields_in_tree meant_now (body_in_module low (tree_of r.module_read)).statements ++ around.after)
   fields_now = module-fields meant_now (tree_of r.module_read) ∙ around.second
 
   same_tokens : tokens_of types.fields.all ≡ tokens_of (field_identifiers r)
-  same_tokens = ap tokens_of (w.types_are.fields none).1 ∙ (fields_listed-holds old w.types_are.checked.resolved typed_before ∙ sym (fields_listed-holds r is typed))
+  same_tokens = ap tokens_of (w.types_are.fields none).1 ∙ (fields_match_grammar-holds old w.types_are.checked.resolved typed_before ∙ sym (fields_match_grammar-holds r is typed))
 
-  has_others : HasOthersWithin types.fields.all around.before (marked_tree meant_now (body_in_module low (tree_of r.module_read)).statements) around.after
+  has_others : HasOthersWithin types.fields.all around.before (fields_in_tree meant_now (body_in_module low (tree_of r.module_read)).statements) around.after
   has_others = record {
-    old = marked_tree meant_before (body_in_module low (tree_of r.module_read)).statements;
+    old = fields_in_tree meant_before (body_in_module low (tree_of r.module_read)).statements;
     top = length old.module_read.source.tokens;
-    in_order = subst (λ (xs : List FieldName). Ascending 0 (tokens_of xs) (length old.module_read.source.tokens)) (sym (w.types_are.fields none).1) (fields_ascend old w.types_are.checked.resolved.parsed);
+    in_order = subst (λ (xs : List FieldName). AreAscending 0 (tokens_of xs) (length old.module_read.source.tokens)) (sym (w.types_are.fields none).1) (fields_ascend old w.types_are.checked.resolved.parsed);
     is = fields_before;
     same = same_tokens ∙ ap tokens_of fields_now;
   }
 
   -- If the old fields within the body's tokens are replaced by the fields found in the body, the list has the module's
   -- fields.
-  pub fields_over : (f : Listed) (t : Tables) → ((k : ℕ) → declared_in t k ≡ declared_object (named_tree_of r.module_read) k)
+  pub fields_over : (f : FieldLists) (t : Tables) → ((k : ℕ) → declared_object_in t k ≡ declared_object (named_tree_of r.module_read) k)
       → (statements : Tree ℕ (maybe body)) → statements ≡ (body_in_module low (tree_of r.module_read)).statements → f.declared ≡ types.fields.declared
-      → ((first last : List FieldName) → HasOthersWithin types.fields.all first (marked_tree (token_objects (declared_in t) r) statements) last → f.all ≡ first ++ (marked_tree (token_objects (declared_in t) r) statements ++ last))
-      → AreFields r f
+      → ((first last : List FieldName) → HasOthersWithin types.fields.all first (fields_in_tree (meanings_by_token (declared_object_in t) r) statements) last → f.all ≡ first ++ (fields_in_tree (meanings_by_token (declared_object_in t) r) statements ++ last))
+      → AreFieldListsOf r f
   fields_over f t holds statements here declared over =
-      let found : marked_tree meant_now (body_in_module low (tree_of r.module_read)).statements ≡ marked_tree (token_objects (declared_in t) r) statements = λ i. marked_tree (token_objects (λ k. sym (holds k) i) r) (sym here i) in (
+      let found : fields_in_tree meant_now (body_in_module low (tree_of r.module_read)).statements ≡ fields_in_tree (meanings_by_token (declared_object_in t) r) statements = λ i. fields_in_tree (meanings_by_token (λ k. sym (holds k) i) r) (sym here i) in (
         declared ∙ (w.types_are.fields none).0,
         over around.before around.after (subst (λ l. HasOthersWithin types.fields.all around.before l around.after) found has_others)
             ∙ (ap (λ l. around.before ++ (l ++ around.after)) (sym found) ∙ sym fields_now),

@@ -2,14 +2,14 @@
 use Rattle.std.proofs.Common.{◌≡◌, IfSome, is_some, Option, Some, None, sym, subst, ap, ◌∙◌, true≢false}
 use Rattle.ob0_language_types.specs.WellTyped.{WellTyped}
 use Rattle.ob0_scope_table.specs.Resolution.{IsResolution, Resolution}
-use Rattle.ob0_tree.specs.Parsed.{named_tree_of}
-use Rattle.ob0_types.specs.CheckedModules.{IsKnownWhereTyped}
+use Rattle.ob0_tree.specs.ParsedModule.{named_tree_of}
+use Rattle.ob0_types.specs.CheckedModules.{IsKnownIfTyped}
 use Rattle.ob0_types_check.specs.ModuleLaws.{HasDeclarations}
-use Rattle.ob0_types_fields.specs.Listed.{AreFields, Listed, listed_by}
+use Rattle.ob0_types_fields.specs.FieldLists.{AreFieldListsOf, FieldLists, field_lists_of}
 use Rattle.ob0_types_fields.proofs.ListedFields.{listed_fields}
 use Rattle.ob0_types_table.specs.KnownTables.{Tables}
 
-module _ (r : Resolution) (known : Option Tables) (is : IsResolution r) (h : IsKnownWhereTyped r known) where
+module _ (r : Resolution) (known : Option Tables) (is : IsResolution r) (h : IsKnownIfTyped r known) where
   -- A module without a table of declarations isn't well-typed.
   pub none_typed : {A : Type 0} → known ≡ None → WellTyped (named_tree_of r.module_read) → A
   none_typed e typed = absurd (true≢false (sym (h.kept typed) ∙ ap is_some e))
@@ -17,5 +17,5 @@ module _ (r : Resolution) (known : Option Tables) (is : IsResolution r) (h : IsK
   pub table_holds : (t : Tables) → known ≡ Some t → HasDeclarations (named_tree_of r.module_read) t
   table_holds t e = subst (λ k. IfSome k (HasDeclarations (named_tree_of r.module_read))) e h.holds
 
-  pub fields_listed : (t : Tables) (fields : Listed) → known ≡ Some t → fields ≡ listed_by t r → WellTyped (named_tree_of r.module_read) → AreFields r fields
-  fields_listed t fields e same typed = subst (AreFields r) (sym same) (listed_fields r is typed t (table_holds t e))
+  pub fields_match_grammar : (t : Tables) (fields : FieldLists) → known ≡ Some t → fields ≡ field_lists_of t r → WellTyped (named_tree_of r.module_read) → AreFieldListsOf r fields
+  fields_match_grammar t fields e same typed = subst (AreFieldListsOf r) (sym same) (listed_fields r is typed t (table_holds t e))

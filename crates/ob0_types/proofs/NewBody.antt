@@ -1,54 +1,54 @@
 -- If a module was well-typed before the statements of one body were replaced, the new module fits without the new
 -- statements. A module that fits also fits without the statements of a body, and everything else has the same spelling.
 use Rattle.std.proofs.Common.{◌≡◌, ℕ, zero, suc, ◌+◌, Bool, true, false, ◌&&◌, nat_lt, if◌then◌else◌, List, [], ◌∷◌, ◌++◌, Option, Some, None, refl, sym, ap, ◌∙◌, subst}
-use Rattle.ob0_language_names.specs.DeclaredOnce.{are_distinct, block_names, block_once, declared_once, formals_once, procedure_names, procedure_once, procedures_once, types_once, variables_once}
-use Rattle.ob0_language_names.specs.Names.{Name, Naming, as_names, same_name}
-use Rattle.ob0_language_names.specs.Parts.{constant_names, formal_names, formal_sections, named_types, procedure_formals, procedure_name, section_constants, section_types, section_variables, variable_names}
-use Rattle.ob0_language_types.specs.Declarations.{after_variables, block_constructors, declare_first, formals_constructors, procedure_constructors, procedures_constructors, types_constructors, variables_constructors}
-use Rattle.ob0_language_types.specs.WellTyped.{TypeEnvironment, WellTyped, bind_typed, block_fits, fits_over, heading, procedure_fits, procedures_fit, some_and, typed_parameters}
+use Rattle.ob0_language_names.specs.DeclaredOnce.{are_distinct, block_names, block_once, declared_once, formals_have_distinct_fields, procedure_names, procedure_once, procedures_once, types_have_distinct_fields, variables_have_distinct_fields}
+use Rattle.ob0_language_names.specs.Names.{Name, Naming, naming_by_spelling, same_name}
+use Rattle.ob0_language_names.specs.Parts.{constant_names, formal_names, formal_sections, declared_type_names, procedure_formals, procedure_name, section_constants, section_types, section_variables, variable_names}
+use Rattle.ob0_language_types.specs.Declarations.{constructor_after_variables, block_constructor_count, declare_first, formals_constructor_count, procedure_constructor_count, procedures_constructor_count, types_constructor_count, variables_constructor_count}
+use Rattle.ob0_language_types.specs.WellTyped.{TypeEnvironment, WellTyped, bind_typed_parameters, block_fits, fits_over, bind_procedure, procedure_fits, procedures_fit, some_satisfies, typed_parameters}
 use Rattle.ob0_tree.specs.Tree.{Tree, block, body, constants, declares, declares_procedure, end, has_body, is_module, item, items, maybe, module_text, more, none, procedure, type_names, variables}
-use Rattle.ob0_tree.specs.Parsed.{named_tree_of, tree_of}
-use Rattle.ob0_tree.specs.Places.{named, text_at, value_at}
+use Rattle.ob0_tree.specs.ParsedModule.{named_tree_of, tree_of}
+use Rattle.ob0_tree.specs.Places.{tree_with_names, text_at, value_at}
 use Rattle.ob0_scan.specs.declared.tokens.SameTokens.{SameTokens}
-use Rattle.ob0_scope_table.specs.BodyReplaced.{Way, block_without, body_at, body_in, body_inside, closing_at, closing_in, closing_inside, later, procedure_without, procedures_without, way_among, way_in_block, way_in_procedure, way_to, without}
+use Rattle.ob0_scope_table.specs.BodyReplaced.{WayToBody, block_without, body_at, body_in, body_inside, closing_name_in_module, closing_name_in_block, closing_name_in_procedure, shift_way, procedure_without, procedures_without, way_in_procedures, way_in_block, way_in_procedure, way_in_module, module_without_body}
 use Rattle.ob0_scope_table.specs.OneBody.{closing_name}
 use Rattle.ob0_scope_table.specs.Resolution.{Resolution}
 use Rattle.ob0_scope_table.proofs.BodyReplaced.{names_outside, without_mapped}
 use Rattle.ob0_types_check.specs.NewBody.{FitsWithout}
-use Rattle.ob0_types_check.proofs.WithoutNames.{procedure_name-without}
-use Rattle.ob0_types.specs.NewBody.{WereTypesElsewhere}
+use Rattle.ob0_types_check.proofs.WithoutNames.{procedure_name-module_without_body}
+use Rattle.ob0_types.specs.NewBody.{WereTypesBeforeNewBody}
 use Rattle.ob0_types.specs.OneBody.{OneBody, body_among, body_in_block, body_in_module, body_in_procedure}
 use Rattle.ob0_types.specs.declared.checked.ModuleTypes.{ModuleTypes}
 
 -- ---- a block without the statements of one body has as many words ARRAY and RECORD as the block, and the same names
 
 mutual
-  block_count : {N : Type 0} (way : Way) (b : Tree N block) → block_constructors (block_without way b) ≡ block_constructors b
+  block_count : {N : Type 0} (way : WayToBody) (b : Tree N block) → block_constructor_count (block_without way b) ≡ block_constructor_count b
   block_count [] (has_body (declares cs ts vs ps) statements) = refl
   block_count (k ∷ way) (has_body (declares cs ts vs ps) statements) =
-      ap (λ n. types_constructors (section_types ts) + (variables_constructors (section_variables vs) + n)) (procedures_count k way ps)
+      ap (λ n. types_constructor_count (section_types ts) + (variables_constructor_count (section_variables vs) + n)) (procedures_count k way ps)
 
-  procedures_count : {N : Type 0} (k : ℕ) (way : Way) (ps : Tree N (items procedure)) → procedures_constructors (procedures_without k way ps) ≡ procedures_constructors ps
+  procedures_count : {N : Type 0} (k : ℕ) (way : WayToBody) (ps : Tree N (items procedure)) → procedures_constructor_count (procedures_without k way ps) ≡ procedures_constructor_count ps
   procedures_count zero way end = refl
   procedures_count (suc k) way end = refl
-  procedures_count zero way (more p rest) = ap (λ n. n + procedures_constructors rest) (procedure_count way p)
-  procedures_count (suc k) way (more p rest) = ap (λ n. procedure_constructors p + n) (procedures_count k way rest)
+  procedures_count zero way (more p rest) = ap (λ n. n + procedures_constructor_count rest) (procedure_count way p)
+  procedures_count (suc k) way (more p rest) = ap (λ n. procedure_constructor_count p + n) (procedures_count k way rest)
 
-  pub procedure_count : {N : Type 0} (way : Way) (p : Tree N (item procedure)) → procedure_constructors (procedure_without way p) ≡ procedure_constructors p
-  procedure_count way (declares_procedure x fs b closing) = ap (λ n. formals_constructors (formal_sections fs) + n) (block_count way b)
+  pub procedure_count : {N : Type 0} (way : WayToBody) (p : Tree N (item procedure)) → procedure_constructor_count (procedure_without way p) ≡ procedure_constructor_count p
+  procedure_count way (declares_procedure x fs b closing) = ap (λ n. formals_constructor_count (formal_sections fs) + n) (block_count way b)
 
-same_formals : {N : Type 0} (way : Way) (p : Tree N (item procedure)) → procedure_formals (procedure_without way p) ≡ procedure_formals p
+same_formals : {N : Type 0} (way : WayToBody) (p : Tree N (item procedure)) → procedure_formals (procedure_without way p) ≡ procedure_formals p
 same_formals way (declares_procedure x fs b closing) = refl
 
-same_names : {N : Type 0} (k : ℕ) (way : Way) (ps : Tree N (items procedure)) → procedure_names (procedures_without k way ps) ≡ procedure_names ps
+same_names : {N : Type 0} (k : ℕ) (way : WayToBody) (ps : Tree N (items procedure)) → procedure_names (procedures_without k way ps) ≡ procedure_names ps
 same_names zero way end = refl
 same_names (suc k) way end = refl
-same_names zero way (more p rest) = ap (λ x. x ∷ procedure_names rest) (procedure_name-without way p)
+same_names zero way (more p rest) = ap (λ x. x ∷ procedure_names rest) (procedure_name-module_without_body way p)
 same_names (suc k) way (more p rest) = ap (λ xs. procedure_name p ∷ xs) (same_names k way rest)
 
 -- ---- a part that fits also fits without the statements of a body
 
-some_and_weaker : {A : Type 0} (o : Option A) (f g : A → Bool) → ((a : A) → f a ≡ true → g a ≡ true) → some_and o f ≡ true → some_and o g ≡ true
+some_and_weaker : {A : Type 0} (o : Option A) (f g : A → Bool) → ((a : A) → f a ≡ true → g a ≡ true) → some_satisfies o f ≡ true → some_satisfies o g ≡ true
 some_and_weaker None f g weaker h = h
 some_and_weaker (Some a) f g weaker h = weaker a h
 
@@ -63,71 +63,71 @@ module _ {N : Type 0} (naming : Naming N) where
   own_left_out env k statements end h = refl
   own_left_out env k statements (more p rest) h =
       some_and_weaker (typed_parameters naming env k (procedure_formals p))
-      (λ qs. procedure_fits naming (bind_typed qs (heading (procedure_name p) qs env)) k p && procedures_fit naming (heading (procedure_name p) qs env) (k + procedure_constructors p) statements rest)
-      (λ qs. procedure_fits naming (bind_typed qs (heading (procedure_name p) qs env)) k p && procedures_fit naming (heading (procedure_name p) qs env) (k + procedure_constructors p) none rest)
-      (λ qs. both_weaker (procedure_fits naming (bind_typed qs (heading (procedure_name p) qs env)) k p) (procedures_fit naming (heading (procedure_name p) qs env) (k + procedure_constructors p) statements rest)
-      (procedure_fits naming (bind_typed qs (heading (procedure_name p) qs env)) k p) (procedures_fit naming (heading (procedure_name p) qs env) (k + procedure_constructors p) none rest)
-      (λ e. e) (own_left_out (heading (procedure_name p) qs env) (k + procedure_constructors p) statements rest)) h
+      (λ qs. procedure_fits naming (bind_typed_parameters qs (bind_procedure (procedure_name p) qs env)) k p && procedures_fit naming (bind_procedure (procedure_name p) qs env) (k + procedure_constructor_count p) statements rest)
+      (λ qs. procedure_fits naming (bind_typed_parameters qs (bind_procedure (procedure_name p) qs env)) k p && procedures_fit naming (bind_procedure (procedure_name p) qs env) (k + procedure_constructor_count p) none rest)
+      (λ qs. both_weaker (procedure_fits naming (bind_typed_parameters qs (bind_procedure (procedure_name p) qs env)) k p) (procedures_fit naming (bind_procedure (procedure_name p) qs env) (k + procedure_constructor_count p) statements rest)
+      (procedure_fits naming (bind_typed_parameters qs (bind_procedure (procedure_name p) qs env)) k p) (procedures_fit naming (bind_procedure (procedure_name p) qs env) (k + procedure_constructor_count p) none rest)
+      (λ e. e) (own_left_out (bind_procedure (procedure_name p) qs env) (k + procedure_constructor_count p) statements rest)) h
 
   mutual
     unfolding block_fits declare_first
 
-    block_left_out : (way : Way) (env : TypeEnvironment N) (k : ℕ) (b : Tree N block) → block_fits naming env k b ≡ true → block_fits naming env k (block_without way b) ≡ true
+    block_left_out : (way : WayToBody) (env : TypeEnvironment N) (k : ℕ) (b : Tree N block) → block_fits naming env k b ≡ true → block_fits naming env k (block_without way b) ≡ true
     block_left_out [] env k (has_body (declares cs ts vs ps) statements) h =
         let b : Tree N block = has_body (declares cs ts vs ps) statements in
-        some_and_weaker _ (λ inner. procedures_fit naming inner (after_variables k b) statements ps) (λ inner. procedures_fit naming inner (after_variables k b) none ps)
-        (λ inner. own_left_out inner (after_variables k b) statements ps) h
+        some_and_weaker _ (λ inner. procedures_fit naming inner (constructor_after_variables k b) statements ps) (λ inner. procedures_fit naming inner (constructor_after_variables k b) none ps)
+        (λ inner. own_left_out inner (constructor_after_variables k b) statements ps) h
     block_left_out (j ∷ way) env k (has_body (declares cs ts vs ps) statements) h =
         let b : Tree N block = has_body (declares cs ts vs ps) statements in
-        some_and_weaker _ (λ inner. procedures_fit naming inner (after_variables k b) statements ps) (λ inner. procedures_fit naming inner (after_variables k b) statements (procedures_without j way ps))
-        (λ inner. procedures_left_out j way inner (after_variables k b) statements ps) h
+        some_and_weaker _ (λ inner. procedures_fit naming inner (constructor_after_variables k b) statements ps) (λ inner. procedures_fit naming inner (constructor_after_variables k b) statements (procedures_without j way ps))
+        (λ inner. procedures_left_out j way inner (constructor_after_variables k b) statements ps) h
 
-    procedures_left_out : (j : ℕ) (way : Way) (env : TypeEnvironment N) (k : ℕ) (statements : Tree N (maybe body)) (ps : Tree N (items procedure)) → procedures_fit naming env k statements ps ≡ true
+    procedures_left_out : (j : ℕ) (way : WayToBody) (env : TypeEnvironment N) (k : ℕ) (statements : Tree N (maybe body)) (ps : Tree N (items procedure)) → procedures_fit naming env k statements ps ≡ true
         → procedures_fit naming env k statements (procedures_without j way ps) ≡ true
     procedures_left_out zero way env k statements end h = h
     procedures_left_out (suc j) way env k statements end h = h
     procedures_left_out zero way env k statements (more (declares_procedure x fs b closing) rest) h =
         let p : Tree N (item procedure) = declares_procedure x fs b closing in
         some_and_weaker (typed_parameters naming env k (formal_sections fs))
-        (λ qs. procedure_fits naming (bind_typed qs (heading x qs env)) k p && procedures_fit naming (heading x qs env) (k + procedure_constructors p) statements rest)
-        (λ qs. procedure_fits naming (bind_typed qs (heading x qs env)) k (procedure_without way p) && procedures_fit naming (heading x qs env) (k + procedure_constructors (procedure_without way p)) statements rest)
-        (λ qs. both_weaker (procedure_fits naming (bind_typed qs (heading x qs env)) k p) (procedures_fit naming (heading x qs env) (k + procedure_constructors p) statements rest)
-        (procedure_fits naming (bind_typed qs (heading x qs env)) k (procedure_without way p)) (procedures_fit naming (heading x qs env) (k + procedure_constructors (procedure_without way p)) statements rest)
-        (block_left_out way (bind_typed qs (heading x qs env)) (k + formals_constructors (formal_sections fs)) b)
-        (λ e. ap (λ n. procedures_fit naming (heading x qs env) (k + n) statements rest) (procedure_count way p) ∙ e)) h
+        (λ qs. procedure_fits naming (bind_typed_parameters qs (bind_procedure x qs env)) k p && procedures_fit naming (bind_procedure x qs env) (k + procedure_constructor_count p) statements rest)
+        (λ qs. procedure_fits naming (bind_typed_parameters qs (bind_procedure x qs env)) k (procedure_without way p) && procedures_fit naming (bind_procedure x qs env) (k + procedure_constructor_count (procedure_without way p)) statements rest)
+        (λ qs. both_weaker (procedure_fits naming (bind_typed_parameters qs (bind_procedure x qs env)) k p) (procedures_fit naming (bind_procedure x qs env) (k + procedure_constructor_count p) statements rest)
+        (procedure_fits naming (bind_typed_parameters qs (bind_procedure x qs env)) k (procedure_without way p)) (procedures_fit naming (bind_procedure x qs env) (k + procedure_constructor_count (procedure_without way p)) statements rest)
+        (block_left_out way (bind_typed_parameters qs (bind_procedure x qs env)) (k + formals_constructor_count (formal_sections fs)) b)
+        (λ e. ap (λ n. procedures_fit naming (bind_procedure x qs env) (k + n) statements rest) (procedure_count way p) ∙ e)) h
     procedures_left_out (suc j) way env k statements (more p rest) h =
         some_and_weaker (typed_parameters naming env k (procedure_formals p))
-        (λ qs. procedure_fits naming (bind_typed qs (heading (procedure_name p) qs env)) k p && procedures_fit naming (heading (procedure_name p) qs env) (k + procedure_constructors p) statements rest)
-        (λ qs. procedure_fits naming (bind_typed qs (heading (procedure_name p) qs env)) k p && procedures_fit naming (heading (procedure_name p) qs env) (k + procedure_constructors p) statements (procedures_without j way rest))
-        (λ qs. both_weaker (procedure_fits naming (bind_typed qs (heading (procedure_name p) qs env)) k p) (procedures_fit naming (heading (procedure_name p) qs env) (k + procedure_constructors p) statements rest)
-        (procedure_fits naming (bind_typed qs (heading (procedure_name p) qs env)) k p) (procedures_fit naming (heading (procedure_name p) qs env) (k + procedure_constructors p) statements (procedures_without j way rest))
-        (λ e. e) (procedures_left_out j way (heading (procedure_name p) qs env) (k + procedure_constructors p) statements rest)) h
+        (λ qs. procedure_fits naming (bind_typed_parameters qs (bind_procedure (procedure_name p) qs env)) k p && procedures_fit naming (bind_procedure (procedure_name p) qs env) (k + procedure_constructor_count p) statements rest)
+        (λ qs. procedure_fits naming (bind_typed_parameters qs (bind_procedure (procedure_name p) qs env)) k p && procedures_fit naming (bind_procedure (procedure_name p) qs env) (k + procedure_constructor_count p) statements (procedures_without j way rest))
+        (λ qs. both_weaker (procedure_fits naming (bind_typed_parameters qs (bind_procedure (procedure_name p) qs env)) k p) (procedures_fit naming (bind_procedure (procedure_name p) qs env) (k + procedure_constructor_count p) statements rest)
+        (procedure_fits naming (bind_typed_parameters qs (bind_procedure (procedure_name p) qs env)) k p) (procedures_fit naming (bind_procedure (procedure_name p) qs env) (k + procedure_constructor_count p) statements (procedures_without j way rest))
+        (λ e. e) (procedures_left_out j way (bind_procedure (procedure_name p) qs env) (k + procedure_constructor_count p) statements rest)) h
 
-  pub fits_left_out : (way : Way) (m : Tree N module_text) → fits_over naming m ≡ true → fits_over naming (without way m) ≡ true
+  pub fits_left_out : (way : WayToBody) (m : Tree N module_text) → fits_over naming m ≡ true → fits_over naming (module_without_body way m) ≡ true
   unfolding fits_over
   fits_left_out way (is_module x b closing) h = block_left_out way _ 0 b h
 
 -- ---- each name is also declared once without the statements of a body
 
 mutual
-  block_once_alike : (way : Way) (own : List Name) (b : Tree Name block) → block_once own (block_without way b) ≡ block_once own b
+  block_once_alike : (way : WayToBody) (own : List Name) (b : Tree Name block) → block_once own (block_without way b) ≡ block_once own b
   block_once_alike [] own (has_body (declares cs ts vs ps) statements) = refl
   block_once_alike (k ∷ way) own (has_body (declares cs ts vs ps) statements) =
-      λ i. are_distinct (own ++ block_names_alike i) && (types_once (section_types ts) && (variables_once (section_variables vs) && procedures_once_alike k way ps i))
+      λ i. are_distinct (own ++ block_names_alike i) && (types_have_distinct_fields (section_types ts) && (variables_have_distinct_fields (section_variables vs) && procedures_once_alike k way ps i))
     where
       block_names_alike : block_names (block_without (k ∷ way) (has_body (declares cs ts vs ps) statements)) ≡ block_names (has_body (declares cs ts vs ps) statements)
-      block_names_alike = λ i. constant_names (section_constants cs) ++ (named_types (section_types ts) ++ (variable_names (section_variables vs) ++ same_names k way ps i))
+      block_names_alike = λ i. constant_names (section_constants cs) ++ (declared_type_names (section_types ts) ++ (variable_names (section_variables vs) ++ same_names k way ps i))
 
-  procedures_once_alike : (k : ℕ) (way : Way) (ps : Tree Name (items procedure)) → procedures_once (procedures_without k way ps) ≡ procedures_once ps
+  procedures_once_alike : (k : ℕ) (way : WayToBody) (ps : Tree Name (items procedure)) → procedures_once (procedures_without k way ps) ≡ procedures_once ps
   procedures_once_alike zero way end = refl
   procedures_once_alike (suc k) way end = refl
   procedures_once_alike zero way (more p rest) = ap (λ b. b && procedures_once rest) (procedure_once_alike way p)
   procedures_once_alike (suc k) way (more p rest) = ap (λ b. procedure_once p && b) (procedures_once_alike k way rest)
 
-  procedure_once_alike : (way : Way) (p : Tree Name (item procedure)) → procedure_once (procedure_without way p) ≡ procedure_once p
-  procedure_once_alike way (declares_procedure x fs b closing) = ap (λ o. same_name x closing && (formals_once (formal_sections fs) && o)) (block_once_alike way (formal_names (formal_sections fs)) b)
+  procedure_once_alike : (way : WayToBody) (p : Tree Name (item procedure)) → procedure_once (procedure_without way p) ≡ procedure_once p
+  procedure_once_alike way (declares_procedure x fs b closing) = ap (λ o. same_name x closing && (formals_have_distinct_fields (formal_sections fs) && o)) (block_once_alike way (formal_names (formal_sections fs)) b)
 
-pub once_left_out : (way : Way) (m : Tree Name module_text) → declared_once (without way m) ≡ declared_once m
+pub once_left_out : (way : WayToBody) (m : Tree Name module_text) → declared_once (module_without_body way m) ≡ declared_once m
 once_left_out way (is_module x b closing) = ap (λ o. same_name x closing && o) (block_once_alike way [] b)
 
 -- ---- the body that contains a range of tokens is the one to which the way leads
@@ -136,43 +136,43 @@ abbrev Leads : OneBody → ℕ → Tree ℕ (maybe body) → Type 0
 Leads found closing statements = (found.closing ≡ closing) × (found.statements ≡ statements)
 
 -- If a body is found among procedures, the same body is found when another procedure is put before them.
-later_leads : (way : Way) (own : ℕ) (cs : Tree ℕ (maybe constants)) (ts : Tree ℕ (maybe type_names)) (vs : Tree ℕ (maybe variables)) (p : Tree ℕ (item procedure)) (rest : Tree ℕ (items procedure)) (statements : Tree ℕ (maybe body)) (found : OneBody)
-    → Leads found (closing_in way own (has_body (declares cs ts vs rest) statements)) (body_in way (has_body (declares cs ts vs rest) statements))
-    → Leads found (closing_in (later way) own (has_body (declares cs ts vs (more p rest)) statements)) (body_in (later way) (has_body (declares cs ts vs (more p rest)) statements))
+later_leads : (way : WayToBody) (own : ℕ) (cs : Tree ℕ (maybe constants)) (ts : Tree ℕ (maybe type_names)) (vs : Tree ℕ (maybe variables)) (p : Tree ℕ (item procedure)) (rest : Tree ℕ (items procedure)) (statements : Tree ℕ (maybe body)) (found : OneBody)
+    → Leads found (closing_name_in_block way own (has_body (declares cs ts vs rest) statements)) (body_in way (has_body (declares cs ts vs rest) statements))
+    → Leads found (closing_name_in_block (shift_way way) own (has_body (declares cs ts vs (more p rest)) statements)) (body_in (shift_way way) (has_body (declares cs ts vs (more p rest)) statements))
 later_leads [] own cs ts vs p rest statements found h = h
 later_leads (k ∷ way) own cs ts vs p rest statements found h = h
 
 module _ (low : ℕ) where
   mutual
-    block_leads : (own : ℕ) (b : Tree ℕ block) → Leads (body_in_block low own b) (closing_in (way_in_block low b) own b) (body_in (way_in_block low b) b)
+    block_leads : (own : ℕ) (b : Tree ℕ block) → Leads (body_in_block low own b) (closing_name_in_block (way_in_block low b) own b) (body_in (way_in_block low b) b)
     block_leads own (has_body (declares cs ts vs ps) statements) = among_leads own cs ts vs ps statements
 
     among_leads : (own : ℕ) (cs : Tree ℕ (maybe constants)) (ts : Tree ℕ (maybe type_names)) (vs : Tree ℕ (maybe variables)) (ps : Tree ℕ (items procedure)) (statements : Tree ℕ (maybe body))
-        → Leads (body_among low own ps statements) (closing_in (way_among low ps) own (has_body (declares cs ts vs ps) statements)) (body_in (way_among low ps) (has_body (declares cs ts vs ps) statements))
+        → Leads (body_among low own ps statements) (closing_name_in_block (way_in_procedures low ps) own (has_body (declares cs ts vs ps) statements)) (body_in (way_in_procedures low ps) (has_body (declares cs ts vs ps) statements))
     among_leads own cs ts vs end statements = (refl, refl)
     among_leads own cs ts vs (more p rest) statements =
         let b : Tree ℕ block = has_body (declares cs ts vs (more p rest)) statements in
         elim (nat_lt (closing_name p) low) as (λ z. Leads (if z then body_among low own rest statements else body_in_procedure low p)
-        (closing_in (if z then later (way_among low rest) else zero ∷ way_in_procedure low p) own b) (body_in (if z then later (way_among low rest) else zero ∷ way_in_procedure low p) b)) [
-          | true ↦ later_leads (way_among low rest) own cs ts vs p rest statements (body_among low own rest statements) (among_leads own cs ts vs rest statements)
+        (closing_name_in_block (if z then shift_way (way_in_procedures low rest) else zero ∷ way_in_procedure low p) own b) (body_in (if z then shift_way (way_in_procedures low rest) else zero ∷ way_in_procedure low p) b)) [
+          | true ↦ later_leads (way_in_procedures low rest) own cs ts vs p rest statements (body_among low own rest statements) (among_leads own cs ts vs rest statements)
           | false ↦ procedure_leads p
         ]
 
-    procedure_leads : (p : Tree ℕ (item procedure)) → Leads (body_in_procedure low p) (closing_inside (way_in_procedure low p) p) (body_inside (way_in_procedure low p) p)
+    procedure_leads : (p : Tree ℕ (item procedure)) → Leads (body_in_procedure low p) (closing_name_in_procedure (way_in_procedure low p) p) (body_inside (way_in_procedure low p) p)
     procedure_leads (declares_procedure x fs b closing) = block_leads closing b
 
-  pub body_leads : (t : Tree ℕ module_text) → Leads (body_in_module low t) (closing_at (way_to low t) t) (body_at (way_to low t) t)
+  pub body_leads : (t : Tree ℕ module_text) → Leads (body_in_module low t) (closing_name_in_module (way_in_module low t) t) (body_at (way_in_module low t) t)
   body_leads (is_module x b closing) = block_leads closing b
 
 -- ---- the module
 
-module _ (r : Resolution) (types : ModuleTypes) (s : SameTokens) (w : WereTypesElsewhere r types s) where
+module _ (r : Resolution) (types : ModuleTypes) (s : SameTokens) (w : WereTypesBeforeNewBody r types s) where
   -- The body that the code finds is the one whose statements were replaced.
-  pub found_there : Leads (body_in_module s.prefix (tree_of r.module_read)) (closing_at w.way (tree_of r.module_read)) (body_at w.way (tree_of r.module_read))
-  found_there = subst (λ way. Leads (body_in_module s.prefix (tree_of r.module_read)) (closing_at way (tree_of r.module_read)) (body_at way (tree_of r.module_read))) w.replaced.new_way (body_leads s.prefix (tree_of r.module_read))
+  pub found_there : Leads (body_in_module s.prefix (tree_of r.module_read)) (closing_name_in_module w.way (tree_of r.module_read)) (body_at w.way (tree_of r.module_read))
+  found_there = subst (λ way. Leads (body_in_module s.prefix (tree_of r.module_read)) (closing_name_in_module way (tree_of r.module_read)) (body_at way (tree_of r.module_read))) w.replaced.new_way (body_leads s.prefix (tree_of r.module_read))
 
   -- Without the statements of the replaced body, the new module has the same spelling as the old one.
-  named_alike : named r.module_read.source (without w.way (tree_of r.module_read)) ≡ without w.way (named_tree_of w.old.module_read)
+  named_alike : tree_with_names r.module_read.source (module_without_body w.way (tree_of r.module_read)) ≡ module_without_body w.way (named_tree_of w.old.module_read)
   named_alike =
       let before = w.old.module_read in
       names_outside before r.module_read w.way s w.replaced ∙ sym (without_mapped (text_at before.source) (value_at before.source) w.way (tree_of before))
@@ -185,5 +185,5 @@ module _ (r : Resolution) (types : ModuleTypes) (s : SameTokens) (w : WereTypesE
       record {
         way = w.way;
         at = sym found_there.0;
-        fits = subst (λ m. fits_over as_names m ≡ true) (sym named_alike) (fits_left_out as_names w.way (named_tree_of before) typed.1);
+        fits = subst (λ m. fits_over naming_by_spelling m ≡ true) (sym named_alike) (fits_left_out naming_by_spelling w.way (named_tree_of before) typed.1);
       }

@@ -2,55 +2,55 @@
 -- in the list of faulty bodies had faults.
 use Rattle.std.proofs.Common.{◌≡◌, ℕ, Bool, true, [], ◌∷◌, ◌++◌, length, refl, sym, ap, ◌∙◌}
 use Rattle.std.proofs.lemmas.List.{length-map}
-use Rattle.ob0_scan.specs.Reused.{valueless}
+use Rattle.ob0_scan.specs.Reused.{kind_without_value}
 use Rattle.ob0_scan.specs.declared.lexeme.Token.{Token}
 use Rattle.ob0_scan.specs.declared.lexeme.TokenKind.{TokenKind}
-use Rattle.ob0_tree.specs.Parsed.{tree_of}
-use Rattle.ob0_scope_table.specs.Bindings.{resolution_by}
-use Rattle.ob0_scope_table.specs.OneBody.{is_out}
+use Rattle.ob0_tree.specs.ParsedModule.{tree_of}
+use Rattle.ob0_scope_table.specs.Bindings.{resolution_with}
+use Rattle.ob0_scope_table.specs.OneBody.{is_outside}
 use Rattle.ob0_scope_table.specs.Resolution.{IsResolution, Resolution}
 use Rattle.ob0_scope_table.proofs.BodyOutside.{module_outside}
 use Rattle.ob0_scope_table.proofs.BodyReplaced.{text_by_word, value_by_word}
 use Rattle.ob0_scope_table.proofs.Placed.{places_ascend}
-use Rattle.ob0_types_check.specs.AlikeBut.{AreAlikeBut, IsAlikeAt}
-use Rattle.ob0_types_check.specs.SomeBodies.{WereFaulty, faulty_bodies, is_among}
-use Rattle.ob0_types.specs.OneBody.{WereTypes, body_in_module, over_text}
+use Rattle.ob0_types_check.specs.EqualExceptBodies.{AreEqualExceptBodies, IsSameTokenAt}
+use Rattle.ob0_types_check.specs.SomeBodies.{IncludesFaultyBodies, faulty_bodies, is_among}
+use Rattle.ob0_types.specs.OneBody.{WereTypesBeforeChange, body_in_module, with_source}
 use Rattle.ob0_types.specs.declared.checked.ModuleTypes.{ModuleTypes}
 use Rattle.ob0_types.proofs.Among.{all_weaker, among_further, among_last}
 use Rattle.ob0_types.proofs.BodyFound.{ModuleOutside, module_but, module_found}
 
-module _ (r : Resolution) (types : ModuleTypes) (low : ℕ) (w : WereTypes r types low) where
+module _ (r : Resolution) (types : ModuleTypes) (low : ℕ) (w : WereTypesBeforeChange r types low) where
   abbrev pub before : Resolution
-  before = resolution_by (over_text w.old r.module_read) w.bindings
+  before = resolution_with (with_source w.old r.module_read) w.bindings
 
   abbrev kind_of : Token → TokenKind
-  kind_of t = valueless t.kind
+  kind_of t = kind_without_value t.kind
 
   abbrev pub last_body : ℕ
   last_body = (body_in_module low (tree_of r.module_read)).closing
 
-  alike_out : (k : ℕ) → is_out low w.high k ≡ true → IsAlikeAt before r k
+  alike_out : (k : ℕ) → is_outside low w.high k ≡ true → IsSameTokenAt before r k
   alike_out k e =
       let new = r.module_read.source in
       record { written = text_by_word w.old new k k (w.change.same_words k e); value = value_by_word w.old new k k (w.change.same_words k e); bound = w.bound k e }
 
   -- A property that holds for all tokens with the same spelling and binding holds for each token outside the changed
   -- body.
-  pub alike_outside : (P : ℕ → Type 0) → ((k : ℕ) → IsAlikeAt before r k → P k) → IsResolution r → ModuleOutside P low (tree_of r.module_read)
+  pub alike_outside : (P : ℕ → Type 0) → ((k : ℕ) → IsSameTokenAt before r k → P k) → IsResolution r → ModuleOutside P low (tree_of r.module_read)
   alike_outside P holds is =
       module_found P low (tree_of r.module_read)
       (module_outside low w.high P (λ k e. holds k (alike_out k e)) 0 (length r.module_read.source.tokens) (tree_of r.module_read) (places_ascend r.module_read is.parsed) w.change.in_body)
 
-  pub were_alike : (wanted : ℕ → Bool) → IsResolution r → wanted last_body ≡ true → AreAlikeBut wanted before r
+  pub were_alike : (wanted : ℕ → Bool) → IsResolution r → wanted last_body ≡ true → AreEqualExceptBodies wanted before r
   were_alike wanted is is_wanted =
       let new = r.module_read.source in
       record {
         tree = refl;
         count = sym (length-map new.tokens kind_of) ∙ (ap length w.change.same_kinds ∙ length-map w.old.tokens kind_of);
-        alike = module_but (IsAlikeAt before r) low wanted (tree_of r.module_read) (alike_outside (IsAlikeAt before r) (λ k h. h) is) is_wanted;
+        alike = module_but (IsSameTokenAt before r) low wanted (tree_of r.module_read) (alike_outside (IsSameTokenAt before r) (λ k h. h) is) is_wanted;
       }
 
-  abbrev pub were_faulty : IsResolution r → WereFaulty (is_among (types.faulty.items ++ last_body ∷ [])) r
+  abbrev pub were_faulty : IsResolution r → IncludesFaultyBodies (is_among (types.faulty.items ++ last_body ∷ [])) r
   were_faulty is =
       let bodies = types.faulty.items ++ last_body ∷ [] in
       record {

@@ -8,33 +8,33 @@ use Rattle.std.specs.List.{swap}
 use Rattle.std.specs.Prelude.{set}
 use Rattle.std.specs.List.Sorted.{IsPermutation, IsSorted}
 use Rattle.std.specs.Ordering.{is_lt, nat_cmp, ordering_then}
-use Rattle.ob0_scan.specs.Scanned.{Scanned, read_in}
-use Rattle.ob0_scan.specs.declared.fault.Code.TheVariants as code
+use Rattle.ob0_scan.specs.TextWithTokens.{TextWithTokens, word_of_token}
+use Rattle.ob0_scan.specs.declared.fault.FaultCode.TheVariants as code
 use Rattle.ob0_scan.specs.declared.fault.Fault.{Fault}
-use Rattle.ob0_tree.specs.Parsed.{named_tree_of, parsed_by, tree_of}
+use Rattle.ob0_tree.specs.ParsedModule.{named_tree_of, parsed_module, tree_of}
 use Rattle.ob0_tree.specs.declared.tree.ModuleTree.{ModuleTree}
 use Rattle.ob0_language_types.specs.Bindings.{declared_object}
 use Rattle.ob0_language_types.specs.WellTyped.{WellTyped}
-use Rattle.ob0_scope_table.specs.Bindings.{resolution_by}
+use Rattle.ob0_scope_table.specs.Bindings.{resolution_with}
 use Rattle.ob0_scope_table.specs.FaultTokens.{AreAtSameTokens, AreWrittenAlike, fault_at, moved_faults}
-use Rattle.ob0_scope_table.specs.Resolution.{IsResolution, Resolution, is_of_declarations, ordinal_in}
-use Rattle.ob0_scope_table.specs.declared.fault_tokens.FaultAt.{FaultAt}
+use Rattle.ob0_scope_table.specs.Resolution.{IsResolution, Resolution, is_declaration_fault, ordinal_in}
+use Rattle.ob0_scope_table.specs.declared.fault_tokens.FaultByTokens.{FaultByTokens}
 use Rattle.ob0_scope_table.specs.declared.resolved.Bindings.{Bindings}
 use Rattle.ob0_scope_table.proofs.FaultTokens.{both_same, filter_same, names_same, texts_stay, tree_named, values_stay}
 use Rattle.ob0_scope_table.proofs.Placed.{each_token}
 use Rattle.ob0_scope_table.proofs.TokenOrder.{end_order, faults_move, start_order}
-use Rattle.ob0_types_check.specs.AlikeBut.{IsAlikeAt}
+use Rattle.ob0_types_check.specs.EqualExceptBodies.{IsSameTokenAt}
 use Rattle.ob0_types_check.specs.DeclarationFaults.{reported_module}
 use Rattle.ob0_types_check.specs.ModuleLaws.{HasDeclarations}
 use Rattle.ob0_types_check.specs.SomeBodies.{AllPass, faulty_bodies, is_among}
 use Rattle.ob0_types_check.proofs.SameModules.{module_same}
 use Rattle.ob0_types_check.proofs.SomeBodies.{faulty_stay}
 use Rattle.ob0_types_fields.specs.Identifiers.{field_identifiers}
-use Rattle.ob0_types_fields.specs.Listed.{Listed}
-use Rattle.ob0_types_fields.specs.Owned.{fields_among, owned_module}
+use Rattle.ob0_types_fields.specs.FieldLists.{FieldLists}
+use Rattle.ob0_types_fields.specs.Owned.{fields_with_owners, owners_in_module}
 use Rattle.ob0_types.proofs.BodyFound.{module_any}
 use Rattle.ob0_types.specs.FaultOrder.{AreFirstOf, code_number, fault_cmp, faults_in}
-use Rattle.ob0_types.specs.Respelled.{TypesKeepTokens}
+use Rattle.ob0_types.specs.Respelled.{TypesDependOnTokens}
 
 -- ---- lists with a function applied to each element
 
@@ -61,21 +61,21 @@ made_of f xs ys all e = IsPermutation-keeps ys (IsMadeOf f xs) (record { others 
       moved = IsPermutation-trans _ _ _ h.moved (IsPermutation-swap h.others (swap h.others i j) i j (omega (arith, p, long)) (omega (arith, q, long)) refl);
     }) all
 
-no_fault : FaultAt
+no_fault : FaultByTokens
 no_fault = record { code = code.TooLong; first = 0; last = 0 }
 
-item_mapped : (f : FaultAt → Fault) (xs : List FaultAt) (k : ℕ) (d : Fault) → k < length xs → get_or (map f xs) k d ≡ f (get_or xs k no_fault)
+item_mapped : (f : FaultByTokens → Fault) (xs : List FaultByTokens) (k : ℕ) (d : Fault) → k < length xs → get_or (map f xs) k d ≡ f (get_or xs k no_fault)
 item_mapped f xs k d less =
     let inside : k < length (map f xs) = let long = length-map xs f in omega (arith, less, long) in
     get_or_default (map f xs) k d (f no_fault) inside ∙ get_or-map f xs k no_fault
 
 -- ---- faults in order
 
-module _ (old new : Scanned) (w : AreWrittenAlike old new) where
-  same_cmp : (x y : FaultAt) → fault_cmp (fault_at old x) (fault_at old y) ≡ fault_cmp (fault_at new x) (fault_at new y)
+module _ (old new : TextWithTokens) (w : AreWrittenAlike old new) where
+  same_cmp : (x y : FaultByTokens) → fault_cmp (fault_at old x) (fault_at old y) ≡ fault_cmp (fault_at new x) (fault_at new y)
   same_cmp x y = λ i. ordering_then (ordering_then (start_order old new w x.first y.first i) (end_order old new w x.last y.last i)) (nat_cmp (code_number x.code) (code_number y.code))
 
-  sorted_same : (xs : List FaultAt) → IsSorted fault_cmp (map (fault_at old) xs) → IsSorted fault_cmp (map (fault_at new) xs)
+  sorted_same : (xs : List FaultByTokens) → IsSorted fault_cmp (map (fault_at old) xs) → IsSorted fault_cmp (map (fault_at new) xs)
   sorted_same xs sorted k d low high =
       let in_old = length-map xs (fault_at old) in
       let in_new = length-map xs (fault_at new) in
@@ -107,12 +107,12 @@ module _ (old new : Scanned) (w : AreWrittenAlike old new) where
 
 -- ---- a module
 
-module _ (old new : Scanned) (tree : ModuleTree) (b c : Bindings) (w : AreWrittenAlike old new) (r : IsResolution (resolution_by (parsed_by old tree) b)) (s : IsResolution (resolution_by (parsed_by new tree) c)) (ordinals : c.ordinals.items ≡ b.ordinals.items) where
+module _ (old new : TextWithTokens) (tree : ModuleTree) (b c : Bindings) (w : AreWrittenAlike old new) (r : IsResolution (resolution_with (parsed_module old tree) b)) (s : IsResolution (resolution_with (parsed_module new tree) c)) (ordinals : c.ordinals.items ≡ b.ordinals.items) where
   abbrev before : Resolution
-  before = resolution_by (parsed_by old tree) b
+  before = resolution_with (parsed_module old tree) b
 
   abbrev after : Resolution
-  after = resolution_by (parsed_by new tree) c
+  after = resolution_with (parsed_module new tree) c
 
   named : named_tree_of after.module_read ≡ named_tree_of before.module_read
   named = tree_named old new w tree
@@ -122,9 +122,9 @@ module _ (old new : Scanned) (tree : ModuleTree) (b c : Bindings) (w : AreWritte
       let n = names_same old new w tree in
       record { tokens = n.tokens; in_old = r.reported.by_kind ∙ n.in_old; in_new = s.reported.by_kind ∙ n.in_new }
 
-  same_names : record { module_read = parsed_by new tree; ordinals = b.ordinals.items; declarations = b.declarations.items; uses = b.occurrences.items; faults = c.faults.items } ≡ after
+  same_names : record { module_read = parsed_module new tree; ordinals = b.ordinals.items; declarations = b.declarations.items; uses = b.occurrences.items; faults = c.faults.items } ≡ after
   same_names = λ i. record {
-    module_read = parsed_by new tree;
+    module_read = parsed_module new tree;
     ordinals = sym ordinals i;
     declarations = (r.declaring ∙ sym s.declaring) i;
     uses = (r.occurring ∙ sym s.occurring) i;
@@ -136,12 +136,12 @@ module _ (old new : Scanned) (tree : ModuleTree) (b c : Bindings) (w : AreWritte
       both_same old new
       (subst (λ (x : Resolution). AreAtSameTokens old new (reported_module before) (reported_module x)) same_names
       (module_same old new w tree b.ordinals.items b.declarations.items b.occurrences.items b.faults.items c.faults.items names_at))
-      (filter_same old new is_of_declarations (λ f. refl) names_at)
+      (filter_same old new is_declaration_fault (λ f. refl) names_at)
 
   fields_stay : field_identifiers after ≡ field_identifiers before
-  fields_stay = λ i. fields_among (owned_module (record { object_for = λ token. option_and_then (declared_object (named i)) (ordinal_in (ordinals i) token); written = λ token. texts_stay old new w i token }) (tree_of (parsed_by old tree)))
+  fields_stay = λ i. fields_with_owners (owners_in_module (record { object_for = λ token. option_and_then (declared_object (named i)) (ordinal_in (ordinals i) token); written = λ token. texts_stay old new w i token }) (tree_of (parsed_module old tree)))
 
-  alike_at : (k : ℕ) → IsAlikeAt before after k
+  alike_at : (k : ℕ) → IsSameTokenAt before after k
   alike_at k = record { written = λ i. texts_stay old new w i k; value = λ i. values_stay old new w i k; bound = ap (λ (os : List (Option ℕ)). ordinal_in os k) ordinals }
 
   bodies_stay : (bodies : List ℕ) → AllPass (is_among bodies) (faulty_bodies before) → AllPass (is_among bodies) (faulty_bodies after)
@@ -152,13 +152,13 @@ module _ (old new : Scanned) (tree : ModuleTree) (b c : Bindings) (w : AreWritte
         faulty = were;
         alike = record {
           tree = refl;
-          count = sym (length-map new.tokens (read_in new.text)) ∙ (ap length w.same_words ∙ length-map old.tokens (read_in old.text));
-          alike = module_any (IsAlikeAt before after) (is_among bodies) (tree_of before.module_read) (each_token (IsAlikeAt before after) alike_at (tree_of before.module_read));
+          count = sym (length-map new.tokens (word_of_token new.text)) ∙ (ap length w.same_words ∙ length-map old.tokens (word_of_token old.text));
+          alike = module_any (IsSameTokenAt before after) (is_among bodies) (tree_of before.module_read) (each_token (IsSameTokenAt before after) alike_at (tree_of before.module_read));
         };
       })
 
-pub types_keep_tokens : TypesKeepTokens
-types_keep_tokens old new tree b c types moved w t s ordinals m =
+pub types_depend_on_tokens : TypesDependOnTokens
+types_depend_on_tokens old new tree b c types moved w t s ordinals m =
     let r = t.checked.resolved in
     let same = named old new tree b c w r s ordinals in
     let none : moved.faults.items ≡ [] → types.faults.items ≡ [] = λ e. nil_from_length types.faults.items (sym (moved_count old new w types.faults.items) ∙ ap length (sym m.faults ∙ e)) in
@@ -169,13 +169,13 @@ types_keep_tokens old new tree b c types moved w t s ordinals m =
       checked = record {
         resolved = s;
         reported = ((λ e. subst WellTyped (sym same) (t.checked.reported.0 (none e))), (λ fit. none_moved (t.checked.reported.1 (subst WellTyped same fit))));
-        holds = subst (λ k. IfSome k (HasDeclarations (named_tree_of (parsed_by new tree)))) (sym m.known) (subst (λ n. IfSome types.known (HasDeclarations n)) (sym same) t.checked.holds);
+        holds = subst (λ k. IfSome k (HasDeclarations (named_tree_of (parsed_module new tree)))) (sym m.known) (subst (λ n. IfSome types.known (HasDeclarations n)) (sym same) t.checked.holds);
         kept = λ e. ap is_some m.known ∙ t.checked.kept (none e);
         few = omega (arith, count, few);
-        first = subst (AreFirstOf (faults_in (resolution_by (parsed_by new tree) c))) (sym m.faults) (first_same old new w (faults_in (resolution_by (parsed_by old tree) b)) (faults_in (resolution_by (parsed_by new tree) c)) types.faults.items (found_at old new tree b c w r s ordinals) t.checked.first);
+        first = subst (AreFirstOf (faults_in (resolution_with (parsed_module new tree) c))) (sym m.faults) (first_same old new w (faults_in (resolution_with (parsed_module old tree) b)) (faults_in (resolution_with (parsed_module new tree) c)) types.faults.items (found_at old new tree b c w r s ordinals) t.checked.first);
       };
       fields = λ e.
           let f = t.fields (none e) in
-          (ap (λ (l : Listed). l.declared) m.fields ∙ f.0, ap (λ (l : Listed). l.all) m.fields ∙ (f.1 ∙ sym (fields_stay old new tree b c w r s ordinals)));
-      faulty = subst (λ (bodies : List ℕ). AllPass (is_among bodies) (faulty_bodies (resolution_by (parsed_by new tree) c))) (sym (ap (λ v. v.items) m.faulty)) (bodies_stay old new tree b c w r s ordinals types.faulty.items t.faulty);
+          (ap (λ (l : FieldLists). l.declared) m.fields ∙ f.0, ap (λ (l : FieldLists). l.all) m.fields ∙ (f.1 ∙ sym (fields_stay old new tree b c w r s ordinals)));
+      faulty = subst (λ (bodies : List ℕ). AllPass (is_among bodies) (faulty_bodies (resolution_with (parsed_module new tree) c))) (sym (ap (λ v. v.items) m.faulty)) (bodies_stay old new tree b c w r s ordinals types.faulty.items t.faulty);
     }

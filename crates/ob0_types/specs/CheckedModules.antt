@@ -1,17 +1,17 @@
 -- A checked module: its names and its faults.
 -- Rule: docs/LANGUAGE.md, Types 8, Faults of scopes and types 1.
 use Rattle.std.specs.Prelude.{◌≡◌, ◌≤◌, true, List, [], length, ◌↔◌, IfSome, is_some, Option}
-use Rattle.ob0_scan.specs.Scanned.{max_faults}
+use Rattle.ob0_scan.specs.TextWithTokens.{max_faults}
 use Rattle.ob0_scan.specs.declared.fault.Fault.{Fault}
 use Rattle.ob0_scope_table.specs.Resolution.{Resolution, IsResolution}
-use Rattle.ob0_tree.specs.Parsed.{named_tree_of}
+use Rattle.ob0_tree.specs.ParsedModule.{named_tree_of}
 use Rattle.ob0_types_check.specs.ModuleLaws.{HasDeclarations}
 use Rattle.ob0_types_check.specs.SomeBodies.{AllPass, faulty_bodies, is_among}
 use Rattle.ob0_types_table.specs.KnownTables.{Tables}
 use Rattle.ob0_language_types.specs.WellTyped.{WellTyped}
 use Rattle.ob0_types.specs.FaultOrder.{AreFirstFaults}
 use Rattle.ob0_types.specs.declared.checked.ModuleTypes.{ModuleTypes}
-use Rattle.ob0_types_fields.specs.Listed.{AreFields, Listed}
+use Rattle.ob0_types_fields.specs.FieldLists.{AreFieldListsOf, FieldLists}
 
 -- a checked module: its bindings, its faults, and the table of its declarations if there is one
 pub record CheckedModule : Type 0 where
@@ -35,26 +35,26 @@ AreCheckedFaults names faults =
     (known : Option Tables) × IsChecked (record { names = names; faults = faults; known = known })
 
 -- joins a module to the result of checking its types
-abbrev pub checked_by : Resolution → ModuleTypes → CheckedModule
-checked_by names types = record { names = names; faults = types.faults.items; known = types.known }
+abbrev pub checked_module : Resolution → ModuleTypes → CheckedModule
+checked_module names types = record { names = names; faults = types.faults.items; known = types.known }
 
 -- Holds if this is the result of checking a module's types. If the module has no fault, the fields are its fields. Each
 -- body with a fault is listed among the faulty bodies.
 pub record AreTypesOf (names : Resolution) (types : ModuleTypes) : Type 0 where
-  pub checked : IsChecked (checked_by names types)
-  pub fields : types.faults.items ≡ [] → AreFields names types.fields
+  pub checked : IsChecked (checked_module names types)
+  pub fields : types.faults.items ≡ [] → AreFieldListsOf names types.fields
   pub faulty : AllPass (is_among types.faulty.items) (faulty_bodies names)
 
 -- Holds if a table, if present, has the module's declarations, and it is present if the module is
 -- well-typed.
-pub record IsKnownWhereTyped (names : Resolution) (known : Option Tables) : Type 0 where
+pub record IsKnownIfTyped (names : Resolution) (known : Option Tables) : Type 0 where
   pub holds : IfSome known (HasDeclarations (named_tree_of names.module_read))
   pub kept : WellTyped (named_tree_of names.module_read) → is_some known ≡ true
 
 -- holds if these are the module's fields, or the module isn't well-typed
-abbrev pub AreFieldsWhereTyped : Resolution → Listed → Type 0
-AreFieldsWhereTyped names fields =
-    WellTyped (named_tree_of names.module_read) → AreFields names fields
+abbrev pub AreFieldsIfTyped : Resolution → FieldLists → Type 0
+AreFieldsIfTyped names fields =
+    WellTyped (named_tree_of names.module_read) → AreFieldListsOf names fields
 
 -- holds if the module is well-typed and its names are bound
 pub record IsWellTyped (names : Resolution) : Type 0 where
@@ -62,7 +62,7 @@ pub record IsWellTyped (names : Resolution) : Type 0 where
   pub well_typed : WellTyped (named_tree_of names.module_read)
 
 -- holds if the module is well-typed and these are its declarations and its fields
-pub record IsKnownOf (names : Resolution) (known : Tables) (fields : Listed) : Type 0 where
+pub record IsKnownOf (names : Resolution) (known : Tables) (fields : FieldLists) : Type 0 where
   pub well_typed : IsWellTyped names
   pub declarations : HasDeclarations (named_tree_of names.module_read) known
-  pub fields_are : AreFields names fields
+  pub fields_are : AreFieldListsOf names fields

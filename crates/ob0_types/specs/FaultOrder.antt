@@ -5,16 +5,16 @@ use Rattle.std.specs.List.{filter}
 use Rattle.std.specs.List.Sorted.{IsPermutation, IsSorted}
 use Rattle.std.specs.Ordering.{nat_cmp, ordering_then}
 use Rattle.std.specs.declared.cmp.Ordering.{Ordering}
-use Rattle.ob0_scan.specs.Scanned.{max_faults}
-use Rattle.ob0_scan.specs.declared.fault.Code.{Code}
-use Rattle.ob0_scan.specs.declared.fault.Code.TheVariants as code
+use Rattle.ob0_scan.specs.TextWithTokens.{max_faults}
+use Rattle.ob0_scan.specs.declared.fault.FaultCode.{FaultCode}
+use Rattle.ob0_scan.specs.declared.fault.FaultCode.TheVariants as code
 use Rattle.ob0_scan.specs.declared.fault.Fault.{Fault}
-use Rattle.ob0_scope_table.specs.Resolution.{Resolution, is_of_declarations}
+use Rattle.ob0_scope_table.specs.Resolution.{Resolution, is_declaration_fault}
 use Rattle.ob0_types_check.specs.DeclarationFaults.{reported_module}
 
 -- returns the number of a code; codes are ordered by it, first lexical codes, then codes of scopes,
 -- then codes of types
-abbrev pub code_number : Code → ℕ
+abbrev pub code_number : FaultCode → ℕ
 code_number code.TooLong = 1
 code_number code.BadChar = 2
 code_number code.OpenComment = 3
@@ -54,7 +54,7 @@ pub record AreFirstOf (found faults : List Fault) : Type 0 where
 -- and faults of types, then the duplicate declarations and wrong closing names. Only the first 100 in order are
 -- reported.
 abbrev pub faults_in : Resolution → List Fault
-faults_in r = reported_module r ++ filter is_of_declarations r.faults
+faults_in r = reported_module r ++ filter is_declaration_fault r.faults
 
 -- holds if these are the first 100 faults of the module, in order
 abbrev pub AreFirstFaults : Resolution → List Fault → Type 0

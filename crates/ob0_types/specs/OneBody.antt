@@ -3,12 +3,12 @@
 use Rattle.std.specs.Prelude.{◌≡◌, ℕ, true, nat_lt, if◌then◌else◌}
 use Rattle.ob0_tree.specs.Tree.{Tree, block, body, declares, declares_procedure, end, has_body, is_module, item, items, maybe, module_text, more, procedure}
 use Rattle.ob0_tree.specs.View.{body_of}
-use Rattle.ob0_scan.specs.Scanned.{Scanned}
-use Rattle.ob0_scope_table.specs.Bindings.{resolution_by}
-use Rattle.ob0_scope_table.specs.OneBody.{IsBodyChange, closing_name, is_out}
+use Rattle.ob0_scan.specs.TextWithTokens.{TextWithTokens}
+use Rattle.ob0_scope_table.specs.Bindings.{resolution_with}
+use Rattle.ob0_scope_table.specs.OneBody.{IsBodyChange, closing_name, is_outside}
 use Rattle.ob0_scope_table.specs.Resolution.{Resolution, ordinal_in}
 use Rattle.ob0_scope_table.specs.declared.resolved.Bindings.{Bindings}
-use Rattle.ob0_tree.specs.Parsed.{Parsed}
+use Rattle.ob0_tree.specs.ParsedModule.{ParsedModule}
 use Rattle.ob0_types.specs.CheckedModules.{AreTypesOf}
 use Rattle.ob0_types.specs.declared.checked.ModuleTypes.{ModuleTypes}
 use Rattle.ob0_types.specs.declared.one_body.Body.{Body}
@@ -19,8 +19,8 @@ pub record OneBody : Type 0 where
   pub statements : Tree ℕ (maybe body)
 
 -- returns the body that a value of the code stands for
-abbrev pub body_seen : Body → OneBody
-body_seen b = record { closing = b.closing; statements = body_of b.statements.now }
+abbrev pub body_view : Body → OneBody
+body_view b = record { closing = b.closing; statements = body_of b.statements.now }
 
 -- Returns the body that contains a range of tokens, which starts at index `low`. If the range isn't
 -- in one body, the result is some body of the module.
@@ -51,17 +51,17 @@ abbrev pub body_in_module : ℕ → Tree ℕ module_text → OneBody
 body_in_module low (is_module x b closing) = body_in_block low closing b
 
 -- replaces the tokens of a module by the tokens of another text; the tree is unchanged
-abbrev pub over_text : Scanned → Parsed → Parsed
-over_text source m =
+abbrev pub with_source : TextWithTokens → ParsedModule → ParsedModule
+with_source source m =
     record { source = source; name = m.name; block = m.block; closing = m.closing }
 
 -- Holds if `types` is the result of checking the module before tokens with indexes from `low` upwards changed. The
 -- changed tokens are in one body. All other tokens have the same spellings and bindings as before.
-pub record WereTypes (r : Resolution) (types : ModuleTypes) (low : ℕ) : Type 0 where
+pub record WereTypesBeforeChange (r : Resolution) (types : ModuleTypes) (low : ℕ) : Type 0 where
   pub high : ℕ
-  pub old : Scanned
+  pub old : TextWithTokens
   pub bindings : Bindings
   pub change : IsBodyChange old r.module_read low high
-  pub bound : (token : ℕ) → is_out low high token ≡ true
+  pub bound : (token : ℕ) → is_outside low high token ≡ true
       → ordinal_in r.ordinals token ≡ ordinal_in bindings.ordinals.items token
-  pub types_are : AreTypesOf (resolution_by (over_text old r.module_read) bindings) types
+  pub types_are : AreTypesOf (resolution_with (with_source old r.module_read) bindings) types

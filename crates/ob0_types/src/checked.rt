@@ -5,26 +5,26 @@
 //! `Checked::from_parts` makes one from a result that is kept elsewhere, without allocating.
 //!
 //! Faults are sorted by (start, end, code). The lists of fields are made only for a well-typed
-//! module (`known_fields`). If one body changed, they are made from the lists of the previous text
-//! (`fields_again`). The invariant of `Checked` states that they are the module's fields if it has
+//! module (`fields_from_table`). If one body changed, they are made from the lists of the previous text
+//! (`fields_after_body_change`). The invariant of `Checked` states that they are the module's fields if it has
 //! no fault. So the view of a `Checked` doesn't contain them.
 
-ghost use Rattle.ob0_scope_table.specs.Resolution.{is_of_declarations};
-ghost use Rattle.ob0_types.specs.CheckedModules.{AreFieldsWhereTyped, AreTypesOf, IsChecked, IsKnownWhereTyped, checked_by};
+ghost use Rattle.ob0_scope_table.specs.Resolution.{is_declaration_fault};
+ghost use Rattle.ob0_types.specs.CheckedModules.{AreFieldsIfTyped, AreTypesOf, IsChecked, IsKnownIfTyped, checked_module};
 ghost use Rattle.ob0_types.specs.FaultOrder.{AreFirstOf};
-ghost use Rattle.ob0_types.specs.NewBody.{WereTypesElsewhere};
-ghost use Rattle.ob0_types.specs.OneBody.{WereTypes};
+ghost use Rattle.ob0_types.specs.NewBody.{WereTypesBeforeNewBody};
+ghost use Rattle.ob0_types.specs.OneBody.{WereTypesBeforeChange};
 ghost use Rattle.ob0_types_check.specs.SomeBodies.{IsReportOf};
 ghost use Rattle.std.specs.List.{filter};
 ghost use Rattle.std.specs.Prelude.{◌≡◌, ◌≤◌, ◌↔◌, ◌++◌, [], length, IfOk, OnOk, MatchOption};
-ghost use Rattle.ob0_scan.specs.Scanned.{max_faults};
+ghost use Rattle.ob0_scan.specs.TextWithTokens.{max_faults};
 
-use crate::one_body::body_from;
+use crate::one_body::body_containing;
 use ob0_language_values::Scalar;
-use ob0_scan::{Code, Fault, MAX_FAULTS, SameTokens};
-use ob0_scope_table::{PREDECLARED, Resolved, place_in_module};
+use ob0_scan::{Fault, FaultCode, MAX_FAULTS, SameTokens};
+use ob0_scope_table::{PREDECLARED_COUNT, Resolved, body_place_in_module};
 use ob0_types_check::laws::{modules_fit, no_fault_in_modules};
-use ob0_types_check::{Report, report_bodies, report_body, report_faults};
+use ob0_types_check::{Report, report_faults, report_one_body, report_some_bodies};
 use ob0_types_fields::FieldList;
 use ob0_types_table::{DeclarationTable, Parts, TypeId};
 use std::alloc::{AllocError, Global};
@@ -34,7 +34,7 @@ use std::marker::Model;
 /// The greatest number of faulty bodies in the previous text for which only some bodies are checked
 /// again. If there are more, all bodies are checked, because searching a longer list for each body
 /// would cost as much.
-const MOST_FAULTY: usize = 32;
+const MAX_FAULTY_BODIES: usize = 32;
 
 /// The result of checking a module. If the module is well-typed, `known` has its declarations and `fields` its fields.
 /// `faults` has the first 100 faults of its scopes and types. `faulty` has the closing names of the bodies with a fault
@@ -56,7 +56,7 @@ pub struct Checked<'t> {
 
 impl<'t> Model for Checked<'t> {
     ghost use Rattle.std.specs.Cow.{cow_value};
-    ghost use Rattle.ob0_types.specs.CheckedModules.{AreTypesOf, CheckedModule, checked_by};
+    ghost use Rattle.ob0_types.specs.CheckedModules.{AreTypesOf, CheckedModule, checked_module};
 
     ghost Value = { CheckedModule };
 
@@ -65,7 +65,7 @@ impl<'t> Model for Checked<'t> {
 
     ghost coded = { Prim.hlevel (codes, block_contract.the_row.coded) };
 
-    ghost view = { λ c. checked_by c.resolved.now (cow_value c.types) };
+    ghost view = { λ c. checked_module c.resolved.now (cow_value c.types) };
 
     ghost invariant = { λ c. AreTypesOf c.resolved.now (cow_value c.types) };
 }
@@ -120,32 +120,32 @@ pub fn types_of<'t>(alloc: Global, resolved: &'t Resolved<'t>) -> Result<ModuleT
     // The contract of this call gives the proof the invariant of the module.
     let _module = resolved.module();
     let report = report_faults(alloc, resolved)?;
-    let fields = known_fields(alloc, resolved, &report.known)?;
-    types_reported(resolved, report, fields)
+    let fields = fields_from_table(alloc, resolved, &report.known)?;
+    types_from_report(resolved, report, fields)
 }
 
 /// Returns the result of checking a module after some of its tokens, all within one body, changed. `low` is the index
 /// of the first token that changed, and `before` is the result before the change. Other bodies are checked again only
 /// if they had faults, and only the fields of that body are searched for again.
-pub fn types_again<'t>(
+pub fn types_after_body_change<'t>(
     alloc: Global,
     resolved: &'t Resolved<'t>,
     before: ModuleTypes,
     low: usize,
 ) -> Result<ModuleTypes, AllocError>
-    requires { WereTypes resolved.now before low }
+    requires { WereTypesBeforeChange resolved.now before low }
     ensures { IfOk result (AreTypesOf resolved.now) }
 {
-    if before.faulty.len() > MOST_FAULTY {
+    if before.faulty.len() > MAX_FAULTY_BODIES {
         return types_of(alloc, resolved);
     }
     no_fault_in_modules();
-    let body = body_from(resolved.module(), low);
+    let body = body_containing(resolved.module(), low);
     let mut bodies = before.faulty.clone()?;
     bodies.push(body.closing)?;
-    let report = report_bodies(alloc, resolved, bodies.as_slice())?;
-    let fields = fields_again(alloc, resolved, &report.known, before, low)?;
-    types_reported(resolved, report, fields)
+    let report = report_some_bodies(alloc, resolved, bodies.as_slice())?;
+    let fields = fields_after_body_change(alloc, resolved, &report.known, before, low)?;
+    types_from_report(resolved, report, fields)
 }
 
 /// Returns the result of checking a module after the statements of one body were replaced, perhaps by a different
@@ -157,42 +157,42 @@ pub fn types_with_new_body<'t>(
     before: ModuleTypes,
     same: SameTokens,
 ) -> Result<ModuleTypes, AllocError>
-    requires { WereTypesElsewhere resolved.now before same }
+    requires { WereTypesBeforeNewBody resolved.now before same }
     ensures { IfOk result (AreTypesOf resolved.now) }
 {
     if before.faults.is_empty() {
-        return types_by_body(alloc, resolved, before, same);
+        return types_from_new_body(alloc, resolved, before, same);
     }
     types_of(alloc, resolved)
 }
 
 /// Returns the result of checking a module after the statements of one body were replaced. The module must have been
 /// valid before.
-fn types_by_body<'t>(
+fn types_from_new_body<'t>(
     alloc: Global,
     resolved: &'t Resolved<'t>,
     before: ModuleTypes,
     same: SameTokens,
 ) -> Result<ModuleTypes, AllocError>
-    requires before { WereTypesElsewhere resolved.now before same }
+    requires before { WereTypesBeforeNewBody resolved.now before same }
     requires none { before.faults.items ≡ [] }
     ensures { IfOk result (AreTypesOf resolved.now) }
 {
     no_fault_in_modules();
-    let body = body_from(resolved.module(), same.prefix);
-    let report = report_body(alloc, resolved, body.closing)?;
+    let body = body_containing(resolved.module(), same.prefix);
+    let report = report_one_body(alloc, resolved, body.closing)?;
     let fields = fields_with_new_body(alloc, resolved, &report.known, before, same)?;
-    types_reported(resolved, report, fields)
+    types_from_report(resolved, report, fields)
 }
 
 /// Returns the result of checking a module, given its report and, if it is well-typed, its fields.
-fn types_reported<'t>(
+fn types_from_report<'t>(
     resolved: &'t Resolved<'t>,
     report: Report,
     fields: FieldList,
 ) -> Result<ModuleTypes, AllocError>
     requires report { IsReportOf resolved.now report }
-    requires fields { AreFieldsWhereTyped resolved.now fields }
+    requires fields { AreFieldsIfTyped resolved.now fields }
     ensures { IfOk result (AreTypesOf resolved.now) }
 {
     modules_fit();
@@ -204,7 +204,7 @@ fn types_reported<'t>(
         known,
         faulty,
     } = report;
-    let faults = faults_of(resolved, faults)?;
+    let faults = first_faults(resolved, faults)?;
     Ok(ModuleTypes {
         known,
         fields,
@@ -215,18 +215,18 @@ fn types_reported<'t>(
 
 /// Returns the fields of a well-typed module. `known` is the table of its declarations. If there is no table, the
 /// module isn't well-typed and the list is empty.
-fn known_fields<'t>(
+fn fields_from_table<'t>(
     alloc: Global,
     resolved: &'t Resolved<'t>,
     known: &Option<DeclarationTable>,
 ) -> Result<FieldList, AllocError>
-    requires { IsKnownWhereTyped resolved.now known.now }
-    ensures { IfOk result (AreFieldsWhereTyped resolved.now) }
+    requires { IsKnownIfTyped resolved.now known.now }
+    ensures { IfOk result (AreFieldsIfTyped resolved.now) }
 {
     // The contract of this call gives the proof the invariant of the module.
     let _module = resolved.module();
     match known {
-        None => Ok(FieldList::none(alloc)),
+        None => Ok(FieldList::empty(alloc)),
         Some(known) => {
             let fields = FieldList::of(alloc, known, resolved)?;
             Ok(fields)
@@ -237,19 +237,19 @@ fn known_fields<'t>(
 /// Returns the fields of a well-typed module after some of its tokens, all within one body, changed. If the module was
 /// valid before, only the fields of that body are searched for again. If the module isn't well-typed now, the result
 /// may be any list.
-fn fields_again<'t>(
+fn fields_after_body_change<'t>(
     alloc: Global,
     resolved: &'t Resolved<'t>,
     known: &Option<DeclarationTable>,
     before: ModuleTypes,
     low: usize,
 ) -> Result<FieldList, AllocError>
-    requires before { WereTypes resolved.now before low }
-    requires known { IsKnownWhereTyped resolved.now known.now }
-    ensures { IfOk result (AreFieldsWhereTyped resolved.now) }
+    requires before { WereTypesBeforeChange resolved.now before low }
+    requires known { IsKnownIfTyped resolved.now known.now }
+    ensures { IfOk result (AreFieldsIfTyped resolved.now) }
 {
     no_fault_in_modules();
-    let body = body_from(resolved.module(), low);
+    let body = body_containing(resolved.module(), low);
     let ModuleTypes {
         known: _,
         fields,
@@ -260,10 +260,10 @@ fn fields_again<'t>(
         return Ok(fields);
     };
     if faults.is_empty() {
-        let fields = fields.with_body(alloc, table, resolved, body.statements)?;
+        let fields = fields.with_changed_body(alloc, table, resolved, body.statements)?;
         return Ok(fields);
     }
-    known_fields(alloc, resolved, known)
+    fields_from_table(alloc, resolved, known)
 }
 
 /// Returns the fields of a well-typed module after the statements of one body were replaced. The module must have been
@@ -275,10 +275,10 @@ fn fields_with_new_body<'t>(
     before: ModuleTypes,
     same: SameTokens,
 ) -> Result<FieldList, AllocError>
-    requires before { WereTypesElsewhere resolved.now before same }
+    requires before { WereTypesBeforeNewBody resolved.now before same }
     requires none { before.faults.items ≡ [] }
-    requires known { IsKnownWhereTyped resolved.now known.now }
-    ensures { IfOk result (AreFieldsWhereTyped resolved.now) }
+    requires known { IsKnownIfTyped resolved.now known.now }
+    ensures { IfOk result (AreFieldsIfTyped resolved.now) }
 {
     let ModuleTypes {
         known: _,
@@ -286,41 +286,44 @@ fn fields_with_new_body<'t>(
         faults: _,
         faulty: _,
     } = before;
-    let body = body_from(resolved.module(), same.prefix);
-    let found = place_in_module(resolved.module(), same.prefix, same.new_suffix);
+    let body = body_containing(resolved.module(), same.prefix);
+    let found = body_place_in_module(resolved.module(), same.prefix, same.new_suffix);
     let Some(place) = found else {
-        return known_fields(alloc, resolved, known);
+        return fields_from_table(alloc, resolved, known);
     };
     let Some(table) = known else {
         return Ok(fields);
     };
-    let fields = fields.with_new_body(alloc, table, resolved, body.statements, place, same)?;
+    let fields = fields.with_replaced_body(alloc, table, resolved, body.statements, place, same)?;
     Ok(fields)
 }
 
 /// Returns the first 100 faults of scopes and types, sorted by start, end and code. `of_types` has the faults of types
 /// and the undeclared names; the other faults of scopes are added.
-fn faults_of<'t>(resolved: &'t Resolved<'t>, of_types: Vec<Fault>) -> Result<Vec<Fault>, AllocError>
+fn first_faults<'t>(
+    resolved: &'t Resolved<'t>,
+    of_types: Vec<Fault>,
+) -> Result<Vec<Fault>, AllocError>
     ensures none { IfOk result (λ faults. (faults.items ≡ [])
-        ↔ (of_types.items ++ filter is_of_declarations resolved.now.faults ≡ [])) }
+        ↔ (of_types.items ++ filter is_declaration_fault resolved.now.faults ≡ [])) }
     ensures few { IfOk result (λ faults. length faults.items ≤ max_faults) }
     ensures first { IfOk result (λ faults. AreFirstOf
-        (of_types.items ++ filter is_of_declarations resolved.now.faults) faults.items) }
+        (of_types.items ++ filter is_declaration_fault resolved.now.faults) faults.items) }
 {
     let mut faults = of_types;
-    add_declarations(&mut faults, resolved.faults())?;
+    add_declaration_faults(&mut faults, resolved.faults())?;
     faults.sort_by_key(|fault| (fault.span.start, fault.span.end, fault.code))?;
     faults.truncate(MAX_FAULTS);
     Ok(faults)
 }
 
 /// Appends the duplicate declarations and wrong closing names among the faults of scopes.
-fn add_declarations(faults: &mut Vec<Fault>, scopes: &[Fault]) -> Result<(), AllocError>
+fn add_declaration_faults(faults: &mut Vec<Fault>, scopes: &[Fault]) -> Result<(), AllocError>
     ensures { OnOk result
-        (faults.new.items ≡ faults.old.items ++ filter is_of_declarations scopes.now) }
+        (faults.new.items ≡ faults.old.items ++ filter is_declaration_fault scopes.now) }
 {
     for fault in scopes {
-        if is_of_declarations(fault) {
+        if is_declaration_fault(fault) {
             faults.push(*fault)?;
         }
     }
@@ -328,19 +331,19 @@ fn add_declarations(faults: &mut Vec<Fault>, scopes: &[Fault]) -> Result<(), All
 }
 
 /// Returns true if the fault is a duplicate declaration or a wrong closing name.
-fn is_of_declarations(fault: &Fault) -> bool
-    ensures { result ≡ is_of_declarations fault.now }
+fn is_declaration_fault(fault: &Fault) -> bool
+    ensures { result ≡ is_declaration_fault fault.now }
 {
-    fault.code == Code::Duplicate || fault.code == Code::EndName
+    fault.code == FaultCode::Duplicate || fault.code == FaultCode::EndName
 }
 
 impl<'t> Checked<'t> {
-    ghost use Rattle.ob0_types.specs.CheckedModules.{AreTypesOf, IsChecked, checked_by};
+    ghost use Rattle.ob0_types.specs.CheckedModules.{AreTypesOf, IsChecked, checked_module};
 
     /// Joins a module to the result of checking it, and owns this result.
     fn new(resolved: &'t Resolved<'t>, types: ModuleTypes) -> Checked<'t>
         requires { AreTypesOf resolved.now types }
-        ensures { result ≡ checked_by resolved.now types }
+        ensures { result ≡ checked_module resolved.now types }
     {
         Checked {
             resolved,
@@ -351,7 +354,7 @@ impl<'t> Checked<'t> {
     /// Joins a module to the result of checking it, and borrows this result.
     pub fn from_parts(resolved: &'t Resolved<'t>, types: &'t ModuleTypes) -> Checked<'t>
         requires { AreTypesOf resolved.now types.now }
-        ensures { result ≡ checked_by resolved.now types.now }
+        ensures { result ≡ checked_module resolved.now types.now }
     {
         Checked {
             resolved,
@@ -361,7 +364,7 @@ impl<'t> Checked<'t> {
 
     /// Returns the result of checking the module.
     fn types(&self) -> &ModuleTypes
-        ensures found { checked_by self.now.names result.now ≡ self.now }
+        ensures found { checked_module self.now.names result.now ≡ self.now }
         ensures types { AreTypesOf self.now.names result.now }
     {
         match &self.types {
@@ -409,14 +412,14 @@ impl<'t> Checked<'t> {
 
 impl<'t> WellTyped<'t> {
     ghost use Rattle.std.specs.Prelude.{option_map};
-    ghost use Rattle.ob0_tree.specs.Parsed.{named_tree_of};
+    ghost use Rattle.ob0_tree.specs.ParsedModule.{named_tree_of};
     ghost use Rattle.ob0_types.specs.CheckedModules.{IsWellTyped};
     ghost use Rattle.ob0_types_check.specs.ModuleLaws.{HasDeclarations};
-    ghost use Rattle.ob0_types_fields.specs.Listed.{AreFields};
+    ghost use Rattle.ob0_types_fields.specs.FieldLists.{AreFieldListsOf};
     ghost use Rattle.ob0_language_types.specs.ConstantValues.{value_of_constant};
     ghost use Rattle.ob0_language_types.specs.Bindings.{declared_object};
     ghost use Rattle.ob0_types.specs.DeclaredShapes.{shape_of};
-    ghost use Rattle.ob0_language_types.specs.Typing.{type_declared};
+    ghost use Rattle.ob0_language_types.specs.Typing.{type_of_declaration};
     ghost use Rattle.ob0_language_values.specs.Scalars.{scalar_value};
 
     /// Returns the module with the result of checking it, which has no faults.
@@ -444,7 +447,7 @@ impl<'t> WellTyped<'t> {
 
     /// Returns the list of all fields in the module.
     pub fn fields(&self) -> &'t FieldList
-        ensures { AreFields self.now result.now }
+        ensures { AreFieldListsOf self.now result.now }
     {
         self.fields
     }
@@ -458,7 +461,7 @@ impl<'t> WellTyped<'t> {
         // The contract of this call gives the proof the invariant of the module.
         let _module = self.resolved();
         let value = self.declarations().constant(declaration);
-        if declaration < PREDECLARED {
+        if declaration < PREDECLARED_COUNT {
             None
         } else {
             value
@@ -469,7 +472,7 @@ impl<'t> WellTyped<'t> {
     /// constant. Returns None for a procedure, and for a number that isn't the ordinal of a declaration.
     pub fn shape(&self, declaration: usize) -> Option<Shape<'t>>
         ensures { option_map shape_of result
-            ≡ type_declared (declared_object (named_tree_of self.now.module_read) declaration) }
+            ≡ type_of_declaration (declared_object (named_tree_of self.now.module_read) declaration) }
     {
         let known = self.declarations();
         let of = known.declared_type(declaration)?;
@@ -479,15 +482,15 @@ impl<'t> WellTyped<'t> {
 
 impl<'t> Shape<'t> {
     ghost use Rattle.ob0_types_table.specs.KnownTables.{shapes_of};
-    ghost use Rattle.ob0_types_table.specs.Parts.{PartsAreCounted, has_parts, is_known_type, parts_shape};
+    ghost use Rattle.ob0_types_table.specs.Parts.{PartsHaveSizes, is_not_faulty, is_known_type, parts_shape};
     ghost use Rattle.ob0_types.specs.DeclaredShapes.{shape_of};
 
     /// Returns the parts of the type. The types of the parts are in the same table. The result is `Faulty` exactly if
     /// this isn't a type of the module.
     pub fn parts(&self) -> Parts<'t>
         ensures shape { parts_shape (shapes_of self.now.known.now) result ≡ shape_of self.now }
-        ensures counted { PartsAreCounted (shapes_of self.now.known.now) result }
-        ensures known { has_parts result ≡ is_known_type self.now.known.now self.now.of }
+        ensures counted { PartsHaveSizes (shapes_of self.now.known.now) result }
+        ensures known { is_not_faulty result ≡ is_known_type self.now.known.now self.now.of }
     {
         self.known.parts(self.of)
     }

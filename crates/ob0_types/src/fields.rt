@@ -1,8 +1,8 @@
 //! The fields of a well-typed module: finds the field at a place, its identifiers, and its declaration.
 
 ghost use Rattle.std.specs.Prelude.{◌≡◌, IfOk, IfSome, length};
-ghost use Rattle.ob0_tree.specs.Order.{AreIdentifiers, Ascending, IsIdentifierToken};
-ghost use Rattle.ob0_types_fields.specs.Identifiers.{declaring_field, field_at, field_place, field_tokens};
+ghost use Rattle.ob0_tree.specs.Order.{AreIdentifierTokens, AreAscending, IsIdentifierToken};
+ghost use Rattle.ob0_types_fields.specs.Identifiers.{field_declaring_token, field_at, field_position, field_tokens};
 
 use crate::checked::WellTyped;
 use ob0_types_fields::FieldName;
@@ -30,9 +30,9 @@ pub fn field_tokens(
     ensures value { IfOk result
         (λ tokens. tokens.items ≡ field_tokens well_typed.now owner name.now) }
     ensures ascend { IfOk result
-        (λ tokens. Ascending 0 tokens.items (length well_typed.now.module_read.source.tokens)) }
+        (λ tokens. AreAscending 0 tokens.items (length well_typed.now.module_read.source.tokens)) }
     ensures are_identifiers { IfOk result
-        (λ tokens. AreIdentifiers well_typed.now.module_read.source.tokens tokens.items) }
+        (λ tokens. AreIdentifierTokens well_typed.now.module_read.source.tokens tokens.items) }
 {
     let names = well_typed.resolved();
     let tokens = well_typed
@@ -43,18 +43,22 @@ pub fn field_tokens(
 
 /// Returns the token that declares the field with this name in the record with ordinal `owner`. Returns None if the
 /// record has no such field.
-pub fn declaring_field(well_typed: &WellTyped<'_>, owner: usize, name: &str) -> Option<usize>
-    ensures { result ≡ declaring_field well_typed.now.module_read owner name.now }
+pub fn field_declaring_token(well_typed: &WellTyped<'_>, owner: usize, name: &str) -> Option<usize>
+    ensures { result ≡ field_declaring_token well_typed.now.module_read owner name.now }
 {
     let names = well_typed.resolved();
-    well_typed.fields().declaring(names.tokens(), owner, name)
+    well_typed
+        .fields()
+        .declaring_token_of(names.tokens(), owner, name)
 }
 
 /// Returns the position of the field with this name among the fields of a record, counted from 0. `owner` is the
 /// ordinal of the record. Returns None if the record has no such field.
-pub fn field_place(well_typed: &WellTyped<'_>, owner: usize, name: &str) -> Option<usize>
-    ensures { result ≡ field_place well_typed.now.module_read owner name.now }
+pub fn field_position(well_typed: &WellTyped<'_>, owner: usize, name: &str) -> Option<usize>
+    ensures { result ≡ field_position well_typed.now.module_read owner name.now }
 {
     let names = well_typed.resolved();
-    well_typed.fields().place(names.tokens(), owner, name)
+    well_typed
+        .fields()
+        .index_in_record(names.tokens(), owner, name)
 }

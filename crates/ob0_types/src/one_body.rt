@@ -1,9 +1,9 @@
 //! Finds the body that contains a range of tokens.
 
 ghost use Rattle.std.specs.Prelude.{◌≡◌};
-ghost use Rattle.ob0_tree.specs.Parsed.{tree_of};
+ghost use Rattle.ob0_tree.specs.ParsedModule.{tree_of};
 ghost use Rattle.ob0_tree.specs.View.{block_of, procedure_of};
-ghost use Rattle.ob0_types.specs.OneBody.{body_in_block, body_in_module, body_in_procedure, body_seen};
+ghost use Rattle.ob0_types.specs.OneBody.{body_in_block, body_in_module, body_in_procedure, body_view};
 
 use ob0_tree::{Block, Module, Procedure, Statement};
 
@@ -16,10 +16,10 @@ pub(crate) struct Body<'t> {
 
 /// Returns the body that contains a range of tokens, which starts at index `low`. If the range
 /// isn't in one body, the result is some body of the module.
-pub(crate) fn body_from<'t>(read: &'t Module<'t>, low: usize) -> Body<'t>
-    ensures { body_seen result ≡ body_in_module low (tree_of read.now) }
+pub(crate) fn body_containing<'t>(read: &'t Module<'t>, low: usize) -> Body<'t>
+    ensures { body_view result ≡ body_in_module low (tree_of read.now) }
 {
-    body_in_block(read.block(), read.closing(), low)
+    body_in_block(read.block(), read.closing_name(), low)
 }
 
 /// Returns the body of this block, or of a procedure in it, that contains a range of tokens
@@ -27,7 +27,7 @@ pub(crate) fn body_from<'t>(read: &'t Module<'t>, low: usize) -> Body<'t>
 /// `own` is the block's closing name.
 #[cycle(blocks)]
 fn body_in_block<'t>(b: &'t Block, own: usize, low: usize) -> Body<'t>
-    ensures { body_seen result ≡ body_in_block low own (block_of b.now) }
+    ensures { body_view result ≡ body_in_block low own (block_of b.now) }
 {
     for p in &b.procedures {
         if p.closing >= low {
@@ -44,7 +44,7 @@ fn body_in_block<'t>(b: &'t Block, own: usize, low: usize) -> Body<'t>
 /// starting at index `low`. If the range isn't in one body, the result is some of these bodies.
 #[cycle(blocks)]
 fn body_in_procedure<'t>(p: &'t Procedure, low: usize) -> Body<'t>
-    ensures { body_seen result ≡ body_in_procedure low (procedure_of p.now) }
+    ensures { body_view result ≡ body_in_procedure low (procedure_of p.now) }
 {
     body_in_block(&p.block, p.closing, low)
 }

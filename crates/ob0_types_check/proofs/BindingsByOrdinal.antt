@@ -4,21 +4,21 @@ use Rattle.std.proofs.Common.{◌≡◌, ℕ, suc, ◌+◌, true, ◌&&◌, List
 use Rattle.std.proofs.lemmas.Bool.{and_parts}
 use Rattle.std.proofs.Math.Seq.{take-append_seam}
 use Rattle.ob0_tree.specs.Tree.{Tree, block, body, declares, declares_procedure, end, formals, has_body, is_module, item, items, maybe, module_text, more, procedure}
-use Rattle.ob0_language_names.specs.Names.{Label, Name, Naming, as_labels, as_names, declared}
-use Rattle.ob0_language_names.specs.Parts.{constant_names, formal_names, formal_sections, module_block, named_types, section_constants, section_types, section_variables, variable_names}
-use Rattle.ob0_language_names.specs.Scopes.{Scope, after_block, after_names, after_procedure, after_procedures, as_label, declare_names, first_procedure, first_type, first_variable, numbered, procedures_scope, relabel_block, relabel_formals, relabel_procedures, relabel_sections, types_scope, variables_scope}
-use Rattle.ob0_language_names.proofs.Ordinals.{le-after_procedure}
+use Rattle.ob0_language_names.specs.Names.{Label, Name, Naming, naming_by_label, naming_by_spelling, declared}
+use Rattle.ob0_language_names.specs.Parts.{constant_names, formal_names, formal_sections, module_block, declared_type_names, section_constants, section_types, section_variables, variable_names}
+use Rattle.ob0_language_names.specs.Scopes.{Scope, ordinal_after_block, ordinal_after_names, ordinal_after_procedure, ordinal_after_procedures, label_from_ordinal, declare_names, first_procedure_ordinal, first_type_ordinal, first_variable_ordinal, numbered, procedures_scope, relabel_block, relabel_formals, relabel_procedures, relabel_sections, types_scope, variables_scope}
+use Rattle.ob0_language_names.proofs.Ordinals.{le-ordinal_after_procedure}
 use Rattle.ob0_language_names.proofs.Relabelled.{formals-section, types-section, variables-section}
-use Rattle.ob0_language_types.specs.Bindings.{block_bindings, for_some, module_bindings, procedure_bindings, procedures_bindings, since}
+use Rattle.ob0_language_types.specs.Bindings.{block_bindings, list_if_some, module_bindings, procedure_bindings, procedures_bindings, bindings_since}
 use Rattle.ob0_language_types.specs.Declaring.{declare_block, declare_procedure}
-use Rattle.ob0_language_types.specs.Declarations.{after_variables, formals_constructors, procedure_constructors, types_constructors, variables_constructors}
+use Rattle.ob0_language_types.specs.Declarations.{constructor_after_variables, formals_constructor_count, procedure_constructor_count, types_constructor_count, variables_constructor_count}
 use Rattle.ob0_language_types.specs.Environments.{outermost}
 use Rattle.ob0_language_types.specs.Expressions.{a_procedure, a_variable}
-use Rattle.ob0_language_types.specs.WellTyped.{TypeEnvironment, TypedParameter, bind_typed, block_fits, fits_over, heading, procedure_fits, procedures_fit, typed_parameters}
+use Rattle.ob0_language_types.specs.WellTyped.{TypeEnvironment, TypedParameter, bind_typed_parameters, block_fits, fits_over, bind_procedure, procedure_fits, procedures_fit, typed_parameters}
 use Rattle.ob0_language_types.proofs.Agreeing.{Agree, HoldsOf}
-use Rattle.ob0_language_types.proofs.Constructors.{formals_constructors-relabel, procedure_constructors-relabel, types_constructors-relabel, variables_constructors-relabel}
+use Rattle.ob0_language_types.proofs.Constructors.{formals_constructor_count-relabel, procedure_constructor_count-relabel, types_constructor_count-relabel, variables_constructor_count-relabel}
 use Rattle.ob0_language_types.proofs.Literals.{some_inverse}
-use Rattle.ob0_language_types.proofs.TypesByOrdinal.{TypeNoted, TypedBelow, TypedBelow-weaken, TypedWithin, bind_typed-by_name, bind_typed-by_ordinal, block_fits-agrees, declarations_typed, label_typed, label_typed-formals, noted_parameters, noted_parameters-within, parameters_typed, typed_by_name, typed_by_ordinal, typed_names, typed_outermost, typed_scope}
+use Rattle.ob0_language_types.proofs.TypesByOrdinal.{TypeNoted, TypedBelow, TypedBelow-weaken, TypedWithin, bind_typed_parameters-by_name, bind_typed_parameters-by_ordinal, block_fits-agrees, declarations_typed, label_typed, label_typed-formals, noted_parameters, noted_parameters-within, parameters_typed, typed_by_name, typed_by_ordinal, typed_names, typed_outermost, typed_scope}
 use Rattle.ob0_language_types.proofs.Conditions.{hold-true}
 use Rattle.ob0_language_types.proofs.ConstantsDeclared.{predeclared-below}
 
@@ -84,9 +84,9 @@ split-one k n x scope all s = by s.rest s.both s.scoped
       in_order = in_order-append k (suc k) n s.first (b ∷ []) s.in_order (let e : b.ordinal ≡ k = ap ordinal_first scoped in (ap suc (sym e), e));
     }
 
-split : (k : ℕ) (xs : List Name) (scope : Scope Name) (all : TypeNoted Name) → typed_scope all ≡ declare_names k xs scope → Split k (after_names k xs) scope all
+split : (k : ℕ) (xs : List Name) (scope : Scope Name) (all : TypeNoted Name) → typed_scope all ≡ declare_names k xs scope → Split k (ordinal_after_names k xs) scope all
 split k [] scope all e = record { first = []; rest = all; both = refl; scoped = e; in_order = refl }
-split k (x ∷ xs) scope all e = split-one k (after_names (suc k) xs) x scope all (split (suc k) xs ((x, k) ∷ scope) all e)
+split k (x ∷ xs) scope all e = split-one k (ordinal_after_names (suc k) xs) x scope all (split (suc k) xs ((x, k) ∷ scope) all e)
 
 split-then : (k i n : ℕ) (scope mid : Scope Name) (all : TypeNoted Name) (s : Split i n mid all) → Split k i scope s.rest → Split k n scope all
 split-then k i n scope mid all s t = record {
@@ -97,8 +97,8 @@ split-then k i n scope mid all s t = record {
   in_order = in_order-append k i n s.first t.first s.in_order t.in_order;
 }
 
-pub since-front : {A : Type 0} (before first rest : List A) → length before ≡ length rest → since before (first ++ rest) ≡ first
-since-front before first rest e = ap (λ n. take n (first ++ rest)) (omega (arith, e, length-append first rest)) ∙ take-append_seam first rest
+pub bindings_since-front : {A : Type 0} (before first rest : List A) → length before ≡ length rest → bindings_since before (first ++ rest) ≡ first
+bindings_since-front before first rest e = ap (λ n. take n (first ++ rest)) (omega (arith, e, length-append first rest)) ∙ take-append_seam first rest
 
 name-length : (noted : TypeNoted Name) → length (typed_by_name noted) ≡ length (typed_scope noted)
 name-length [] = refl
@@ -108,26 +108,26 @@ label-length : (noted : TypeNoted Name) → length (typed_by_ordinal noted) ≡ 
 label-length [] = refl
 label-length (b ∷ noted) = ap suc (label-length noted)
 
-since-ordered : (k n : ℕ) (noted all : TypeNoted Name) → Split k n (typed_scope noted) all → Ordered k n (since (typed_by_name noted) (typed_by_name all)) (since (typed_by_ordinal noted) (typed_by_ordinal all))
-since-ordered k n noted all s = record {
+bindings_since-ordered : (k n : ℕ) (noted all : TypeNoted Name) → Split k n (typed_scope noted) all → Ordered k n (bindings_since (typed_by_name noted) (typed_by_name all)) (bindings_since (typed_by_ordinal noted) (typed_by_ordinal all))
+bindings_since-ordered k n noted all s = record {
   noted = s.first;
-  by_name = ap (λ z. since (typed_by_name noted) (typed_by_name z)) s.both ∙ (ap (since (typed_by_name noted)) (by_name-append s.first s.rest)
-      ∙ since-front (typed_by_name noted) (typed_by_name s.first) (typed_by_name s.rest) (name-length noted ∙ (ap length (sym s.scoped) ∙ sym (name-length s.rest))));
-  by_label = ap (λ z. since (typed_by_ordinal noted) (typed_by_ordinal z)) s.both ∙ (ap (since (typed_by_ordinal noted)) (by_ordinal-append s.first s.rest)
-      ∙ since-front (typed_by_ordinal noted) (typed_by_ordinal s.first) (typed_by_ordinal s.rest) (label-length noted ∙ (ap length (sym s.scoped) ∙ sym (label-length s.rest))));
+  by_name = ap (λ z. bindings_since (typed_by_name noted) (typed_by_name z)) s.both ∙ (ap (bindings_since (typed_by_name noted)) (by_name-append s.first s.rest)
+      ∙ bindings_since-front (typed_by_name noted) (typed_by_name s.first) (typed_by_name s.rest) (name-length noted ∙ (ap length (sym s.scoped) ∙ sym (name-length s.rest))));
+  by_label = ap (λ z. bindings_since (typed_by_ordinal noted) (typed_by_ordinal z)) s.both ∙ (ap (bindings_since (typed_by_ordinal noted)) (by_ordinal-append s.first s.rest)
+      ∙ bindings_since-front (typed_by_ordinal noted) (typed_by_ordinal s.first) (typed_by_ordinal s.rest) (label-length noted ∙ (ap length (sym s.scoped) ∙ sym (label-length s.rest))));
   in_order = s.in_order;
 }
 
 -- Splits the bindings after a block's constants, types and variables into theirs and the rest.
-opened : (noted all : TypeNoted Name) (k : ℕ) (b : Tree Name block) → typed_scope all ≡ procedures_scope k b (typed_scope noted) → Split k (first_procedure k b) (typed_scope noted) all
+opened : (noted all : TypeNoted Name) (k : ℕ) (b : Tree Name block) → typed_scope all ≡ procedures_scope k b (typed_scope noted) → Split k (first_procedure_ordinal k b) (typed_scope noted) all
 opened noted all k (has_body (declares cs ts vs ps) statements) e =
     let b : Tree Name block = has_body (declares cs ts vs ps) statements in
     let scope : Scope Name = typed_scope noted in
-    let v = split (first_variable k b) (variable_names (section_variables vs)) (variables_scope k b scope) all e in
-    let t = split (first_type k b) (named_types (section_types ts)) (types_scope k b scope) v.rest v.scoped in
+    let v = split (first_variable_ordinal k b) (variable_names (section_variables vs)) (variables_scope k b scope) all e in
+    let t = split (first_type_ordinal k b) (declared_type_names (section_types ts)) (types_scope k b scope) v.rest v.scoped in
     let c = split k (constant_names (section_constants cs)) scope t.rest t.scoped in
-    split-then k (first_variable k b) (first_procedure k b) scope (variables_scope k b scope) all v
-    (split-then k (first_type k b) (first_variable k b) scope (types_scope k b scope) v.rest t c)
+    split-then k (first_variable_ordinal k b) (first_procedure_ordinal k b) scope (variables_scope k b scope) all v
+    (split-then k (first_type_ordinal k b) (first_variable_ordinal k b) scope (types_scope k b scope) v.rest t c)
 
 -- If the bindings by names give a value, the bindings by labels give the same value.
 given-both : {X Y Z : Type 0} (p : X → Y) (q : X → Z) (P : X → Type 0) (r : Option Y) (s : Option Z) → Agree p q P r s → (y : Y) → r ≡ Some y → (x : X) × P x × (p x ≡ y) × (s ≡ Some (q x))
@@ -139,33 +139,33 @@ given-both {X} {Y} {Z} p q P r s (a, e, e', holds) y h = go a e' holds (sym e �
 
 module _ {N : Type 0} (naming : Naming N) (env : TypeEnvironment N) where
   block-listed : (j : ℕ) (cs : _) (ts : _) (vs : _) (ps : Tree N (items procedure)) (statements : Tree N (maybe body)) (inner : TypeEnvironment N) → declare_block naming env j (has_body (declares cs ts vs ps) statements) ≡ Some inner
-      → block_bindings naming env j (has_body (declares cs ts vs ps) statements) ≡ procedures_bindings naming inner (after_variables j (has_body (declares cs ts vs ps) statements)) ps ++ since env inner
+      → block_bindings naming env j (has_body (declares cs ts vs ps) statements) ≡ procedures_bindings naming inner (constructor_after_variables j (has_body (declares cs ts vs ps) statements)) ps ++ bindings_since env inner
   unfolding block_bindings
-  block-listed j cs ts vs ps statements inner e = ap (λ o. for_some o (λ z. procedures_bindings naming z (after_variables j (has_body (declares cs ts vs ps) statements)) ps ++ since env z)) e
+  block-listed j cs ts vs ps statements inner e = ap (λ o. list_if_some o (λ z. procedures_bindings naming z (constructor_after_variables j (has_body (declares cs ts vs ps) statements)) ps ++ bindings_since env z)) e
 
   pub procedure-listed : (j : ℕ) (x : N) (fs : Tree N (maybe formals)) (b : Tree N block) (closing : N) (listed : List (TypedParameter N)) → typed_parameters naming env j (formal_sections fs) ≡ Some listed
-      → procedure_bindings naming env j (declares_procedure x fs b closing) ≡ block_bindings naming (bind_typed listed (heading x listed env)) (j + formals_constructors (formal_sections fs)) b ++ bind_typed listed (heading x listed [])
+      → procedure_bindings naming env j (declares_procedure x fs b closing) ≡ block_bindings naming (bind_typed_parameters listed (bind_procedure x listed env)) (j + formals_constructor_count (formal_sections fs)) b ++ bind_typed_parameters listed (bind_procedure x listed [])
   unfolding procedure_bindings
-  procedure-listed j x fs b closing listed e = ap (λ o. for_some o (λ ps. block_bindings naming (bind_typed ps (heading x ps env)) (j + formals_constructors (formal_sections fs)) b ++ bind_typed ps (heading x ps []))) e
+  procedure-listed j x fs b closing listed e = ap (λ o. list_if_some o (λ ps. block_bindings naming (bind_typed_parameters ps (bind_procedure x ps env)) (j + formals_constructor_count (formal_sections fs)) b ++ bind_typed_parameters ps (bind_procedure x ps []))) e
 
   pub procedures-listed : (j : ℕ) (x : N) (fs : Tree N (maybe formals)) (b : Tree N block) (closing : N) (rest : Tree N (items procedure)) (listed : List (TypedParameter N)) → typed_parameters naming env j (formal_sections fs) ≡ Some listed
-      → block_fits naming (bind_typed listed (heading x listed env)) (j + formals_constructors (formal_sections fs)) b ≡ true
+      → block_fits naming (bind_typed_parameters listed (bind_procedure x listed env)) (j + formals_constructor_count (formal_sections fs)) b ≡ true
       → procedures_bindings naming env j (more (declares_procedure x fs b closing) rest)
-      ≡ procedures_bindings naming (heading x listed env) (j + procedure_constructors (declares_procedure x fs b closing)) rest ++ procedure_bindings naming env j (declares_procedure x fs b closing)
+      ≡ procedures_bindings naming (bind_procedure x listed env) (j + procedure_constructor_count (declares_procedure x fs b closing)) rest ++ procedure_bindings naming env j (declares_procedure x fs b closing)
   unfolding block_bindings declare_procedure block_fits
   procedures-listed j x fs b closing rest listed typed right =
       let p : Tree N (item procedure) = declares_procedure x fs b closing in
-      let given : declare_procedure naming env j p ≡ Some (heading x listed env) =
-      ap (option_and_then (λ ps. if procedure_fits naming (bind_typed ps (heading x ps env)) j p then Some (heading x ps env) else None)) typed
-      ∙ ap (λ t. if t then Some (heading x listed env) else None) right in
-      ap (λ o. for_some o (λ later. procedures_bindings naming later (j + procedure_constructors p) rest ++ procedure_bindings naming env j p)) given
+      let given : declare_procedure naming env j p ≡ Some (bind_procedure x listed env) =
+      ap (option_and_then (λ ps. if procedure_fits naming (bind_typed_parameters ps (bind_procedure x ps env)) j p then Some (bind_procedure x ps env) else None)) typed
+      ∙ ap (λ t. if t then Some (bind_procedure x listed env) else None) right in
+      ap (λ o. list_if_some o (λ later. procedures_bindings naming later (j + procedure_constructor_count p) rest ++ procedure_bindings naming env j p)) given
 
-none-listed : (noted : TypeNoted Name) (j k : ℕ) → Ordered k k (procedures_bindings as_names (typed_by_name noted) j end) (procedures_bindings as_labels (typed_by_ordinal noted) j end)
+none-listed : (noted : TypeNoted Name) (j k : ℕ) → Ordered k k (procedures_bindings naming_by_spelling (typed_by_name noted) j end) (procedures_bindings naming_by_label (typed_by_ordinal noted) j end)
 unfolding block_bindings
 none-listed noted j k = record { noted = []; by_name = refl; by_label = refl; in_order = refl }
 
 -- Binding the parameters of a procedure keeps the ordinals in order.
-parameters-ordered : (k i : ℕ) (ps : List (TypedParameter Name)) (noted : TypeNoted Name) → InOrder k i noted → InOrder k (after_names i (typed_names ps)) (noted_parameters i ps noted)
+parameters-ordered : (k i : ℕ) (ps : List (TypedParameter Name)) (noted : TypeNoted Name) → InOrder k i noted → InOrder k (ordinal_after_names i (typed_names ps)) (noted_parameters i ps noted)
 parameters-ordered k i [] noted h = h
 parameters-ordered k i (p ∷ ps) noted h = parameters-ordered k (suc i) ps (record { name = p.name; ordinal = i; object = a_variable p.formal.shape } ∷ noted) (refl, h)
 
@@ -173,75 +173,75 @@ parameters-ordered k i (p ∷ ps) noted h = parameters-ordered k (suc i) ps (rec
 abbrev named_procedure : ℕ → Name → List (TypedParameter Name) → TypeNoted Name → TypeNoted Name
 named_procedure k x ps noted = record { name = x; ordinal = k; object = a_procedure (map (λ p. p.formal) ps) } ∷ noted
 
-heading-labels : (k : ℕ) (x : Name) (ps : List (TypedParameter Name)) (noted : TypeNoted Name) → heading (declared k) (label_typed (suc k) ps) (typed_by_ordinal noted) ≡ typed_by_ordinal (named_procedure k x ps noted)
-heading-labels k x ps noted = ap (λ signature. (declared k, a_procedure signature) ∷ typed_by_ordinal noted) (label_typed-formals (suc k) ps)
+bind_procedure-labels : (k : ℕ) (x : Name) (ps : List (TypedParameter Name)) (noted : TypeNoted Name) → bind_procedure (declared k) (label_typed (suc k) ps) (typed_by_ordinal noted) ≡ typed_by_ordinal (named_procedure k x ps noted)
+bind_procedure-labels k x ps noted = ap (λ signature. (declared k, a_procedure signature) ∷ typed_by_ordinal noted) (label_typed-formals (suc k) ps)
 
 inside-labels : (k : ℕ) (x : Name) (ps : List (TypedParameter Name)) (noted : TypeNoted Name)
-    → bind_typed (label_typed (suc k) ps) (heading (declared k) (label_typed (suc k) ps) (typed_by_ordinal noted)) ≡ typed_by_ordinal (noted_parameters (suc k) ps (named_procedure k x ps noted))
-inside-labels k x ps noted = ap (bind_typed (label_typed (suc k) ps)) (heading-labels k x ps noted) ∙ bind_typed-by_ordinal (suc k) ps (named_procedure k x ps noted)
+    → bind_typed_parameters (label_typed (suc k) ps) (bind_procedure (declared k) (label_typed (suc k) ps) (typed_by_ordinal noted)) ≡ typed_by_ordinal (noted_parameters (suc k) ps (named_procedure k x ps noted))
+inside-labels k x ps noted = ap (bind_typed_parameters (label_typed (suc k) ps)) (bind_procedure-labels k x ps noted) ∙ bind_typed_parameters-by_ordinal (suc k) ps (named_procedure k x ps noted)
 
-heading-ordered : (k : ℕ) (x : Name) (ps : List (TypedParameter Name)) → Ordered k (after_names (suc k) (typed_names ps)) (bind_typed ps (heading x ps [])) (bind_typed (label_typed (suc k) ps) (heading (declared k) (label_typed (suc k) ps) []))
-heading-ordered k x ps = record {
+bind_procedure-ordered : (k : ℕ) (x : Name) (ps : List (TypedParameter Name)) → Ordered k (ordinal_after_names (suc k) (typed_names ps)) (bind_typed_parameters ps (bind_procedure x ps [])) (bind_typed_parameters (label_typed (suc k) ps) (bind_procedure (declared k) (label_typed (suc k) ps) []))
+bind_procedure-ordered k x ps = record {
   noted = noted_parameters (suc k) ps (named_procedure k x ps []);
-  by_name = bind_typed-by_name (suc k) ps (named_procedure k x ps []);
+  by_name = bind_typed_parameters-by_name (suc k) ps (named_procedure k x ps []);
   by_label = inside-labels k x ps [];
   in_order = parameters-ordered k (suc k) ps (named_procedure k x ps []) (refl, refl);
 }
 
 -- A block and its numbered tree give the same ordinals to their words ARRAY and RECORD.
-variables-same : (noted : TypeNoted Name) (j k : ℕ) (b : Tree Name block) → after_variables j (relabel_block as_names (as_label as_names) (typed_scope noted) k b) ≡ after_variables j b
+variables-same : (noted : TypeNoted Name) (j k : ℕ) (b : Tree Name block) → constructor_after_variables j (relabel_block naming_by_spelling (label_from_ordinal naming_by_spelling) (typed_scope noted) k b) ≡ constructor_after_variables j b
 variables-same noted j k (has_body (declares cs ts vs ps) statements) =
     let b : Tree Name block = has_body (declares cs ts vs ps) statements in
     let scope : Scope Name = typed_scope noted in
-    λ i. j + (ap types_constructors (types-section as_names (as_label as_names) (types_scope k b scope) (first_type k b) ts) ∙ types_constructors-relabel as_names (as_label as_names) (types_scope k b scope) (first_type k b) (section_types ts)) i
-    + (ap variables_constructors (variables-section as_names (as_label as_names) (variables_scope k b scope) (first_variable k b) vs) ∙ variables_constructors-relabel as_names (as_label as_names) (variables_scope k b scope) (first_variable k b) (section_variables vs)) i
+    λ i. j + (ap types_constructor_count (types-section naming_by_spelling (label_from_ordinal naming_by_spelling) (types_scope k b scope) (first_type_ordinal k b) ts) ∙ types_constructor_count-relabel naming_by_spelling (label_from_ordinal naming_by_spelling) (types_scope k b scope) (first_type_ordinal k b) (section_types ts)) i
+    + (ap variables_constructor_count (variables-section naming_by_spelling (label_from_ordinal naming_by_spelling) (variables_scope k b scope) (first_variable_ordinal k b) vs) ∙ variables_constructor_count-relabel naming_by_spelling (label_from_ordinal naming_by_spelling) (variables_scope k b scope) (first_variable_ordinal k b) (section_variables vs)) i
 
 -- the parts of a procedure that fits, and the facts about each
 record Procedure (noted : TypeNoted Name) (j : ℕ) (statements : Tree Name (maybe body)) (x : Name) (fs : Tree Name (maybe formals)) (b : Tree Name block) (closing : Name) (rest : Tree Name (items procedure)) : Type 0 where
   listed : List (TypedParameter Name)
-  typed : typed_parameters as_names (typed_by_name noted) j (formal_sections fs) ≡ Some listed
-  right : block_fits as_names (bind_typed listed (heading x listed (typed_by_name noted))) (j + formals_constructors (formal_sections fs)) b ≡ true
-  others : procedures_fit as_names (heading x listed (typed_by_name noted)) (j + procedure_constructors (declares_procedure x fs b closing)) statements rest ≡ true
+  typed : typed_parameters naming_by_spelling (typed_by_name noted) j (formal_sections fs) ≡ Some listed
+  right : block_fits naming_by_spelling (bind_typed_parameters listed (bind_procedure x listed (typed_by_name noted))) (j + formals_constructor_count (formal_sections fs)) b ≡ true
+  others : procedures_fit naming_by_spelling (bind_procedure x listed (typed_by_name noted)) (j + procedure_constructor_count (declares_procedure x fs b closing)) statements rest ≡ true
 
 procedure-parts : (noted : TypeNoted Name) (j : ℕ) (statements : Tree Name (maybe body)) (x : Name) (fs : Tree Name (maybe formals)) (b : Tree Name block) (closing : Name) (rest : Tree Name (items procedure))
-    → procedures_fit as_names (typed_by_name noted) j statements (more (declares_procedure x fs b closing) rest) ≡ true → Procedure noted j statements x fs b closing rest
+    → procedures_fit naming_by_spelling (typed_by_name noted) j statements (more (declares_procedure x fs b closing) rest) ≡ true → Procedure noted j statements x fs b closing rest
 unfolding block_fits
 procedure-parts noted j statements x fs b closing rest h =
     let env : TypeEnvironment Name = typed_by_name noted in
     let p : Tree Name (item procedure) = declares_procedure x fs b closing in
-    let all = hold-true (typed_parameters as_names env j (formal_sections fs)) (λ ps. procedure_fits as_names (bind_typed ps (heading x ps env)) j p && procedures_fit as_names (heading x ps env) (j + procedure_constructors p) statements rest) h in
-    let both = and_parts (procedure_fits as_names (bind_typed all.0 (heading x all.0 env)) j p) (procedures_fit as_names (heading x all.0 env) (j + procedure_constructors p) statements rest) all.2 in
+    let all = hold-true (typed_parameters naming_by_spelling env j (formal_sections fs)) (λ ps. procedure_fits naming_by_spelling (bind_typed_parameters ps (bind_procedure x ps env)) j p && procedures_fit naming_by_spelling (bind_procedure x ps env) (j + procedure_constructor_count p) statements rest) h in
+    let both = and_parts (procedure_fits naming_by_spelling (bind_typed_parameters all.0 (bind_procedure x all.0 env)) j p) (procedures_fit naming_by_spelling (bind_procedure x all.0 env) (j + procedure_constructor_count p) statements rest) all.2 in
     record { listed = all.0; typed = all.1; right = both.0; others = both.1 }
 
-block-rest : (noted : TypeNoted Name) (j : ℕ) (cs : _) (ts : _) (vs : _) (ps : Tree Name (items procedure)) (statements : Tree Name (maybe body)) → block_fits as_names (typed_by_name noted) j (has_body (declares cs ts vs ps) statements) ≡ true
-    → (inner : TypeEnvironment Name) × (declare_block as_names (typed_by_name noted) j (has_body (declares cs ts vs ps) statements) ≡ Some inner) × (procedures_fit as_names inner (after_variables j (has_body (declares cs ts vs ps) statements)) statements ps ≡ true)
+block-rest : (noted : TypeNoted Name) (j : ℕ) (cs : _) (ts : _) (vs : _) (ps : Tree Name (items procedure)) (statements : Tree Name (maybe body)) → block_fits naming_by_spelling (typed_by_name noted) j (has_body (declares cs ts vs ps) statements) ≡ true
+    → (inner : TypeEnvironment Name) × (declare_block naming_by_spelling (typed_by_name noted) j (has_body (declares cs ts vs ps) statements) ≡ Some inner) × (procedures_fit naming_by_spelling inner (constructor_after_variables j (has_body (declares cs ts vs ps) statements)) statements ps ≡ true)
 unfolding block_fits
 block-rest noted j cs ts vs ps statements h =
-    hold-true (declare_block as_names (typed_by_name noted) j (has_body (declares cs ts vs ps) statements)) (λ inner. procedures_fit as_names inner (after_variables j (has_body (declares cs ts vs ps) statements)) statements ps) h
+    hold-true (declare_block naming_by_spelling (typed_by_name noted) j (has_body (declares cs ts vs ps) statements)) (λ inner. procedures_fit naming_by_spelling inner (constructor_after_variables j (has_body (declares cs ts vs ps) statements)) statements ps) h
 
 mutual
-  pub block-ordered : (noted : TypeNoted Name) (j k : ℕ) → TypedBelow k noted → (b : Tree Name block) → block_fits as_names (typed_by_name noted) j b ≡ true
-      → Ordered k (after_block k b) (block_bindings as_names (typed_by_name noted) j b) (block_bindings as_labels (typed_by_ordinal noted) j (relabel_block as_names (as_label as_names) (typed_scope noted) k b))
+  pub block-ordered : (noted : TypeNoted Name) (j k : ℕ) → TypedBelow k noted → (b : Tree Name block) → block_fits naming_by_spelling (typed_by_name noted) j b ≡ true
+      → Ordered k (ordinal_after_block k b) (block_bindings naming_by_spelling (typed_by_name noted) j b) (block_bindings naming_by_label (typed_by_ordinal noted) j (relabel_block naming_by_spelling (label_from_ordinal naming_by_spelling) (typed_scope noted) k b))
   block-ordered noted j k below (has_body (declares cs ts vs ps) statements) h =
       let b : Tree Name block = has_body (declares cs ts vs ps) statements in
       let scope : Scope Name = typed_scope noted in
-      let b' : Tree Label block = relabel_block as_names (as_label as_names) scope k b in
-      let kp : ℕ = first_procedure k b in
+      let b' : Tree Label block = relabel_block naming_by_spelling (label_from_ordinal naming_by_spelling) scope k b in
+      let kp : ℕ = first_procedure_ordinal k b in
       let parts = block-rest noted j cs ts vs ps statements h in
-      let o = given-both typed_by_name typed_by_ordinal (TypedWithin kp (procedures_scope k b scope)) (declare_block as_names (typed_by_name noted) j b) (declare_block as_labels (typed_by_ordinal noted) j b') (declarations_typed as_names j k noted below b) parts.0 parts.1 in
+      let o = given-both typed_by_name typed_by_ordinal (TypedWithin kp (procedures_scope k b scope)) (declare_block naming_by_spelling (typed_by_name noted) j b) (declare_block naming_by_label (typed_by_ordinal noted) j b') (declarations_typed naming_by_spelling j k noted below b) parts.0 parts.1 in
       let all : TypeNoted Name = o.0 in
-      let p = procedures-ordered all (after_variables j b) kp o.1.1 statements ps ((λ i. procedures_fit as_names (o.2 i) (after_variables j b) statements ps) ∙ parts.2) in
-      let own = since-ordered k kp noted all (opened noted all k b o.1.0) in
-      let names : block_bindings as_names (typed_by_name noted) j b ≡ procedures_bindings as_names (typed_by_name all) (after_variables j b) ps ++ since (typed_by_name noted) (typed_by_name all) =
-      block-listed as_names (typed_by_name noted) j cs ts vs ps statements (typed_by_name all) (parts.1 ∙ ap Some (sym o.2)) in
-      let labels : block_bindings as_labels (typed_by_ordinal noted) j b' ≡ procedures_bindings as_labels (typed_by_ordinal all) (after_variables j b) (relabel_procedures as_names (as_label as_names) (typed_scope all) kp ps) ++ since (typed_by_ordinal noted) (typed_by_ordinal all) =
-      block-listed as_labels (typed_by_ordinal noted) j _ _ _ (relabel_procedures as_names (as_label as_names) (procedures_scope k b scope) kp ps) _ (typed_by_ordinal all) o.3
-      ∙ (λ i. procedures_bindings as_labels (typed_by_ordinal all) (variables-same noted j k b i) (relabel_procedures as_names (as_label as_names) (sym o.1.0 i) kp ps) ++ since (typed_by_ordinal noted) (typed_by_ordinal all)) in
-      subst₂ (Ordered k (after_block k b)) (sym names) (sym labels)
-      (ordered-append k kp (after_block k b) (procedures_bindings as_names (typed_by_name all) (after_variables j b) ps) (since (typed_by_name noted) (typed_by_name all)) (procedures_bindings as_labels (typed_by_ordinal all) (after_variables j b) (relabel_procedures as_names (as_label as_names) (typed_scope all) kp ps)) (since (typed_by_ordinal noted) (typed_by_ordinal all)) p own)
+      let p = procedures-ordered all (constructor_after_variables j b) kp o.1.1 statements ps ((λ i. procedures_fit naming_by_spelling (o.2 i) (constructor_after_variables j b) statements ps) ∙ parts.2) in
+      let own = bindings_since-ordered k kp noted all (opened noted all k b o.1.0) in
+      let names : block_bindings naming_by_spelling (typed_by_name noted) j b ≡ procedures_bindings naming_by_spelling (typed_by_name all) (constructor_after_variables j b) ps ++ bindings_since (typed_by_name noted) (typed_by_name all) =
+      block-listed naming_by_spelling (typed_by_name noted) j cs ts vs ps statements (typed_by_name all) (parts.1 ∙ ap Some (sym o.2)) in
+      let labels : block_bindings naming_by_label (typed_by_ordinal noted) j b' ≡ procedures_bindings naming_by_label (typed_by_ordinal all) (constructor_after_variables j b) (relabel_procedures naming_by_spelling (label_from_ordinal naming_by_spelling) (typed_scope all) kp ps) ++ bindings_since (typed_by_ordinal noted) (typed_by_ordinal all) =
+      block-listed naming_by_label (typed_by_ordinal noted) j _ _ _ (relabel_procedures naming_by_spelling (label_from_ordinal naming_by_spelling) (procedures_scope k b scope) kp ps) _ (typed_by_ordinal all) o.3
+      ∙ (λ i. procedures_bindings naming_by_label (typed_by_ordinal all) (variables-same noted j k b i) (relabel_procedures naming_by_spelling (label_from_ordinal naming_by_spelling) (sym o.1.0 i) kp ps) ++ bindings_since (typed_by_ordinal noted) (typed_by_ordinal all)) in
+      subst₂ (Ordered k (ordinal_after_block k b)) (sym names) (sym labels)
+      (ordered-append k kp (ordinal_after_block k b) (procedures_bindings naming_by_spelling (typed_by_name all) (constructor_after_variables j b) ps) (bindings_since (typed_by_name noted) (typed_by_name all)) (procedures_bindings naming_by_label (typed_by_ordinal all) (constructor_after_variables j b) (relabel_procedures naming_by_spelling (label_from_ordinal naming_by_spelling) (typed_scope all) kp ps)) (bindings_since (typed_by_ordinal noted) (typed_by_ordinal all)) p own)
 
-  pub procedures-ordered : (noted : TypeNoted Name) (j k : ℕ) → TypedBelow k noted → (statements : Tree Name (maybe body)) (ps : Tree Name (items procedure)) → procedures_fit as_names (typed_by_name noted) j statements ps ≡ true
-      → Ordered k (after_procedures k ps) (procedures_bindings as_names (typed_by_name noted) j ps) (procedures_bindings as_labels (typed_by_ordinal noted) j (relabel_procedures as_names (as_label as_names) (typed_scope noted) k ps))
+  pub procedures-ordered : (noted : TypeNoted Name) (j k : ℕ) → TypedBelow k noted → (statements : Tree Name (maybe body)) (ps : Tree Name (items procedure)) → procedures_fit naming_by_spelling (typed_by_name noted) j statements ps ≡ true
+      → Ordered k (ordinal_after_procedures k ps) (procedures_bindings naming_by_spelling (typed_by_name noted) j ps) (procedures_bindings naming_by_label (typed_by_ordinal noted) j (relabel_procedures naming_by_spelling (label_from_ordinal naming_by_spelling) (typed_scope noted) k ps))
   procedures-ordered noted j k below statements end h = none-listed noted j k
   procedures-ordered noted j k below statements (more (declares_procedure x fs b closing) rest) h =
       let p : Tree Name (item procedure) = declares_procedure x fs b closing in
@@ -251,57 +251,57 @@ mutual
       let f = procedure-parts noted j statements x fs b closing rest h in
       let listed : List (TypedParameter Name) = f.listed in
       let xs : List Name = formal_names (formal_sections fs) in
-      let m : ℕ = after_names (suc k) xs in
-      let q : ℕ = after_procedure (suc k) p in
+      let m : ℕ = ordinal_after_names (suc k) xs in
+      let q : ℕ = ordinal_after_procedure (suc k) p in
       let own : TypeNoted Name = named_procedure k x listed noted in
       let inner : TypeNoted Name = noted_parameters (suc k) listed own in
-      let jb : ℕ = j + formals_constructors (formal_sections fs) in
-      let jr : ℕ = j + procedure_constructors p in
-      let g = given-both (λ ps. ps) (label_typed (suc k)) (λ ps. typed_names ps ≡ xs) (typed_parameters as_names env j (formal_sections fs)) (typed_parameters as_labels labels j (relabel_sections as_names (as_label as_names) scope (suc k) (formal_sections fs)))
-      (parameters_typed as_names j (suc k) noted (TypedBelow-weaken k (suc k) noted (le_of_lt (le_refl (suc k))) below) (formal_sections fs)) listed f.typed in
+      let jb : ℕ = j + formals_constructor_count (formal_sections fs) in
+      let jr : ℕ = j + procedure_constructor_count p in
+      let g = given-both (λ ps. ps) (label_typed (suc k)) (λ ps. typed_names ps ≡ xs) (typed_parameters naming_by_spelling env j (formal_sections fs)) (typed_parameters naming_by_label labels j (relabel_sections naming_by_spelling (label_from_ordinal naming_by_spelling) scope (suc k) (formal_sections fs)))
+      (parameters_typed naming_by_spelling j (suc k) noted (TypedBelow-weaken k (suc k) noted (le_of_lt (le_refl (suc k))) below) (formal_sections fs)) listed f.typed in
       let names_are : typed_names listed ≡ xs = ap typed_names (sym g.2) ∙ g.1 in
-      let fs' : Tree Label (maybe formals) = relabel_formals as_names (as_label as_names) scope (suc k) fs in
-      let b' : Tree Label block = relabel_block as_names (as_label as_names) (declare_names (suc k) xs ((x, k) ∷ scope)) m b in
-      let rest' : Tree Label (items procedure) = relabel_procedures as_names (as_label as_names) ((x, k) ∷ scope) q rest in
-      let sections : formal_sections fs' ≡ relabel_sections as_names (as_label as_names) scope (suc k) (formal_sections fs) = formals-section as_names (as_label as_names) scope (suc k) fs in
-      let typed' : typed_parameters as_labels labels j (formal_sections fs') ≡ Some (label_typed (suc k) listed) = ap (typed_parameters as_labels labels j) sections ∙ (g.3 ∙ ap (λ ps. Some (label_typed (suc k) ps)) g.2) in
-      let jb_same : j + formals_constructors (formal_sections fs') ≡ jb = ap (λ n. j + n) (ap formals_constructors sections ∙ formals_constructors-relabel as_names (as_label as_names) scope (suc k) (formal_sections fs)) in
-      let jr_same : j + procedure_constructors (declares_procedure (declared k) fs' b' (declared k)) ≡ jr = ap (λ n. j + n) (procedure_constructors-relabel as_names (as_label as_names) scope k p) in
-      let within : TypedWithin (after_names (suc k) (typed_names listed)) (declare_names (suc k) (typed_names listed) ((x, k) ∷ scope)) inner = noted_parameters-within (suc k) listed own (le_refl (suc k), below) in
+      let fs' : Tree Label (maybe formals) = relabel_formals naming_by_spelling (label_from_ordinal naming_by_spelling) scope (suc k) fs in
+      let b' : Tree Label block = relabel_block naming_by_spelling (label_from_ordinal naming_by_spelling) (declare_names (suc k) xs ((x, k) ∷ scope)) m b in
+      let rest' : Tree Label (items procedure) = relabel_procedures naming_by_spelling (label_from_ordinal naming_by_spelling) ((x, k) ∷ scope) q rest in
+      let sections : formal_sections fs' ≡ relabel_sections naming_by_spelling (label_from_ordinal naming_by_spelling) scope (suc k) (formal_sections fs) = formals-section naming_by_spelling (label_from_ordinal naming_by_spelling) scope (suc k) fs in
+      let typed' : typed_parameters naming_by_label labels j (formal_sections fs') ≡ Some (label_typed (suc k) listed) = ap (typed_parameters naming_by_label labels j) sections ∙ (g.3 ∙ ap (λ ps. Some (label_typed (suc k) ps)) g.2) in
+      let jb_same : j + formals_constructor_count (formal_sections fs') ≡ jb = ap (λ n. j + n) (ap formals_constructor_count sections ∙ formals_constructor_count-relabel naming_by_spelling (label_from_ordinal naming_by_spelling) scope (suc k) (formal_sections fs)) in
+      let jr_same : j + procedure_constructor_count (declares_procedure (declared k) fs' b' (declared k)) ≡ jr = ap (λ n. j + n) (procedure_constructor_count-relabel naming_by_spelling (label_from_ordinal naming_by_spelling) scope k p) in
+      let within : TypedWithin (ordinal_after_names (suc k) (typed_names listed)) (declare_names (suc k) (typed_names listed) ((x, k) ∷ scope)) inner = noted_parameters-within (suc k) listed own (le_refl (suc k), below) in
       let inner_scope : typed_scope inner ≡ declare_names (suc k) xs ((x, k) ∷ scope) = within.0 ∙ ap (λ ys. declare_names (suc k) ys ((x, k) ∷ scope)) names_are in
-      let inner_below : TypedBelow m inner = subst (λ ys. TypedBelow (after_names (suc k) ys) inner) names_are within.1 in
-      let right : block_fits as_names (typed_by_name inner) jb b ≡ true = ap (λ e. block_fits as_names e jb b) (sym (bind_typed-by_name (suc k) listed own)) ∙ f.right in
-      let right' : block_fits as_labels (bind_typed (label_typed (suc k) listed) (heading (declared k) (label_typed (suc k) listed) labels)) (j + formals_constructors (formal_sections fs')) b' ≡ true =
-      (λ i. block_fits as_labels (inside-labels k x listed noted i) (jb_same i) (relabel_block as_names (as_label as_names) (sym inner_scope i) m b)) ∙ (block_fits-agrees as_names jb m inner inner_below b ∙ right) in
+      let inner_below : TypedBelow m inner = subst (λ ys. TypedBelow (ordinal_after_names (suc k) ys) inner) names_are within.1 in
+      let right : block_fits naming_by_spelling (typed_by_name inner) jb b ≡ true = ap (λ e. block_fits naming_by_spelling e jb b) (sym (bind_typed_parameters-by_name (suc k) listed own)) ∙ f.right in
+      let right' : block_fits naming_by_label (bind_typed_parameters (label_typed (suc k) listed) (bind_procedure (declared k) (label_typed (suc k) listed) labels)) (j + formals_constructor_count (formal_sections fs')) b' ≡ true =
+      (λ i. block_fits naming_by_label (inside-labels k x listed noted i) (jb_same i) (relabel_block naming_by_spelling (label_from_ordinal naming_by_spelling) (sym inner_scope i) m b)) ∙ (block_fits-agrees naming_by_spelling jb m inner inner_below b ∙ right) in
       let block_part = block-ordered inner jb m inner_below b right in
-      let heading_part : Ordered k m (bind_typed listed (heading x listed [])) (bind_typed (label_typed (suc k) listed) (heading (declared k) (label_typed (suc k) listed) [])) =
-      subst (λ ys. Ordered k (after_names (suc k) ys) (bind_typed listed (heading x listed [])) (bind_typed (label_typed (suc k) listed) (heading (declared k) (label_typed (suc k) listed) []))) names_are (heading-ordered k x listed) in
-      let later = procedures-ordered own jr q (le-after_procedure (suc k) p, below) statements rest f.others in
-      let names : procedures_bindings as_names env j (more p rest) ≡ procedures_bindings as_names (typed_by_name own) jr rest ++ (block_bindings as_names (typed_by_name inner) jb b ++ bind_typed listed (heading x listed [])) =
-      procedures-listed as_names env j x fs b closing rest listed f.typed f.right
-      ∙ ap (λ z. procedures_bindings as_names (typed_by_name own) jr rest ++ z) (procedure-listed as_names env j x fs b closing listed f.typed ∙ (λ i. block_bindings as_names (bind_typed-by_name (suc k) listed own i) jb b ++ bind_typed listed (heading x listed []))) in
-      let by_label : procedures_bindings as_labels labels j (more (declares_procedure (declared k) fs' b' (declared k)) rest')
-      ≡ procedures_bindings as_labels (typed_by_ordinal own) jr (relabel_procedures as_names (as_label as_names) (typed_scope own) q rest)
-      ++ (block_bindings as_labels (typed_by_ordinal inner) jb (relabel_block as_names (as_label as_names) (typed_scope inner) m b) ++ bind_typed (label_typed (suc k) listed) (heading (declared k) (label_typed (suc k) listed) [])) =
-      procedures-listed as_labels labels j (declared k) fs' b' (declared k) rest' (label_typed (suc k) listed) typed' right'
-      ∙ (ap (λ z. procedures_bindings as_labels (heading (declared k) (label_typed (suc k) listed) labels) (j + procedure_constructors (declares_procedure (declared k) fs' b' (declared k))) rest' ++ z) (procedure-listed as_labels labels j (declared k) fs' b' (declared k) (label_typed (suc k) listed) typed')
-      ∙ (λ i. procedures_bindings as_labels (heading-labels k x listed noted i) (jr_same i) rest'
-      ++ (block_bindings as_labels (inside-labels k x listed noted i) (jb_same i) (relabel_block as_names (as_label as_names) (sym inner_scope i) m b) ++ bind_typed (label_typed (suc k) listed) (heading (declared k) (label_typed (suc k) listed) [])))) in
-      subst₂ (Ordered k (after_procedures q rest)) (sym names) (sym by_label)
-      (ordered-append k q (after_procedures q rest) (procedures_bindings as_names (typed_by_name own) jr rest) (block_bindings as_names (typed_by_name inner) jb b ++ bind_typed listed (heading x listed []))
-      (procedures_bindings as_labels (typed_by_ordinal own) jr (relabel_procedures as_names (as_label as_names) (typed_scope own) q rest)) (block_bindings as_labels (typed_by_ordinal inner) jb (relabel_block as_names (as_label as_names) (typed_scope inner) m b) ++ bind_typed (label_typed (suc k) listed) (heading (declared k) (label_typed (suc k) listed) [])) later
-      (ordered-append k m q (block_bindings as_names (typed_by_name inner) jb b) (bind_typed listed (heading x listed [])) (block_bindings as_labels (typed_by_ordinal inner) jb (relabel_block as_names (as_label as_names) (typed_scope inner) m b))
-      (bind_typed (label_typed (suc k) listed) (heading (declared k) (label_typed (suc k) listed) [])) block_part heading_part))
+      let heading_part : Ordered k m (bind_typed_parameters listed (bind_procedure x listed [])) (bind_typed_parameters (label_typed (suc k) listed) (bind_procedure (declared k) (label_typed (suc k) listed) [])) =
+      subst (λ ys. Ordered k (ordinal_after_names (suc k) ys) (bind_typed_parameters listed (bind_procedure x listed [])) (bind_typed_parameters (label_typed (suc k) listed) (bind_procedure (declared k) (label_typed (suc k) listed) []))) names_are (bind_procedure-ordered k x listed) in
+      let later = procedures-ordered own jr q (le-ordinal_after_procedure (suc k) p, below) statements rest f.others in
+      let names : procedures_bindings naming_by_spelling env j (more p rest) ≡ procedures_bindings naming_by_spelling (typed_by_name own) jr rest ++ (block_bindings naming_by_spelling (typed_by_name inner) jb b ++ bind_typed_parameters listed (bind_procedure x listed [])) =
+      procedures-listed naming_by_spelling env j x fs b closing rest listed f.typed f.right
+      ∙ ap (λ z. procedures_bindings naming_by_spelling (typed_by_name own) jr rest ++ z) (procedure-listed naming_by_spelling env j x fs b closing listed f.typed ∙ (λ i. block_bindings naming_by_spelling (bind_typed_parameters-by_name (suc k) listed own i) jb b ++ bind_typed_parameters listed (bind_procedure x listed []))) in
+      let by_label : procedures_bindings naming_by_label labels j (more (declares_procedure (declared k) fs' b' (declared k)) rest')
+      ≡ procedures_bindings naming_by_label (typed_by_ordinal own) jr (relabel_procedures naming_by_spelling (label_from_ordinal naming_by_spelling) (typed_scope own) q rest)
+      ++ (block_bindings naming_by_label (typed_by_ordinal inner) jb (relabel_block naming_by_spelling (label_from_ordinal naming_by_spelling) (typed_scope inner) m b) ++ bind_typed_parameters (label_typed (suc k) listed) (bind_procedure (declared k) (label_typed (suc k) listed) [])) =
+      procedures-listed naming_by_label labels j (declared k) fs' b' (declared k) rest' (label_typed (suc k) listed) typed' right'
+      ∙ (ap (λ z. procedures_bindings naming_by_label (bind_procedure (declared k) (label_typed (suc k) listed) labels) (j + procedure_constructor_count (declares_procedure (declared k) fs' b' (declared k))) rest' ++ z) (procedure-listed naming_by_label labels j (declared k) fs' b' (declared k) (label_typed (suc k) listed) typed')
+      ∙ (λ i. procedures_bindings naming_by_label (bind_procedure-labels k x listed noted i) (jr_same i) rest'
+      ++ (block_bindings naming_by_label (inside-labels k x listed noted i) (jb_same i) (relabel_block naming_by_spelling (label_from_ordinal naming_by_spelling) (sym inner_scope i) m b) ++ bind_typed_parameters (label_typed (suc k) listed) (bind_procedure (declared k) (label_typed (suc k) listed) [])))) in
+      subst₂ (Ordered k (ordinal_after_procedures q rest)) (sym names) (sym by_label)
+      (ordered-append k q (ordinal_after_procedures q rest) (procedures_bindings naming_by_spelling (typed_by_name own) jr rest) (block_bindings naming_by_spelling (typed_by_name inner) jb b ++ bind_typed_parameters listed (bind_procedure x listed []))
+      (procedures_bindings naming_by_label (typed_by_ordinal own) jr (relabel_procedures naming_by_spelling (label_from_ordinal naming_by_spelling) (typed_scope own) q rest)) (block_bindings naming_by_label (typed_by_ordinal inner) jb (relabel_block naming_by_spelling (label_from_ordinal naming_by_spelling) (typed_scope inner) m b) ++ bind_typed_parameters (label_typed (suc k) listed) (bind_procedure (declared k) (label_typed (suc k) listed) [])) later
+      (ordered-append k m q (block_bindings naming_by_spelling (typed_by_name inner) jb b) (bind_typed_parameters listed (bind_procedure x listed [])) (block_bindings naming_by_label (typed_by_ordinal inner) jb (relabel_block naming_by_spelling (label_from_ordinal naming_by_spelling) (typed_scope inner) m b))
+      (bind_typed_parameters (label_typed (suc k) listed) (bind_procedure (declared k) (label_typed (suc k) listed) [])) block_part heading_part))
 
 -- The bindings of the names and of the labels in the block of a module that fits are in the order of their ordinals.
-pub module-block : (x : Name) (b : Tree Name block) (closing : Name) → fits_over as_names (is_module x b closing) ≡ true
-    → Ordered 7 (after_block 7 b) (block_bindings as_names (outermost as_names) 0 b) (block_bindings as_labels (outermost as_labels) 0 (relabel_block as_names (as_label as_names) (typed_scope (typed_outermost as_names)) 7 b))
+pub module-block : (x : Name) (b : Tree Name block) (closing : Name) → fits_over naming_by_spelling (is_module x b closing) ≡ true
+    → Ordered 7 (ordinal_after_block 7 b) (block_bindings naming_by_spelling (outermost naming_by_spelling) 0 b) (block_bindings naming_by_label (outermost naming_by_label) 0 (relabel_block naming_by_spelling (label_from_ordinal naming_by_spelling) (typed_scope (typed_outermost naming_by_spelling)) 7 b))
 unfolding fits_over
-module-block x b closing h = block-ordered (typed_outermost as_names) 0 7 predeclared-below b h
+module-block x b closing h = block-ordered (typed_outermost naming_by_spelling) 0 7 predeclared-below b h
 
 -- All bindings of a module that fits, including the predeclared names, are in the order of their ordinals.
-pub module-ordered : (m : Tree Name module_text) → fits_over as_names m ≡ true → Ordered 0 (after_block 7 (module_block m)) (module_bindings as_names m) (module_bindings as_labels (numbered m))
+pub module-ordered : (m : Tree Name module_text) → fits_over naming_by_spelling m ≡ true → Ordered 0 (ordinal_after_block 7 (module_block m)) (module_bindings naming_by_spelling m) (module_bindings naming_by_label (numbered m))
 module-ordered (is_module x b closing) h =
-    ordered-append 0 7 (after_block 7 b) (block_bindings as_names (outermost as_names) 0 b) (outermost as_names) (block_bindings as_labels (outermost as_labels) 0 (relabel_block as_names (as_label as_names) (typed_scope (typed_outermost as_names)) 7 b)) (outermost as_labels)
+    ordered-append 0 7 (ordinal_after_block 7 b) (block_bindings naming_by_spelling (outermost naming_by_spelling) 0 b) (outermost naming_by_spelling) (block_bindings naming_by_label (outermost naming_by_label) 0 (relabel_block naming_by_spelling (label_from_ordinal naming_by_spelling) (typed_scope (typed_outermost naming_by_spelling)) 7 b)) (outermost naming_by_label)
     (module-block x b closing h)
-    (record { noted = typed_outermost as_names; by_name = refl; by_label = refl; in_order = (refl, (refl, (refl, (refl, (refl, (refl, (refl, refl))))))) })
+    (record { noted = typed_outermost naming_by_spelling; by_name = refl; by_label = refl; in_order = (refl, (refl, (refl, (refl, (refl, (refl, (refl, refl))))))) })

@@ -3,15 +3,15 @@
 -- to be looked up.
 use Rattle.std.proofs.Common.{◌≡◌, ℕ, suc, ◌<◌, ◌≤◌, false, List, [], ◌∷◌, ◌++◌, length, Option, Some, None, slice_index_or, refl, sym, ap, ◌∙◌, subst, append_assoc, arith}
 use Rattle.ob0_language_names.specs.Names.{Name}
-use Rattle.ob0_language_names.specs.Scopes.{Scope, after_names, declare_names}
-use Rattle.ob0_language_types.specs.Bindings.{since}
+use Rattle.ob0_language_names.specs.Scopes.{Scope, ordinal_after_names, declare_names}
+use Rattle.ob0_language_types.specs.Bindings.{bindings_since}
 use Rattle.ob0_language_types.specs.Expressions as meant
-use Rattle.ob0_language_types.specs.WellTyped.{TypeEnvironment, TypedParameter, bind_typed}
+use Rattle.ob0_language_types.specs.WellTyped.{TypeEnvironment, TypedParameter, bind_typed_parameters}
 use Rattle.ob0_types_table.specs.declared.types.TypeId.{TypeId}
 use Rattle.ob0_language_values.specs.Values.{Shape}
-use Rattle.ob0_types_check.specs.Agreement.{MeansAlike, is_standard, shape_in}
+use Rattle.ob0_types_check.specs.Agreement.{KnownMeaningAgrees, is_standard_procedure, shape_in}
 use Rattle.ob0_types_check.specs.Known.{Meaning}
-use Rattle.ob0_types_check.proofs.BindingsByOrdinal.{since-front}
+use Rattle.ob0_types_check.proofs.BindingsByOrdinal.{bindings_since-front}
 use Rattle.ob0_types_check.proofs.DeclaredShapes.{Longer}
 use Rattle.ob0_types_check.proofs.DeclaredKnown.{NamesKnown, holds_kept}
 
@@ -20,7 +20,7 @@ use Rattle.ob0_types_check.proofs.DeclaredKnown.{NamesKnown, holds_kept}
 abbrev pub BindingsKnown : List Shape → List (Option (Meaning TypeId)) → ℕ → ℕ → TypeEnvironment Name → Type 0
 BindingsKnown shapes declared n m [] = m ≡ n
 BindingsKnown shapes declared n m (b ∷ bs) =
-    (j : ℕ) × (m ≡ suc j) × MeansAlike (shape_in shapes) (slice_index_or declared j None) (Some b.1) × (7 ≤ j → is_standard (Some b.1) ≡ false) × BindingsKnown shapes declared n j bs
+    (j : ℕ) × (m ≡ suc j) × KnownMeaningAgrees (shape_in shapes) (slice_index_or declared j None) (Some b.1) × (7 ≤ j → is_standard_procedure (Some b.1) ≡ false) × BindingsKnown shapes declared n j bs
 
 pub bindings_both : (shapes : List Shape) (declared : List (Option (Meaning TypeId))) (n i m : ℕ) (later first : TypeEnvironment Name) → BindingsKnown shapes declared i m later → BindingsKnown shapes declared n i first → BindingsKnown shapes declared n m (later ++ first)
 bindings_both shapes declared n i m [] first h g = subst (λ z. BindingsKnown shapes declared n z first) (sym h) g
@@ -32,7 +32,7 @@ bindings_later before after old new n m i longer kept le (b ∷ bs) h =
     let less : h.0 < i = omega (arith, le, h.1) in (
       h.0,
       h.1,
-      subst (λ o. MeansAlike (shape_in after) o (Some b.1)) (sym (kept h.0 less)) (holds_kept before after longer (slice_index_or old h.0 None) (Some b.1) h.2),
+      subst (λ o. KnownMeaningAgrees (shape_in after) o (Some b.1)) (sym (kept h.0 less)) (holds_kept before after longer (slice_index_or old h.0 None) (Some b.1) h.2),
       h.3,
       bindings_later before after old new n h.0 i longer kept (omega (arith, less)) bs h.4,
     )
@@ -58,9 +58,9 @@ split_one shapes declared l n m x scope env s = by s.rest s.both s.holds
       bound = bindings_both shapes declared n (suc n) m s.first (c ∷ []) s.bound (n, refl, h.2, h.3, refl);
     }
 
-split : (shapes : List Shape) (declared : List (Option (Meaning TypeId))) (l n : ℕ) (xs : List Name) (scope : Scope Name) (env : TypeEnvironment Name) → NamesKnown shapes declared l (declare_names n xs scope) env → Split shapes declared l n (after_names n xs) scope env
+split : (shapes : List Shape) (declared : List (Option (Meaning TypeId))) (l n : ℕ) (xs : List Name) (scope : Scope Name) (env : TypeEnvironment Name) → NamesKnown shapes declared l (declare_names n xs scope) env → Split shapes declared l n (ordinal_after_names n xs) scope env
 split shapes declared l n [] scope env h = record { first = []; rest = env; both = refl; holds = h; bound = refl }
-split shapes declared l n (x ∷ xs) scope env h = split_one shapes declared l n (after_names (suc n) xs) x scope env (split shapes declared l (suc n) xs ((x, n) ∷ scope) env h)
+split shapes declared l n (x ∷ xs) scope env h = split_one shapes declared l n (ordinal_after_names (suc n) xs) x scope env (split shapes declared l (suc n) xs ((x, n) ∷ scope) env h)
 
 split_then : (shapes : List Shape) (declared : List (Option (Meaning TypeId))) (l n i m : ℕ) (scope mid : Scope Name) (env : TypeEnvironment Name) (s : Split shapes declared l i m mid env) → Split shapes declared l n i scope s.rest → Split shapes declared l n m scope env
 split_then shapes declared l n i m scope mid env s t = record {
@@ -77,22 +77,22 @@ as_long shapes declared n [] (c ∷ env) h = absurd h
 as_long shapes declared n (b ∷ scope) [] h = absurd h
 as_long shapes declared n (b ∷ scope) (c ∷ env) h = ap suc (as_long shapes declared n scope env h.4)
 
-split_since : (shapes : List Shape) (declared : List (Option (Meaning TypeId))) (l n m : ℕ) (scope : Scope Name) (before env : TypeEnvironment Name) → length before ≡ length scope → Split shapes declared l n m scope env → BindingsKnown shapes declared n m (since before env)
+split_since : (shapes : List Shape) (declared : List (Option (Meaning TypeId))) (l n m : ℕ) (scope : Scope Name) (before env : TypeEnvironment Name) → length before ≡ length scope → Split shapes declared l n m scope env → BindingsKnown shapes declared n m (bindings_since before env)
 split_since shapes declared l n m scope before env long s =
-    subst (BindingsKnown shapes declared n m) (sym (ap (since before) s.both ∙ since-front before s.first s.rest (long ∙ sym (as_long shapes declared l scope s.rest s.holds)))) s.bound
+    subst (BindingsKnown shapes declared n m) (sym (ap (bindings_since before) s.both ∙ bindings_since-front before s.first s.rest (long ∙ sym (as_long shapes declared l scope s.rest s.holds)))) s.bound
 
 -- The bindings that names add to an environment agree with the meanings of their ordinals. `m` is the ordinal after the
 -- names.
-pub names_bind : (shapes : List Shape) (declared : List (Option (Meaning TypeId))) (l n m : ℕ) (xs : List Name) (scope : Scope Name) (before env : TypeEnvironment Name) → after_names n xs ≡ m → length before ≡ length scope → NamesKnown shapes declared l (declare_names n xs scope) env
-    → BindingsKnown shapes declared n m (since before env)
-names_bind shapes declared l n m xs scope before env e long h = subst (λ z. BindingsKnown shapes declared n z (since before env)) e (split_since shapes declared l n (after_names n xs) scope before env long (split shapes declared l n xs scope env h))
+pub names_bind : (shapes : List Shape) (declared : List (Option (Meaning TypeId))) (l n m : ℕ) (xs : List Name) (scope : Scope Name) (before env : TypeEnvironment Name) → ordinal_after_names n xs ≡ m → length before ≡ length scope → NamesKnown shapes declared l (declare_names n xs scope) env
+    → BindingsKnown shapes declared n m (bindings_since before env)
+names_bind shapes declared l n m xs scope before env e long h = subst (λ z. BindingsKnown shapes declared n z (bindings_since before env)) e (split_since shapes declared l n (ordinal_after_names n xs) scope before env long (split shapes declared l n xs scope env h))
 
-split_to : (shapes : List Shape) (declared : List (Option (Meaning TypeId))) (l n m : ℕ) (xs : List Name) (scope : Scope Name) (env : TypeEnvironment Name) → after_names n xs ≡ m → NamesKnown shapes declared l (declare_names n xs scope) env → Split shapes declared l n m scope env
+split_to : (shapes : List Shape) (declared : List (Option (Meaning TypeId))) (l n m : ℕ) (xs : List Name) (scope : Scope Name) (env : TypeEnvironment Name) → ordinal_after_names n xs ≡ m → NamesKnown shapes declared l (declare_names n xs scope) env → Split shapes declared l n m scope env
 split_to shapes declared l n m xs scope env e h = subst (λ z. Split shapes declared l n z scope env) e (split shapes declared l n xs scope env h)
 
 -- The bindings that the names of three sections add to an environment agree with the meanings of their ordinals.
-pub sections_bind : (shapes : List Shape) (declared : List (Option (Meaning TypeId))) (l n i j m : ℕ) (xs ys zs : List Name) (scope : Scope Name) (before env : TypeEnvironment Name) → after_names n xs ≡ i → after_names i ys ≡ j → after_names j zs ≡ m → length before ≡ length scope
-    → NamesKnown shapes declared l (declare_names j zs (declare_names i ys (declare_names n xs scope))) env → BindingsKnown shapes declared n m (since before env)
+pub sections_bind : (shapes : List Shape) (declared : List (Option (Meaning TypeId))) (l n i j m : ℕ) (xs ys zs : List Name) (scope : Scope Name) (before env : TypeEnvironment Name) → ordinal_after_names n xs ≡ i → ordinal_after_names i ys ≡ j → ordinal_after_names j zs ≡ m → length before ≡ length scope
+    → NamesKnown shapes declared l (declare_names j zs (declare_names i ys (declare_names n xs scope))) env → BindingsKnown shapes declared n m (bindings_since before env)
 sections_bind shapes declared l n i j m xs ys zs scope before env ei ej em long h =
     let first : Scope Name = declare_names n xs scope in
     let second : Scope Name = declare_names i ys first in
@@ -102,9 +102,9 @@ sections_bind shapes declared l n i j m xs ys zs scope before env ei ej em long 
     split_since shapes declared l n m scope before env long (split_then shapes declared l n j m scope second env c (split_then shapes declared l n i j scope first c.rest b a))
 
 -- Binding parameters puts their bindings before the rest of the environment.
-bind_typed-before : (ps : List (TypedParameter Name)) (first env : TypeEnvironment Name) → bind_typed ps (first ++ env) ≡ bind_typed ps first ++ env
-bind_typed-before [] first env = refl
-bind_typed-before (p ∷ ps) first env = bind_typed-before ps ((p.name, meant.a_variable p.formal.shape) ∷ first) env
+bind_typed_parameters-before : (ps : List (TypedParameter Name)) (first env : TypeEnvironment Name) → bind_typed_parameters ps (first ++ env) ≡ bind_typed_parameters ps first ++ env
+bind_typed_parameters-before [] first env = refl
+bind_typed_parameters-before (p ∷ ps) first env = bind_typed_parameters-before ps ((p.name, meant.a_variable p.formal.shape) ∷ first) env
 
-pub heading_since : (ps : List (TypedParameter Name)) (b : Name × meant.Object Shape _) (env : TypeEnvironment Name) → since env (bind_typed ps (b ∷ env)) ≡ bind_typed ps (b ∷ [])
-heading_since ps b env = ap (since env) (bind_typed-before ps (b ∷ []) env) ∙ since-front env (bind_typed ps (b ∷ [])) env refl
+pub heading_since : (ps : List (TypedParameter Name)) (b : Name × meant.Object Shape _) (env : TypeEnvironment Name) → bindings_since env (bind_typed_parameters ps (b ∷ env)) ≡ bind_typed_parameters ps (b ∷ [])
+heading_since ps b env = ap (bindings_since env) (bind_typed_parameters-before ps (b ∷ []) env) ∙ bindings_since-front env (bind_typed_parameters ps (b ∷ [])) env refl

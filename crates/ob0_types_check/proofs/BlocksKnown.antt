@@ -3,58 +3,58 @@ use Rattle.std.proofs.Common.{◌≡◌, ℕ, ◌<◌, ◌≤◌, ◌==◌, Bool
 use Rattle.std.proofs.lemmas.Bool.{ltb-false, ltb-true, ne_eqb}
 use Rattle.std.proofs.lemmas.List.{get_or_past}
 use Rattle.std.specs.List.{filter}
-use Rattle.ob0_tree.specs.Parsed.{named_tree_of, tree_of}
+use Rattle.ob0_tree.specs.ParsedModule.{named_tree_of, tree_of}
 use Rattle.ob0_tree.specs.Places.{text_at, value_at}
 use Rattle.ob0_tree.specs.Tree.{Tree, block, is_module, module_text}
-use Rattle.ob0_language_names.specs.Names.{Label, Name, as_labels, as_names, declared}
+use Rattle.ob0_language_names.specs.Names.{Label, Name, naming_by_label, naming_by_spelling, declared}
 use Rattle.ob0_language_names.specs.Parts.{module_block}
-use Rattle.ob0_scope_table.specs.Resolution.{is_of_occurrences}
-use Rattle.ob0_language_names.specs.Scopes.{after_block, as_label, numbered, predeclared_scope, relabel_block}
-use Rattle.ob0_language_types.specs.Bindings.{block_bindings, declared_object, module_bindings, object_bound}
-use Rattle.ob0_language_types.specs.Environments.{from_binding, outermost}
+use Rattle.ob0_scope_table.specs.Resolution.{is_undeclared_fault}
+use Rattle.ob0_language_names.specs.Scopes.{ordinal_after_block, label_from_ordinal, numbered, predeclared_scope, relabel_block}
+use Rattle.ob0_language_types.specs.Bindings.{block_bindings, declared_object, module_bindings, bound_object}
+use Rattle.ob0_language_types.specs.Environments.{environment_from_binding, outermost}
 use Rattle.ob0_language_types.specs.Expressions as meant
 use Rattle.ob0_language_types.specs.WellTyped.{Signature, TypeEnvironment, fits_over}
-use Rattle.ob0_language_types.proofs.Bound.{newest-if}
+use Rattle.ob0_language_types.proofs.Bound.{newest_object-if}
 use Rattle.ob0_language_types.proofs.TypesByOrdinal.{TypeNoted, typed_by_name, typed_by_ordinal, typed_outermost, typed_scope}
 use Rattle.ob0_types_table.specs.declared.types.TypeId.{TypeId}
 use Rattle.ob0_language_values.specs.Values.{Shape}
-use Rattle.ob0_types_check.specs.Agreement.{DeclarationAgrees, MeansAlike, is_standard, shape_in}
+use Rattle.ob0_types_check.specs.Agreement.{DeclarationAgrees, KnownMeaningAgrees, is_standard_procedure, shape_in}
 use Rattle.ob0_types_check.specs.DeclarationFaults.{reported_block, reported_module}
 use Rattle.ob0_types_check.specs.Known.{Meaning}
 use Rattle.ob0_types_check.specs.ModuleLaws.{DeclarationsKnown}
-use Rattle.ob0_types_check.specs.SoFar.{SoFar, at_first}
+use Rattle.ob0_types_check.specs.KnownDeclarations.{KnownDeclarations, state_at_start}
 use Rattle.ob0_types_check.proofs.BindingsByOrdinal.{InOrder, Ordered, module-block, module-ordered}
 use Rattle.ob0_types_check.proofs.BlocksBound.{BindingsKnown, bindings_both, bindings_later, names_bind}
 use Rattle.ob0_types_check.proofs.BlocksFit.{block_reported, first_holds, room_first}
 use Rattle.ob0_types_check.proofs.DeclaredModules.{module_counted, module_placed, numbering_of}
-use Rattle.ob0_types_check.proofs.DeclaredNames.{after_block-mapped}
+use Rattle.ob0_types_check.proofs.DeclaredNames.{ordinal_after_block-mapped}
 use Rattle.ob0_types_check.proofs.PartsFitting.{parts_fit}
 use Rattle.ob0_types_check.proofs.Unreported.{none-reported}
 
 -- holds if the meaning of an ordinal agrees with the object that the ordinal is bound to
 abbrev IsKnownAs : List Shape → List (Option (Meaning TypeId)) → ℕ → Option (meant.Object Shape Signature) → Type 0
-IsKnownAs shapes known k o = MeansAlike (shape_in shapes) (slice_index_or known k None) o × (7 ≤ k → is_standard o ≡ false)
+IsKnownAs shapes known k o = KnownMeaningAgrees (shape_in shapes) (slice_index_or known k None) o × (7 ≤ k → is_standard_procedure o ≡ false)
 
 module _ (shapes : List Shape) (known : List (Option (Meaning TypeId))) where
-  known_at : (noted : TypeNoted Name) (m : ℕ) → InOrder 0 m noted → BindingsKnown shapes known 0 m (typed_by_name noted) → (k : ℕ) → k < m → IsKnownAs shapes known k (object_bound (typed_by_ordinal noted) k)
+  known_at : (noted : TypeNoted Name) (m : ℕ) → InOrder 0 m noted → BindingsKnown shapes known 0 m (typed_by_name noted) → (k : ℕ) → k < m → IsKnownAs shapes known k (bound_object (typed_by_ordinal noted) k)
   known_at [] m order h k less = absurd (omega (arith, order, less))
   known_at (b ∷ noted) m order h k less =
       let same : h.0 ≡ b.ordinal = omega (arith, order.0, h.1) in
       let rest : BindingsKnown shapes known 0 b.ordinal (typed_by_name noted) = subst (λ z. BindingsKnown shapes known 0 z (typed_by_name noted)) same h.4 in
-      subst (IsKnownAs shapes known k) (sym (newest-if (k == b.ordinal) (declared b.ordinal) b.object (typed_by_ordinal noted) (from_binding as_labels (typed_by_ordinal noted) (declared k))))
-      (elim (k == b.ordinal) as (λ t. (k == b.ordinal) ≡ t → IsKnownAs shapes known k (cond t (Some b.object) (object_bound (typed_by_ordinal noted) k))) [
+      subst (IsKnownAs shapes known k) (sym (newest_object-if (k == b.ordinal) (declared b.ordinal) b.object (typed_by_ordinal noted) (environment_from_binding naming_by_label (typed_by_ordinal noted) (declared k))))
+      (elim (k == b.ordinal) as (λ t. (k == b.ordinal) ≡ t → IsKnownAs shapes known k (cond t (Some b.object) (bound_object (typed_by_ordinal noted) k))) [
         | true ↦ λ e. subst (λ z. IsKnownAs shapes known z (Some b.object)) (same ∙ sym (eqb-true k b.ordinal e)) (h.2, h.3)
         | false ↦ λ e. let other : k ≡ b.ordinal → ⊥ = λ s. true≢false (sym (eq-eqb k b.ordinal s) ∙ e) in known_at noted b.ordinal order.1 rest k (omega (arith, order.0, less, other))
       ] refl)
 
-none_at : (noted : TypeNoted Name) (m : ℕ) → InOrder 0 m noted → (k : ℕ) → m ≤ k → object_bound (typed_by_ordinal noted) k ≡ None
+none_at : (noted : TypeNoted Name) (m : ℕ) → InOrder 0 m noted → (k : ℕ) → m ≤ k → bound_object (typed_by_ordinal noted) k ≡ None
 none_at [] m order k le = refl
 none_at (b ∷ noted) m order k le =
-    newest-if (k == b.ordinal) (declared b.ordinal) b.object (typed_by_ordinal noted) (from_binding as_labels (typed_by_ordinal noted) (declared k))
-    ∙ (ap (λ t. cond t (Some b.object) (object_bound (typed_by_ordinal noted) k)) (ne_eqb k b.ordinal (λ e. omega (arith, e, le, order.0)))
+    newest_object-if (k == b.ordinal) (declared b.ordinal) b.object (typed_by_ordinal noted) (environment_from_binding naming_by_label (typed_by_ordinal noted) (declared k))
+    ∙ (ap (λ t. cond t (Some b.object) (bound_object (typed_by_ordinal noted) k)) (ne_eqb k b.ordinal (λ e. omega (arith, e, le, order.0)))
     ∙ none_at noted b.ordinal order.1 k (omega (arith, le, order.0)))
 
-holds_agree : (shape : TypeId → Option Shape) (m : Option (Meaning TypeId)) (o : Option (meant.Object Shape Signature)) → MeansAlike shape m o → DeclarationAgrees shape m o
+holds_agree : (shape : TypeId → Option Shape) (m : Option (Meaning TypeId)) (o : Option (meant.Object Shape Signature)) → KnownMeaningAgrees shape m o → DeclarationAgrees shape m o
 holds_agree shape None o h = absurd h
 holds_agree shape (Some m) o h = h
 
@@ -67,61 +67,61 @@ either {P} k m f g = by (nat_lt k m) refl
 
 -- The bindings of ordinals below `m` agree with their meanings, and ordinals from `m` upwards have neither.
 module _ (shapes : List Shape) (known : List (Option (Meaning TypeId))) (m : ℕ) (names : TypeEnvironment Name) (labels : TypeEnvironment Label) (all : Ordered 0 m names labels) (bound : BindingsKnown shapes known 0 m names) (room : length known ≡ m) where
-  below : (k : ℕ) → k < m → IsKnownAs shapes known k (object_bound labels k)
-  below k less = subst (λ z. IsKnownAs shapes known k (object_bound z k)) (sym all.by_label) (known_at shapes known all.noted m all.in_order (subst (BindingsKnown shapes known 0 m) all.by_name bound) k less)
+  below : (k : ℕ) → k < m → IsKnownAs shapes known k (bound_object labels k)
+  below k less = subst (λ z. IsKnownAs shapes known k (bound_object z k)) (sym all.by_label) (known_at shapes known all.noted m all.in_order (subst (BindingsKnown shapes known 0 m) all.by_name bound) k less)
 
-  past : (k : ℕ) → m ≤ k → (object_bound labels k ≡ None) × (slice_index_or known k None ≡ None)
-  past k le = (ap (λ z. object_bound z k) all.by_label ∙ none_at all.noted m all.in_order k le, get_or_past known k None (subst (λ n. n ≤ k) (sym room) le))
+  past : (k : ℕ) → m ≤ k → (bound_object labels k ≡ None) × (slice_index_or known k None ≡ None)
+  past k le = (ap (λ z. bound_object z k) all.by_label ∙ none_at all.noted m all.in_order k le, get_or_past known k None (subst (λ n. n ≤ k) (sym room) le))
 
-  every_agrees : (k : ℕ) → DeclarationAgrees (shape_in shapes) (slice_index_or known k None) (object_bound labels k)
+  every_agrees : (k : ℕ) → DeclarationAgrees (shape_in shapes) (slice_index_or known k None) (bound_object labels k)
   every_agrees k =
-      either k m (λ less. holds_agree (shape_in shapes) (slice_index_or known k None) (object_bound labels k) (below k less).0)
-      (λ le. subst (λ z. DeclarationAgrees (shape_in shapes) z (object_bound labels k)) (sym (past k le).1) (past k le).0)
+      either k m (λ less. holds_agree (shape_in shapes) (slice_index_or known k None) (bound_object labels k) (below k less).0)
+      (λ le. subst (λ z. DeclarationAgrees (shape_in shapes) z (bound_object labels k)) (sym (past k le).1) (past k le).0)
 
-  every_own : (k : ℕ) → 7 ≤ k → is_standard (object_bound labels k) ≡ false
-  every_own k own = either k m (λ less. (below k less).1 own) (λ le. ap is_standard (past k le).0)
+  every_own : (k : ℕ) → 7 ≤ k → is_standard_procedure (bound_object labels k) ≡ false
+  every_own k own = either k m (λ less. (below k less).1 own) (λ le. ap is_standard_procedure (past k le).0)
 
 above_first : (n m : ℕ) (noted : TypeNoted Name) → InOrder n m noted → n ≤ m
 above_first n m [] order = omega (arith, order)
 above_first n m (b ∷ noted) order = omega (arith, order.0, above_first n b.ordinal noted order.1)
 
 -- An ordinal below the ordinals of a block is bound to the same object as before the block.
-bound_before : (n m : ℕ) (noted : TypeNoted Name) → InOrder n m noted → (env : TypeEnvironment Label) (k : ℕ) → k < n → object_bound (typed_by_ordinal noted ++ env) k ≡ object_bound env k
+bound_before : (n m : ℕ) (noted : TypeNoted Name) → InOrder n m noted → (env : TypeEnvironment Label) (k : ℕ) → k < n → bound_object (typed_by_ordinal noted ++ env) k ≡ bound_object env k
 bound_before n m [] order env k less = refl
 bound_before n m (b ∷ noted) order env k less =
-    newest-if (k == b.ordinal) (declared b.ordinal) b.object (typed_by_ordinal noted ++ env) (from_binding as_labels (typed_by_ordinal noted ++ env) (declared k))
-    ∙ (ap (λ t. cond t (Some b.object) (object_bound (typed_by_ordinal noted ++ env) k)) (ne_eqb k b.ordinal (λ e. omega (arith, e, less, above_first n b.ordinal noted order.1)))
+    newest_object-if (k == b.ordinal) (declared b.ordinal) b.object (typed_by_ordinal noted ++ env) (environment_from_binding naming_by_label (typed_by_ordinal noted ++ env) (declared k))
+    ∙ (ap (λ t. cond t (Some b.object) (bound_object (typed_by_ordinal noted ++ env) k)) (ne_eqb k b.ordinal (λ e. omega (arith, e, less, above_first n b.ordinal noted order.1)))
     ∙ bound_before n b.ordinal noted order.1 env k less)
 
-first_bound : (n m : ℕ) (names : TypeEnvironment Name) (labels env : TypeEnvironment Label) → Ordered n m names labels → (k : ℕ) → k < n → object_bound (labels ++ env) k ≡ object_bound env k
-first_bound n m names labels env all k less = ap (λ z. object_bound (z ++ env) k) all.by_label ∙ bound_before n m all.noted all.in_order env k less
+first_bound : (n m : ℕ) (names : TypeEnvironment Name) (labels env : TypeEnvironment Label) → Ordered n m names labels → (k : ℕ) → k < n → bound_object (labels ++ env) k ≡ bound_object env k
+first_bound n m names labels env all k less = ap (λ z. bound_object (z ++ env) k) all.by_label ∙ bound_before n m all.noted all.in_order env k less
 
-predeclared_bound : (m : Tree Name module_text) → fits_over as_names m ≡ true → (k : ℕ) → k < 7 → declared_object m k ≡ object_bound (outermost as_labels) k
+predeclared_bound : (m : Tree Name module_text) → fits_over naming_by_spelling m ≡ true → (k : ℕ) → k < 7 → declared_object m k ≡ bound_object (outermost naming_by_label) k
 predeclared_bound (is_module x b closing) h k less =
-    first_bound 7 (after_block 7 b) (block_bindings as_names (outermost as_names) 0 b) (block_bindings as_labels (outermost as_labels) 0 (relabel_block as_names (as_label as_names) (typed_scope (typed_outermost as_names)) 7 b)) (outermost as_labels) (module-block x b closing h) k less
+    first_bound 7 (ordinal_after_block 7 b) (block_bindings naming_by_spelling (outermost naming_by_spelling) 0 b) (block_bindings naming_by_label (outermost naming_by_label) 0 (relabel_block naming_by_spelling (label_from_ordinal naming_by_spelling) (typed_scope (typed_outermost naming_by_spelling)) 7 b)) (outermost naming_by_label) (module-block x b closing h) k less
 
 pub declarations_known-holds : DeclarationsKnown
 unfolding reported_module fits_over
 declarations_known-holds r is h =
     let m = r.module_read in
     let b : Tree ℕ block = module_block (tree_of m) in
-    let last : ℕ = after_block 7 b in
-    let q : SoFar = (reported_block (at_first r) b).known in
-    let a = none-reported (filter is_of_occurrences r.faults) (reported_block (at_first r) b).faults h in
+    let last : ℕ = ordinal_after_block 7 b in
+    let q : KnownDeclarations = (reported_block (state_at_start r) b).known in
+    let a = none-reported (filter is_undeclared_fault r.faults) (reported_block (state_at_start r) b).faults h in
     let st = first_holds r in
-    let f = block_reported (numbering_of r) parts_fit b 0 7 (at_first r) [] (predeclared_scope as_names) (outermost as_names) refl st (module_placed r is a.0) a.1 in
-    let first : BindingsKnown f.after q.declared 0 7 (outermost as_names) =
-    bindings_later [] f.after (at_first r).declared q.declared 0 7 7 f.later.longer f.later.kept (le_refl 7) (outermost as_names) (names_bind [] (at_first r).declared 7 0 7 (map as_names.predeclared (0 ∷ 1 ∷ 2 ∷ 3 ∷ 4 ∷ 5 ∷ 6 ∷ [])) [] [] (outermost as_names) refl refl st.names) in
-    let bound : BindingsKnown f.after q.declared 0 last (module_bindings as_names (named_tree_of m)) =
-    bindings_both f.after q.declared 0 7 last (block_bindings as_names (outermost as_names) 0 (module_block (named_tree_of m))) (outermost as_names) f.bound first in
-    let all : Ordered 0 last (module_bindings as_names (named_tree_of m)) (module_bindings as_labels (numbered (named_tree_of m))) =
-    subst (λ z. Ordered 0 z (module_bindings as_names (named_tree_of m)) (module_bindings as_labels (numbered (named_tree_of m)))) (after_block-mapped (text_at m.source) (value_at m.source) 7 7 refl b) (module-ordered (named_tree_of m) f.right) in
+    let f = block_reported (numbering_of r) parts_fit b 0 7 (state_at_start r) [] (predeclared_scope naming_by_spelling) (outermost naming_by_spelling) refl st (module_placed r is a.0) a.1 in
+    let first : BindingsKnown f.after q.declared 0 7 (outermost naming_by_spelling) =
+    bindings_later [] f.after (state_at_start r).declared q.declared 0 7 7 f.later.longer f.later.kept (le_refl 7) (outermost naming_by_spelling) (names_bind [] (state_at_start r).declared 7 0 7 (map naming_by_spelling.predeclared (0 ∷ 1 ∷ 2 ∷ 3 ∷ 4 ∷ 5 ∷ 6 ∷ [])) [] [] (outermost naming_by_spelling) refl refl st.names) in
+    let bound : BindingsKnown f.after q.declared 0 last (module_bindings naming_by_spelling (named_tree_of m)) =
+    bindings_both f.after q.declared 0 7 last (block_bindings naming_by_spelling (outermost naming_by_spelling) 0 (module_block (named_tree_of m))) (outermost naming_by_spelling) f.bound first in
+    let all : Ordered 0 last (module_bindings naming_by_spelling (named_tree_of m)) (module_bindings naming_by_label (numbered (named_tree_of m))) =
+    subst (λ z. Ordered 0 z (module_bindings naming_by_spelling (named_tree_of m)) (module_bindings naming_by_label (numbered (named_tree_of m)))) (ordinal_after_block-mapped (text_at m.source) (value_at m.source) 7 7 refl b) (module-ordered (named_tree_of m) f.right) in
     let room : length q.declared ≡ last = f.later.room ∙ (room_first r.declarations ∙ sym (module_counted r is)) in
     record {
       shapes = f.after;
       table = f.later.table;
-      declared = every_agrees f.after q.declared last (module_bindings as_names (named_tree_of m)) (module_bindings as_labels (numbered (named_tree_of m))) all bound room;
-      standards = every_own f.after q.declared last (module_bindings as_names (named_tree_of m)) (module_bindings as_labels (numbered (named_tree_of m))) all bound room;
+      declared = every_agrees f.after q.declared last (module_bindings naming_by_spelling (named_tree_of m)) (module_bindings naming_by_label (numbered (named_tree_of m))) all bound room;
+      standards = every_own f.after q.declared last (module_bindings naming_by_spelling (named_tree_of m)) (module_bindings naming_by_label (numbered (named_tree_of m))) all bound room;
       predeclared = predeclared_bound (named_tree_of m) f.right;
       room = omega (arith, f.later.room, room_first r.declarations);
     }

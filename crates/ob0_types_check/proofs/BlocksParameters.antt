@@ -3,29 +3,29 @@
 -- the procedure's name in the environment afterwards (`parameters_over`).
 use Rattle.std.proofs.Common.{◌≡◌, ℕ, suc, ◌+◌, ◌<◌, ◌≤◌, Bool, true, false, List, [], ◌∷◌, ◌++◌, length, map, Option, Some, None, option_and_then, slice_index_or, refl, sym, ap, ◌∙◌, subst, subst₂, le_refl, le_of_lt, le_trans, append_assoc, append-nil, arith}
 use Rattle.std.proofs.lemmas.List.{map-append}
-use Rattle.ob0_tree.specs.Places.{named, text_at, value_at}
+use Rattle.ob0_tree.specs.Places.{tree_with_names, text_at, value_at}
 use Rattle.ob0_tree.specs.Tree.{Tree, end, further_section, items, more, then_section, value_section, variable_section, written_type}
-use Rattle.ob0_language_names.specs.Names.{Name, as_names}
-use Rattle.ob0_language_names.specs.Parts.{formal_names, names_listed}
-use Rattle.ob0_language_names.specs.Scopes.{Scope, after_names, declare_names}
-use Rattle.ob0_language_names.proofs.Ordinals.{le-after_names}
+use Rattle.ob0_language_names.specs.Names.{Name, naming_by_spelling}
+use Rattle.ob0_language_names.specs.Parts.{formal_names, names_in_list}
+use Rattle.ob0_language_names.specs.Scopes.{Scope, ordinal_after_names, declare_names}
+use Rattle.ob0_language_names.proofs.Ordinals.{le-ordinal_after_names}
 use Rattle.ob0_types_table.specs.Tables.{mode_of}
 use Rattle.ob0_types_table.specs.declared.types.TypeId.{TypeId}
-use Rattle.ob0_language_types.specs.Declarations.{formals_constructors}
+use Rattle.ob0_language_types.specs.Declarations.{formals_constructor_count}
 use Rattle.ob0_language_types.specs.Environments.{meanings}
 use Rattle.ob0_language_types.specs.Expressions as meant
-use Rattle.ob0_language_types.specs.Typing.{constructors, denoted}
-use Rattle.ob0_language_types.specs.WellTyped.{Mode, Signature, TypeEnvironment, TypedParameter, bind_names, bind_typed, by_place, by_value, typed_parameters}
+use Rattle.ob0_language_types.specs.Typing.{constructor_count, denoted}
+use Rattle.ob0_language_types.specs.WellTyped.{Mode, Signature, TypeEnvironment, TypedParameter, bind_names, bind_typed_parameters, by_place, by_value, typed_parameters}
 use Rattle.ob0_language_values.specs.Values.{Shape}
 use Rattle.ob0_types_check.specs.DeclarationFaults.{KnownHeading, reported_parameters, reported_section, reported_sections, with_parameters}
 use Rattle.ob0_types_check.specs.Known.{KnownFormal, Meaning, Reported, a_variable}
-use Rattle.ob0_types_check.specs.SoFar.{SoFar, TypedAfter, define, define_all}
+use Rattle.ob0_types_check.specs.KnownDeclarations.{KnownDeclarations, TypeWithState, define, define_all}
 use Rattle.ob0_types_check.specs.WrittenTypeFaults.{reported_type}
-use Rattle.ob0_types_check.specs.Agreement.{FormalsAgree, MeansAlike, shape_in}
+use Rattle.ob0_types_check.specs.Agreement.{FormalsAgree, KnownMeaningAgrees, shape_in}
 use Rattle.ob0_types_check.proofs.BlocksDeclared.{more_constructors}
 use Rattle.ob0_types_check.proofs.MadeOnce.{Apart, apart_same, apart_then}
 use Rattle.ob0_types_check.proofs.PartsFitting.{PartsFit}
-use Rattle.ob0_types_check.proofs.DeclaredNames.{AreSeen, NamesPlaced, Numbering, SectionsPlaced, after_names-map, names_listed-mapped, scope_following}
+use Rattle.ob0_types_check.proofs.DeclaredNames.{AreSeen, NamesPlaced, Numbering, SectionsPlaced, ordinal_after_names-map, names_in_list-mapped, scope_following}
 use Rattle.ob0_types_check.proofs.DeclaredShapes.{Longer}
 use Rattle.ob0_types_check.proofs.DeclaredKnown.{Later, NamesKnown, IsKnownAt, all_defined, defined, formals_kept, later_same, later_then, names_later, holds_defined, holds_kept, holds_later}
 use Rattle.ob0_types_check.proofs.DeclaredTypes.{type_denotes}
@@ -37,22 +37,22 @@ ParametersKnown shapes declared k [] [] = Unit {0}
 ParametersKnown shapes declared k [] (p ∷ ps) = ⊥
 ParametersKnown shapes declared k (x ∷ xs) [] = ⊥
 ParametersKnown shapes declared k (x ∷ xs) (p ∷ ps) =
-    (p.name ≡ x) × MeansAlike (shape_in shapes) (slice_index_or declared k None) (Some (meant.a_variable p.formal.shape)) × ParametersKnown shapes declared (suc k) xs ps
+    (p.name ≡ x) × KnownMeaningAgrees (shape_in shapes) (slice_index_or declared k None) (Some (meant.a_variable p.formal.shape)) × ParametersKnown shapes declared (suc k) xs ps
 
-pub parameters_kept : (before after : List Shape) (old new : List (Option (Meaning TypeId))) (k m : ℕ) → Longer before after → ((j : ℕ) → k ≤ j → j < m → slice_index_or new j None ≡ slice_index_or old j None) → (xs : List Name) (ps : List (TypedParameter Name)) → after_names k xs ≤ m
+pub parameters_kept : (before after : List Shape) (old new : List (Option (Meaning TypeId))) (k m : ℕ) → Longer before after → ((j : ℕ) → k ≤ j → j < m → slice_index_or new j None ≡ slice_index_or old j None) → (xs : List Name) (ps : List (TypedParameter Name)) → ordinal_after_names k xs ≤ m
     → ParametersKnown before old k xs ps → ParametersKnown after new k xs ps
 parameters_kept before after old new k m longer kept [] [] le h = tt
 parameters_kept before after old new k m longer kept [] (p ∷ ps) le h = absurd h
 parameters_kept before after old new k m longer kept (x ∷ xs) [] le h = absurd h
 parameters_kept before after old new k m longer kept (x ∷ xs) (p ∷ ps) le h = (
   h.0,
-  subst (λ o. MeansAlike (shape_in after) o (Some (meant.a_variable p.formal.shape))) (sym (kept k (le_refl k) (le_trans (le-after_names (suc k) xs) le))) (holds_kept before after longer (slice_index_or old k None) (Some (meant.a_variable p.formal.shape)) h.1),
+  subst (λ o. KnownMeaningAgrees (shape_in after) o (Some (meant.a_variable p.formal.shape))) (sym (kept k (le_refl k) (le_trans (le-ordinal_after_names (suc k) xs) le))) (holds_kept before after longer (slice_index_or old k None) (Some (meant.a_variable p.formal.shape)) h.1),
   parameters_kept before after old new (suc k) m longer (λ j from to. kept j (le_of_lt from) to) xs ps le h.2,
 )
 
 -- Parameters that are known can be bound in an environment that agrees with the scope.
 pub parameters_over : (shapes : List Shape) (declared : List (Option (Meaning TypeId))) (k : ℕ) (scope : Scope Name) (env : TypeEnvironment Name) (xs : List Name) (ps : List (TypedParameter Name)) → NamesKnown shapes declared k scope env → ParametersKnown shapes declared k xs ps
-    → NamesKnown shapes declared (after_names k xs) (declare_names k xs scope) (bind_typed ps env)
+    → NamesKnown shapes declared (ordinal_after_names k xs) (declare_names k xs scope) (bind_typed_parameters ps env)
 parameters_over shapes declared k scope env [] [] below h = below
 parameters_over shapes declared k scope env [] (p ∷ ps) below h = absurd h
 parameters_over shapes declared k scope env (x ∷ xs) [] below h = absurd h
@@ -60,7 +60,7 @@ parameters_over shapes declared k scope env (x ∷ xs) (p ∷ ps) below h =
     parameters_over shapes declared (suc k) ((x, k) ∷ scope) ((p.name, meant.a_variable p.formal.shape) ∷ env) xs ps
     (le_refl (suc k), h.0, h.1, λ le. refl, names_later shapes shapes declared declared k (suc k) (λ t s e. e) (λ j less. refl) (le_of_lt (le_refl (suc k))) scope env below) h.2
 
-parameters_both : (shapes : List Shape) (declared : List (Option (Meaning TypeId))) (k : ℕ) (xs ys : List Name) (ps qs : List (TypedParameter Name)) → ParametersKnown shapes declared k xs ps → ParametersKnown shapes declared (after_names k xs) ys qs → ParametersKnown shapes declared k (xs ++ ys) (ps ++ qs)
+parameters_both : (shapes : List Shape) (declared : List (Option (Meaning TypeId))) (k : ℕ) (xs ys : List Name) (ps qs : List (TypedParameter Name)) → ParametersKnown shapes declared k xs ps → ParametersKnown shapes declared (ordinal_after_names k xs) ys qs → ParametersKnown shapes declared k (xs ++ ys) (ps ++ qs)
 parameters_both shapes declared k [] ys [] qs h next = next
 parameters_both shapes declared k [] ys (p ∷ ps) qs h next = absurd h
 parameters_both shapes declared k (x ∷ xs) ys [] qs h next = absurd h
@@ -83,18 +83,18 @@ formals_same : (shape : TypeId → Option Shape) (text : ℕ → Name) (by : Boo
 formals_same shape text by t s e [] = tt
 formals_same shape text by t s e (x ∷ xs) = (refl, e, formals_same shape text by t s e xs)
 
-own_known : (w : Numbering) (p : SoFar) (shapes : List Shape) (n : ℕ) (scope : Scope Name) (env : TypeEnvironment Name) (mode : Mode) (t : TypeId) (s : Shape) (xs : List ℕ) → shape_in shapes t ≡ Some s → IsKnownAt w p shapes n scope env → NamesPlaced w n xs
+own_known : (w : Numbering) (p : KnownDeclarations) (shapes : List Shape) (n : ℕ) (scope : Scope Name) (env : TypeEnvironment Name) (mode : Mode) (t : TypeId) (s : Shape) (xs : List ℕ) → shape_in shapes t ≡ Some s → IsKnownAt w p shapes n scope env → NamesPlaced w n xs
     → ParametersKnown shapes (define_all p (a_variable t) xs).declared n (map (text_at w.source) xs) (map (typed_as mode s) (map (text_at w.source) xs))
 own_known w p shapes n scope env mode t s [] is st placed = tt
 own_known w p shapes n scope env mode t s (x ∷ xs) is st placed =
-    let q : SoFar = define p (a_variable t) x in
+    let q : KnownDeclarations = define p (a_variable t) x in
     let o : meant.Object Shape Signature = meant.a_variable s in
     let d = defined w p shapes n (a_variable t) x st.ordinals st.room st.table placed.0 in
     let next = holds_defined w p q shapes n scope env (a_variable t) (text_at w.source x) o st d refl (s, is, refl) in
     let rest = all_defined w q shapes (suc n) ((text_at w.source x, n) ∷ scope) ((text_at w.source x, o) ∷ env) (a_variable t) xs o next placed.1 refl (s, is, refl) in
     let slot : slice_index_or (define_all q (a_variable t) xs).declared n None ≡ Some (a_variable t) = rest.later.kept n (le_refl (suc n)) ∙ d.here in (
       refl,
-      subst (λ z. MeansAlike (shape_in shapes) z (Some o)) (sym slot) (s, is, refl),
+      subst (λ z. KnownMeaningAgrees (shape_in shapes) z (Some o)) (sym slot) (s, is, refl),
       own_known w q shapes (suc n) ((text_at w.source x, n) ∷ scope) ((text_at w.source x, o) ∷ env) mode t s xs is next placed.1,
     )
 
@@ -122,9 +122,9 @@ pub record OneType (w : Numbering) (n m k l : ℕ) (h g : KnownHeading) (before 
 
 module _ (w : Numbering) (fit : PartsFit) where
   pub one_type : (by : Bool) (xs : List ℕ) (t : Tree ℕ written_type) (k n : ℕ) (h : KnownHeading) (before : List Shape) (scope : Scope Name) (env : TypeEnvironment Name) → length before ≡ k → IsKnownAt w h.following before n scope env → NamesPlaced w n xs → AreSeen w scope t → (reported_type 0 h.following t).faults ≡ []
-      → OneType w n (after_names n xs) k (k + constructors (named w.source t)) h (with_parameters h by xs (reported_type 0 h.following t).known) before (scope_following w n xs scope) env (mode_of by) (map (text_at w.source) xs) (denoted (meanings as_names env) k (named w.source t))
+      → OneType w n (ordinal_after_names n xs) k (k + constructor_count (tree_with_names w.source t)) h (with_parameters h by xs (reported_type 0 h.following t).known) before (scope_following w n xs scope) env (mode_of by) (map (text_at w.source) xs) (denoted (meanings naming_by_spelling env) k (tree_with_names w.source t))
   one_type by xs t k n h before scope env at st placed seen none =
-      let u : TypedAfter = (reported_type 0 h.following t).known in
+      let u : TypeWithState = (reported_type 0 h.following t).known in
       let s = type_denotes w fit n scope env 0 k t h.following before (omega (arith, at)) st seen none in
       let following = holds_later w n n n h.following u.following before s.after scope env (le_refl n) (le_refl n) st s.later in
       let all = all_defined w u.following s.after n scope env (a_variable u.of) xs (meant.a_variable s.shape) following placed refl (s.shape, s.known, refl) in
@@ -142,12 +142,12 @@ module _ (w : Numbering) (fit : PartsFit) where
 
   -- If a section's parameters and the further sections' parameters have types, all of them together do.
   parameters_then : (mode : Mode) (xs : List ℕ) (ns ys : List Name) (n k j m : ℕ) (h g l : KnownHeading) (before : List Shape) (scope : Scope Name) (env : TypeEnvironment Name) (given : Option Shape) (next : TypeEnvironment Name → Option (List (TypedParameter Name))) → ns ≡ map (text_at w.source) xs
-      → (one : OneType w n (after_names n xs) k j h g before (scope_following w n xs scope) env mode (map (text_at w.source) xs) given) → Parameters (after_names n xs) j m g l one.after ys (next (bind_names (map (text_at w.source) xs) (meant.a_variable one.shape) env))
+      → (one : OneType w n (ordinal_after_names n xs) k j h g before (scope_following w n xs scope) env mode (map (text_at w.source) xs) given) → Parameters (ordinal_after_names n xs) j m g l one.after ys (next (bind_names (map (text_at w.source) xs) (meant.a_variable one.shape) env))
       → Parameters n k m h l before (map (text_at w.source) xs ++ ys) (option_and_then (λ s. option_and_then (λ rest. Some (map (typed_as mode s) ns ++ rest)) (next (bind_names ns (meant.a_variable s) env))) given)
   parameters_then mode xs ns ys n k j m h g l before scope env given next e one rest =
       let own : List (TypedParameter Name) = map (typed_as mode one.shape) (map (text_at w.source) xs) in
-      let last : ℕ = after_names n (map (text_at w.source) xs) in
-      let same : last ≡ after_names n xs = after_names-map (text_at w.source) n xs in
+      let last : ℕ = ordinal_after_names n (map (text_at w.source) xs) in
+      let same : last ≡ ordinal_after_names n xs = ordinal_after_names-map (text_at w.source) n xs in
       record {
         parameters = own ++ rest.parameters;
         given_is = ap (option_and_then (λ s. option_and_then (λ rest. Some (map (typed_as mode s) ns ++ rest)) (next (bind_names ns (meant.a_variable s) env)))) one.given_is
@@ -155,7 +155,7 @@ module _ (w : Numbering) (fit : PartsFit) where
             ∙ ap (option_and_then (λ rest. Some (own ++ rest))) rest.given_is;
         after = rest.after;
         apart = apart_then k j m before one.after rest.after one.apart rest.apart;
-        later = later_then n (after_names n xs) h.following g.following l.following before one.after rest.after (le-after_names n xs) one.later rest.later;
+        later = later_then n (ordinal_after_names n xs) h.following g.following l.following before one.after rest.after (le-ordinal_after_names n xs) one.later rest.later;
         own = parameters_both rest.after l.following.declared n (map (text_at w.source) xs) ys own rest.parameters
             (parameters_kept one.after rest.after g.following.declared l.following.declared n last rest.later.longer (λ j from to. rest.later.kept j (subst (λ m. j < m) same to)) (map (text_at w.source) xs) own (le_refl last) one.own)
             (subst (λ m. ParametersKnown rest.after l.following.declared m ys rest.parameters) (sym same) rest.own);
@@ -164,7 +164,7 @@ module _ (w : Numbering) (fit : PartsFit) where
       }
 
   pub sections_declare : (fs : Tree ℕ (items further_section)) (k n : ℕ) (h : KnownHeading) (before : List Shape) (scope : Scope Name) (env : TypeEnvironment Name) → length before ≡ k → IsKnownAt w h.following before n scope env → SectionsPlaced w scope n fs → (reported_sections h fs).faults ≡ []
-      → Parameters n k (k + formals_constructors (named w.source fs)) h (reported_sections h fs).known before (map (text_at w.source) (formal_names fs)) (typed_parameters as_names env k (named w.source fs))
+      → Parameters n k (k + formals_constructor_count (tree_with_names w.source fs)) h (reported_sections h fs).known before (map (text_at w.source) (formal_names fs)) (typed_parameters naming_by_spelling env k (tree_with_names w.source fs))
   unfolding reported_sections reported_section reported_parameters typed_parameters
   sections_declare end k n h before scope env at st placed none = record {
     parameters = [];
@@ -176,26 +176,26 @@ module _ (w : Numbering) (fit : PartsFit) where
     formals = λ signature agree. subst (FormalsAgree (shape_in before) h.formals) (sym (append-nil signature)) agree;
   }
   sections_declare (more (then_section (value_section ns t)) fs) k n h before scope env at st placed none =
-      let xs : List ℕ = names_listed ns in
-      let u : Reported TypedAfter = reported_type 0 h.following t in
+      let xs : List ℕ = names_in_list ns in
+      let u : Reported TypeWithState = reported_type 0 h.following t in
       let g : KnownHeading = with_parameters h false xs u.known in
       let a = none-reported (u.faults ++ []) (reported_sections g fs).faults none in
       let one = one_type false xs t k n h before scope env at st placed.0 placed.1 (none-reported u.faults [] a.0).0 in
-      let rest = sections_declare fs (k + constructors (named w.source t)) (after_names n xs) g one.after (scope_following w n xs scope) (bind_names (map (text_at w.source) xs) (meant.a_variable one.shape) env) (omega (arith, at, one.apart.counted)) one.holds placed.2 a.1 in
-      let own : ℕ = constructors (named w.source t) in
-      let others : ℕ = formals_constructors (named w.source fs) in
-      subst₂ (λ l ys. Parameters n k l h (reported_sections g fs).known before ys (typed_parameters as_names env k (named w.source (more (then_section (value_section ns t)) fs)))) (more_constructors k own others) (sym (map-append (text_at w.source) xs (formal_names fs)))
-      (parameters_then by_value xs (names_listed (named w.source ns)) (map (text_at w.source) (formal_names fs)) n k (k + own) (k + own + others) h g (reported_sections g fs).known before scope env (denoted (meanings as_names env) k (named w.source t))
-      (λ e. typed_parameters as_names e (k + constructors (named w.source t)) (named w.source fs)) (names_listed-mapped (text_at w.source) (value_at w.source) ns) one rest)
+      let rest = sections_declare fs (k + constructor_count (tree_with_names w.source t)) (ordinal_after_names n xs) g one.after (scope_following w n xs scope) (bind_names (map (text_at w.source) xs) (meant.a_variable one.shape) env) (omega (arith, at, one.apart.counted)) one.holds placed.2 a.1 in
+      let own : ℕ = constructor_count (tree_with_names w.source t) in
+      let others : ℕ = formals_constructor_count (tree_with_names w.source fs) in
+      subst₂ (λ l ys. Parameters n k l h (reported_sections g fs).known before ys (typed_parameters naming_by_spelling env k (tree_with_names w.source (more (then_section (value_section ns t)) fs)))) (more_constructors k own others) (sym (map-append (text_at w.source) xs (formal_names fs)))
+      (parameters_then by_value xs (names_in_list (tree_with_names w.source ns)) (map (text_at w.source) (formal_names fs)) n k (k + own) (k + own + others) h g (reported_sections g fs).known before scope env (denoted (meanings naming_by_spelling env) k (tree_with_names w.source t))
+      (λ e. typed_parameters naming_by_spelling e (k + constructor_count (tree_with_names w.source t)) (tree_with_names w.source fs)) (names_in_list-mapped (text_at w.source) (value_at w.source) ns) one rest)
   sections_declare (more (then_section (variable_section ns t)) fs) k n h before scope env at st placed none =
-      let xs : List ℕ = names_listed ns in
-      let u : Reported TypedAfter = reported_type 0 h.following t in
+      let xs : List ℕ = names_in_list ns in
+      let u : Reported TypeWithState = reported_type 0 h.following t in
       let g : KnownHeading = with_parameters h true xs u.known in
       let a = none-reported (u.faults ++ []) (reported_sections g fs).faults none in
       let one = one_type true xs t k n h before scope env at st placed.0 placed.1 (none-reported u.faults [] a.0).0 in
-      let rest = sections_declare fs (k + constructors (named w.source t)) (after_names n xs) g one.after (scope_following w n xs scope) (bind_names (map (text_at w.source) xs) (meant.a_variable one.shape) env) (omega (arith, at, one.apart.counted)) one.holds placed.2 a.1 in
-      let own : ℕ = constructors (named w.source t) in
-      let others : ℕ = formals_constructors (named w.source fs) in
-      subst₂ (λ l ys. Parameters n k l h (reported_sections g fs).known before ys (typed_parameters as_names env k (named w.source (more (then_section (variable_section ns t)) fs)))) (more_constructors k own others) (sym (map-append (text_at w.source) xs (formal_names fs)))
-      (parameters_then by_place xs (names_listed (named w.source ns)) (map (text_at w.source) (formal_names fs)) n k (k + own) (k + own + others) h g (reported_sections g fs).known before scope env (denoted (meanings as_names env) k (named w.source t))
-      (λ e. typed_parameters as_names e (k + constructors (named w.source t)) (named w.source fs)) (names_listed-mapped (text_at w.source) (value_at w.source) ns) one rest)
+      let rest = sections_declare fs (k + constructor_count (tree_with_names w.source t)) (ordinal_after_names n xs) g one.after (scope_following w n xs scope) (bind_names (map (text_at w.source) xs) (meant.a_variable one.shape) env) (omega (arith, at, one.apart.counted)) one.holds placed.2 a.1 in
+      let own : ℕ = constructor_count (tree_with_names w.source t) in
+      let others : ℕ = formals_constructor_count (tree_with_names w.source fs) in
+      subst₂ (λ l ys. Parameters n k l h (reported_sections g fs).known before ys (typed_parameters naming_by_spelling env k (tree_with_names w.source (more (then_section (variable_section ns t)) fs)))) (more_constructors k own others) (sym (map-append (text_at w.source) xs (formal_names fs)))
+      (parameters_then by_place xs (names_in_list (tree_with_names w.source ns)) (map (text_at w.source) (formal_names fs)) n k (k + own) (k + own + others) h g (reported_sections g fs).known before scope env (denoted (meanings naming_by_spelling env) k (tree_with_names w.source t))
+      (λ e. typed_parameters naming_by_spelling e (k + constructor_count (tree_with_names w.source t)) (tree_with_names w.source fs)) (names_in_list-mapped (text_at w.source) (value_at w.source) ns) one rest)

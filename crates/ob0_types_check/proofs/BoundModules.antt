@@ -2,21 +2,21 @@
 -- spelling is bound in no environment (`only-written`). So the proof needs no invariant.
 use Rattle.std.proofs.Common.{◌≡◌, ℕ, ◌+◌, true, false, ◌&&◌, List, [], ◌∷◌, ◌++◌, map, Some, None, option_and_then, if◌then◌else◌, refl, sym, ap, ◌∙◌}
 use Rattle.std.proofs.lemmas.Bool.{and_parts}
-use Rattle.ob0_scan.specs.declared.fault.Code.TheVariants as code
-use Rattle.ob0_scan.specs.Scanned.{Scanned}
-use Rattle.ob0_tree.specs.Parsed.{named_tree_of, tree_of}
+use Rattle.ob0_scan.specs.declared.fault.FaultCode.TheVariants as code
+use Rattle.ob0_scan.specs.TextWithTokens.{TextWithTokens}
+use Rattle.ob0_tree.specs.ParsedModule.{named_tree_of, tree_of}
 use Rattle.ob0_tree.specs.Tree.{Tree, begins, block, body, constant, constants, declares, declares_constant, declares_constants, declares_procedure, declares_type, declares_types, declares_variable, declares_variables, end, formals, further_section, has_body, is_module, item, items, maybe, module_text, more, no_formals, none, occurrences, one, procedure, section, some_formals, then_section, type_name, type_names, value_section, variable, variable_section, variables}
-use Rattle.ob0_language_names.specs.Names.{Label, Naming, as_labels, as_written, declared}
+use Rattle.ob0_language_names.specs.Names.{Label, Naming, naming_by_label, as_written, declared}
 use Rattle.ob0_language_names.specs.Occurrences.{bindings}
-use Rattle.ob0_language_names.specs.Parts.{formal_sections, names_listed, procedure_formals, procedure_name, section_constants, section_names, section_type, section_types, section_variables}
-use Rattle.ob0_scope_table.specs.Resolution.{is_unbound, span_at, unbound_at}
+use Rattle.ob0_language_names.specs.Parts.{formal_sections, names_in_list, procedure_formals, procedure_name, section_constants, section_names, section_type, section_types, section_variables}
+use Rattle.ob0_scope_table.specs.Resolution.{is_unbound, span_at, undeclared_faults_by_labels}
 use Rattle.ob0_language_names.specs.Scopes.{numbered}
-use Rattle.ob0_language_types.specs.Declarations.{after_types, after_variables, declare_constants, declare_first, declare_types, formals_constructors, procedure_constructors}
-use Rattle.ob0_language_types.specs.Environments.{from_binding, meanings, newest, outermost}
+use Rattle.ob0_language_types.specs.Declarations.{constructor_after_types, constructor_after_variables, declare_constants, declare_first, declare_types, formals_constructor_count, procedure_constructor_count}
+use Rattle.ob0_language_types.specs.Environments.{environment_from_binding, meanings, newest_object, outermost}
 use Rattle.ob0_language_types.specs.Expressions.{Object, a_constant, a_type, a_variable}
-use Rattle.ob0_language_types.specs.Typing.{constant_value, constructors, denoted}
-use Rattle.ob0_language_types.specs.WellTyped.{Signature, TypeEnvironment, TypedParameter, bind_names, bind_typed, block_fits, body_fits, declare_typed, fits_over, heading, procedure_fits, procedures_fit, section_mode, typed_parameters}
-use Rattle.ob0_language_types.proofs.Proved.{fits_by_ordinal-holds}
+use Rattle.ob0_language_types.specs.Typing.{constant_value, constructor_count, denoted}
+use Rattle.ob0_language_types.specs.WellTyped.{Signature, TypeEnvironment, TypedParameter, bind_names, bind_typed_parameters, block_fits, body_fits, declare_typed, fits_over, bind_procedure, procedure_fits, procedures_fit, section_mode, typed_parameters}
+use Rattle.ob0_language_types.proofs.Proved.{numbering_keeps_type_check-holds}
 use Rattle.ob0_language_types.proofs.Conditions.{hold-true}
 use Rattle.ob0_language_values.specs.Values.{Shape}
 use Rattle.ob0_types_check.specs.WellTypedLaws.{NamesBound}
@@ -24,7 +24,7 @@ use Rattle.ob0_types_check.proofs.BoundParts.{each-of-both, sequence-bound, type
 use Rattle.ob0_types_check.proofs.DeclaredNames.{Each}
 use Rattle.ob0_types_check.proofs.TypedOperands.{and-then}
 
-module _ {N : Type 0} (P : N → Type 0) (naming : Naming N) (bound : (env : TypeEnvironment N) (x : N) (o : Object Shape Signature) → newest (from_binding naming env x) ≡ Some o → P x) where
+module _ {N : Type 0} (P : N → Type 0) (naming : Naming N) (bound : (env : TypeEnvironment N) (x : N) (o : Object Shape Signature) → newest_object (environment_from_binding naming env x) ≡ Some o → P x) where
   constants-bound : (cs : Tree N (items constant)) (env after : TypeEnvironment N) → declare_constants naming env cs ≡ Some after → Each P (occurrences cs)
   unfolding declare_constants
   constants-bound end env after h = tt
@@ -36,16 +36,16 @@ module _ {N : Type 0} (P : N → Type 0) (naming : Naming N) (bound : (env : Typ
   unfolding declare_types
   types-bound end k env after h = tt
   types-bound (more (declares_type x u) ds) k env after h =
-      let (s, hs, later) = and-then (λ s. declare_types naming ((x, a_type s) ∷ env) (k + constructors u) ds) (denoted (meanings naming env) k u) after h in
-      each-of-both P (occurrences u) (occurrences ds) (type-bound P (meanings naming env) (bound env) k u s hs) (types-bound ds (k + constructors u) ((x, a_type s) ∷ env) after later)
+      let (s, hs, later) = and-then (λ s. declare_types naming ((x, a_type s) ∷ env) (k + constructor_count u) ds) (denoted (meanings naming env) k u) after h in
+      each-of-both P (occurrences u) (occurrences ds) (type-bound P (meanings naming env) (bound env) k u s hs) (types-bound ds (k + constructor_count u) ((x, a_type s) ∷ env) after later)
 
   variables-bound : (gs : Tree N (items variable)) (k : ℕ) (env after : TypeEnvironment N) → declare_typed naming k gs env ≡ Some after → Each P (occurrences gs)
   unfolding declare_typed
   variables-bound end k env after h = tt
   variables-bound (more (declares_variable ns u) gs) k env after h =
-      let (s, hs, later) = and-then (λ s. declare_typed naming (k + constructors u) gs (bind_names (names_listed ns) (a_variable s) env)) (denoted (meanings naming env) k u) after h in
+      let (s, hs, later) = and-then (λ s. declare_typed naming (k + constructor_count u) gs (bind_names (names_in_list ns) (a_variable s) env)) (denoted (meanings naming env) k u) after h in
       each-of-both P (occurrences u) (occurrences gs) (type-bound P (meanings naming env) (bound env) k u s hs)
-      (variables-bound gs (k + constructors u) (bind_names (names_listed ns) (a_variable s) env) after later)
+      (variables-bound gs (k + constructor_count u) (bind_names (names_in_list ns) (a_variable s) env) after later)
 
   section-bound : (f : Tree N section) → Each P (occurrences (section_type f)) → Each P (occurrences f)
   section-bound (value_section ns t) h = h
@@ -57,10 +57,10 @@ module _ {N : Type 0} (P : N → Type 0) (naming : Naming N) (bound : (env : Typ
   sections-bound (more (then_section f) fs) k env ps h =
       let inner : Shape → TypeEnvironment N = λ s. bind_names (section_names f) (a_variable s) env in
       let own : Shape → List (TypedParameter N) = λ s. map (λ x. record { name = x; formal = record { mode = section_mode f; shape = s } }) (section_names f) in
-      let (s, hs, later) = and-then (λ s. option_and_then (λ rest. Some (own s ++ rest)) (typed_parameters naming (inner s) (k + constructors (section_type f)) fs)) (denoted (meanings naming env) k (section_type f)) ps h in
-      let (rest, hr, last) = and-then (λ rest. Some (own s ++ rest)) (typed_parameters naming (inner s) (k + constructors (section_type f)) fs) ps later in
+      let (s, hs, later) = and-then (λ s. option_and_then (λ rest. Some (own s ++ rest)) (typed_parameters naming (inner s) (k + constructor_count (section_type f)) fs)) (denoted (meanings naming env) k (section_type f)) ps h in
+      let (rest, hr, last) = and-then (λ rest. Some (own s ++ rest)) (typed_parameters naming (inner s) (k + constructor_count (section_type f)) fs) ps later in
       each-of-both P (occurrences f) (occurrences fs) (section-bound f (type-bound P (meanings naming env) (bound env) k (section_type f) s hs))
-      (sections-bound fs (k + constructors (section_type f)) (inner s) rest hr)
+      (sections-bound fs (k + constructor_count (section_type f)) (inner s) rest hr)
 
   -- If each name of a section has a property, so does each name of the section as an optional part.
   constant-section : (cs : Tree N (maybe constants)) → Each P (occurrences (section_constants cs)) → Each P (occurrences cs)
@@ -91,49 +91,49 @@ module _ {N : Type 0} (P : N → Type 0) (naming : Naming N) (bound : (env : Typ
     pub block-bound : (b : Tree N block) (k : ℕ) (env : TypeEnvironment N) → block_fits naming env k b ≡ true → Each P (occurrences b)
     block-bound (has_body (declares cs ts vs ps) statements) k env h =
         let b : Tree N block = has_body (declares cs ts vs ps) statements in
-        let (inner, whole, fitting) = hold-true (option_and_then (declare_typed naming (after_types k b) (section_variables vs)) (declare_first naming env k b)) (λ inner. procedures_fit naming inner (after_variables k b) statements ps) h in
-        let (first, hf, hv) = and-then (declare_typed naming (after_types k b) (section_variables vs)) (declare_first naming env k b) inner whole in
+        let (inner, whole, fitting) = hold-true (option_and_then (declare_typed naming (constructor_after_types k b) (section_variables vs)) (declare_first naming env k b)) (λ inner. procedures_fit naming inner (constructor_after_variables k b) statements ps) h in
+        let (first, hf, hv) = and-then (declare_typed naming (constructor_after_types k b) (section_variables vs)) (declare_first naming env k b) inner whole in
         let (first_env, hc, ht) = and-then (λ with_constants. declare_types naming with_constants k (section_types ts)) (declare_constants naming env (section_constants cs)) first hf in
-        let rest = procedures-bound ps statements (after_variables k b) inner fitting in
+        let rest = procedures-bound ps statements (constructor_after_variables k b) inner fitting in
         each-of-both P (occurrences cs ++ (occurrences ts ++ (occurrences vs ++ occurrences ps))) (occurrences statements)
         (each-of-both P (occurrences cs) (occurrences ts ++ (occurrences vs ++ occurrences ps)) (constant-section cs (constants-bound (section_constants cs) env first_env hc))
         (each-of-both P (occurrences ts) (occurrences vs ++ occurrences ps) (type-section ts (types-bound (section_types ts) k first_env first ht))
-        (each-of-both P (occurrences vs) (occurrences ps) (variable-section vs (variables-bound (section_variables vs) (after_types k b) first inner hv)) rest.0))) rest.1
+        (each-of-both P (occurrences vs) (occurrences ps) (variable-section vs (variables-bound (section_variables vs) (constructor_after_types k b) first inner hv)) rest.0))) rest.1
 
     procedures-bound : (ps : Tree N (items procedure)) (statements : Tree N (maybe body)) (k : ℕ) (env : TypeEnvironment N) → procedures_fit naming env k statements ps ≡ true → Each P (occurrences ps) × Each P (occurrences statements)
     procedures-bound end statements k env h = (tt, body-bound statements env h)
     procedures-bound (more p rest) statements k env h =
-        let (ps, hp, fit) = hold-true (typed_parameters naming env k (procedure_formals p)) (λ ps. procedure_fits naming (bind_typed ps (heading (procedure_name p) ps env)) k p && procedures_fit naming (heading (procedure_name p) ps env) (k + procedure_constructors p) statements rest) h in
-        let parts = and_parts (procedure_fits naming (bind_typed ps (heading (procedure_name p) ps env)) k p) _ fit in
-        let others = procedures-bound rest statements (k + procedure_constructors p) (heading (procedure_name p) ps env) parts.1 in
-        (each-of-both P (occurrences p) (occurrences rest) (procedure-bound p k (bind_typed ps (heading (procedure_name p) ps env)) (sections-bound (procedure_formals p) k env ps hp) parts.0) others.0, others.1)
+        let (ps, hp, fit) = hold-true (typed_parameters naming env k (procedure_formals p)) (λ ps. procedure_fits naming (bind_typed_parameters ps (bind_procedure (procedure_name p) ps env)) k p && procedures_fit naming (bind_procedure (procedure_name p) ps env) (k + procedure_constructor_count p) statements rest) h in
+        let parts = and_parts (procedure_fits naming (bind_typed_parameters ps (bind_procedure (procedure_name p) ps env)) k p) _ fit in
+        let others = procedures-bound rest statements (k + procedure_constructor_count p) (bind_procedure (procedure_name p) ps env) parts.1 in
+        (each-of-both P (occurrences p) (occurrences rest) (procedure-bound p k (bind_typed_parameters ps (bind_procedure (procedure_name p) ps env)) (sections-bound (procedure_formals p) k env ps hp) parts.0) others.0, others.1)
 
     procedure-bound : (p : Tree N (item procedure)) (k : ℕ) (env : TypeEnvironment N) → Each P (occurrences (procedure_formals p)) → procedure_fits naming env k p ≡ true → Each P (occurrences p)
     procedure-bound (declares_procedure x fs b closing) k env own h =
-        each-of-both P (occurrences fs) (occurrences b) (formal-section fs own) (block-bound b (k + formals_constructors (formal_sections fs)) env h)
+        each-of-both P (occurrences fs) (occurrences b) (formal-section fs own) (block-bound b (k + formals_constructor_count (formal_sections fs)) env h)
 
 -- A label that has only a spelling is bound in no environment of labels.
-only-written : (env : TypeEnvironment Label) (x : List ℕ) → newest (from_binding as_labels env (as_written x)) ≡ None
+only-written : (env : TypeEnvironment Label) (x : List ℕ) → newest_object (environment_from_binding naming_by_label env (as_written x)) ≡ None
 only-written [] x = refl
 only-written ((declared k, o) ∷ env) x = only-written env x
 only-written ((as_written y, o) ∷ env) x = only-written env x
 
-label-bound : (env : TypeEnvironment Label) (x : Label) (o : Object Shape Signature) → newest (from_binding as_labels env x) ≡ Some o → is_unbound x ≡ false
+label-bound : (env : TypeEnvironment Label) (x : Label) (o : Object Shape Signature) → newest_object (environment_from_binding naming_by_label env x) ≡ Some o → is_unbound x ≡ false
 label-bound env (declared k) o h = refl
 label-bound env (as_written x) o h = let no : None ≡ Some o = sym (only-written env x) ∙ h in absurd (cc)
 
-pub labels-bound : (m : Tree Label module_text) → fits_over as_labels m ≡ true → Each (λ x. is_unbound x ≡ false) (occurrences m)
+pub labels-bound : (m : Tree Label module_text) → fits_over naming_by_label m ≡ true → Each (λ x. is_unbound x ≡ false) (occurrences m)
 unfolding fits_over
-labels-bound (is_module x b closing) h = block-bound (λ x. is_unbound x ≡ false) as_labels label-bound b 0 (outermost as_labels) h
+labels-bound (is_module x b closing) h = block-bound (λ x. is_unbound x ≡ false) naming_by_label label-bound b 0 (outermost naming_by_label) h
 
-none-unbound : (source : Scanned) (tokens : List ℕ) (labels : List Label) → Each (λ x. is_unbound x ≡ false) labels → unbound_at source tokens labels ≡ []
+none-unbound : (source : TextWithTokens) (tokens : List ℕ) (labels : List Label) → Each (λ x. is_unbound x ≡ false) labels → undeclared_faults_by_labels source tokens labels ≡ []
 none-unbound source [] labels h = refl
 none-unbound source (token ∷ tokens) [] h = refl
 none-unbound source (token ∷ tokens) (label ∷ labels) h =
-    ap (λ b. if b then record { code = code.Undeclared; span = span_at source token } ∷ unbound_at source tokens labels else unbound_at source tokens labels) h.0 ∙ none-unbound source tokens labels h.1
+    ap (λ b. if b then record { code = code.Undeclared; span = span_at source token } ∷ undeclared_faults_by_labels source tokens labels else undeclared_faults_by_labels source tokens labels) h.0 ∙ none-unbound source tokens labels h.1
 
 pub names_bound-holds : NamesBound
 names_bound-holds r is h =
     let m = r.module_read in
     is.reported.undeclared
-    ∙ none-unbound m.source (occurrences (tree_of m)) (bindings (named_tree_of m)) (labels-bound (numbered (named_tree_of m)) (sym (fits_by_ordinal-holds (named_tree_of m)) ∙ h))
+    ∙ none-unbound m.source (occurrences (tree_of m)) (bindings (named_tree_of m)) (labels-bound (numbered (named_tree_of m)) (sym (numbering_keeps_type_check-holds (named_tree_of m)) ∙ h))

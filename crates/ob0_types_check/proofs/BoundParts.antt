@@ -2,13 +2,13 @@
 -- well-typed statements.
 use Rattle.std.proofs.Common.{◌≡◌, ℕ, suc, ◌+◌, true, true≢false, List, [], ◌∷◌, ◌++◌, map, Option, Some, None, option_map, option_and_then, refl, sym, ◌∙◌}
 use Rattle.std.proofs.lemmas.Bool.{and_parts}
-use Rattle.ob0_language_names.specs.Parts.{names_listed}
+use Rattle.ob0_language_names.specs.Parts.{names_in_list}
 use Rattle.ob0_tree.specs.Tree.{Tree, addend, adds, arguments, array_type, assigns, branches, calls, compares, designator, else_branch, else_part, elsif_branch, elsif_part, empty, end, expression, factor, field, fields, further_argument, further_fields, further_statement, index, integer, items, maybe, more, multiplier, multiplies, named_type, negation, no_arguments, no_fields, none, occurrences, one, parenthesised, product, record_type, relates, repeat_loop, runs, selector, sequence, simple, some_arguments, some_fields, statement, sum, term, then_argument, then_fields, then_statement, while_loop, written_type}
 use Rattle.ob0_language_types.specs.Arguments.{arguments_listed, further_arguments}
 use Rattle.ob0_language_types.specs.Expressions.{Meanings, Object, a_constant, a_procedure, a_standard, a_type, a_variable, evaluate}
-use Rattle.ob0_language_types.specs.Typing.{add_type, array_length, complement_type, constant_of, constant_value, constants_only, denoted, denoted_group, denoted_groups, lone_designator, element_type, field_type, given_value, group_constructors, multiply_type, object_type, relation_type, sign_type, type_at, type_of, type_of_addends, type_of_factor, type_of_multipliers, type_of_name, type_of_simple, type_of_term, with_fields, within_limits}
-use Rattle.ob0_language_types.specs.WellTyped.{Formal, Mode, Signature, Typed, agree, argument_fits, arguments_fit, by_place, by_value, call_fits, condition_fits, else_fits, elsifs_fit, sequence_fits, signature_of, statement_fits, statements_fit, variable_type}
-use Rattle.ob0_language_types.proofs.Conditions.{agree-true}
+use Rattle.ob0_language_types.specs.Typing.{addition_type, array_length, negation_type, constant_of, constant_value, constant_meanings, denoted, denoted_group, denoted_groups, lone_designator, element_type, field_type, outcome_value, group_constructor_count, multiplication_type, object_type, relation_type, sign_type, type_at, type_of, type_of_addends, type_of_factor, type_of_multipliers, type_of_name, type_of_simple, type_of_term, prepend_fields, check_limits}
+use Rattle.ob0_language_types.specs.WellTyped.{FormalParameter, Mode, Signature, TypeMeanings, same_known_shape, argument_fits, arguments_fit, by_place, by_value, call_fits, condition_fits, else_fits, elsifs_fit, sequence_fits, signature_of, statement_fits, statements_fit, variable_type}
+use Rattle.ob0_language_types.proofs.Conditions.{same_known_shape-true}
 use Rattle.ob0_language_values.specs.Values.{FieldShapes, Shape, Value, array_shape, boolean_shape, record_shape}
 use Rattle.ob0_types_check.proofs.DeclaredNames.{Each}
 use Rattle.ob0_types_check.proofs.TypedOperands.{and-then}
@@ -43,8 +43,8 @@ module _ {N Q : Type 0} (P : N → Type 0) (meaning : Meanings N Shape Q) (bound
     addends-bound : (x : Shape) (rest : Tree N (items addend)) (s : Shape) → type_of_addends meaning x rest ≡ Some s → Each P (occurrences rest)
     addends-bound x end s h = tt
     addends-bound x (more (adds o t) rest) s h =
-        let (u, hu, later) = and-then (λ y. option_and_then (λ z. type_of_addends meaning z rest) (add_type o x y)) (type_of_term meaning t) s h in
-        let (v, hv, last) = and-then (λ z. type_of_addends meaning z rest) (add_type o x u) s later in
+        let (u, hu, later) = and-then (λ y. option_and_then (λ z. type_of_addends meaning z rest) (addition_type o x y)) (type_of_term meaning t) s h in
+        let (v, hv, last) = and-then (λ z. type_of_addends meaning z rest) (addition_type o x u) s later in
         each-of-both P (occurrences t) (occurrences rest) (term-bound t u hu) (addends-bound v rest s last)
 
     term-bound : (t : Tree N term) (s : Shape) → type_of_term meaning t ≡ Some s → Each P (occurrences t)
@@ -55,8 +55,8 @@ module _ {N Q : Type 0} (P : N → Type 0) (meaning : Meanings N Shape Q) (bound
     multipliers-bound : (x : Shape) (rest : Tree N (items multiplier)) (s : Shape) → type_of_multipliers meaning x rest ≡ Some s → Each P (occurrences rest)
     multipliers-bound x end s h = tt
     multipliers-bound x (more (multiplies o f) rest) s h =
-        let (u, hu, later) = and-then (λ y. option_and_then (λ z. type_of_multipliers meaning z rest) (multiply_type o x y)) (type_of_factor meaning f) s h in
-        let (v, hv, last) = and-then (λ z. type_of_multipliers meaning z rest) (multiply_type o x u) s later in
+        let (u, hu, later) = and-then (λ y. option_and_then (λ z. type_of_multipliers meaning z rest) (multiplication_type o x y)) (type_of_factor meaning f) s h in
+        let (v, hv, last) = and-then (λ z. type_of_multipliers meaning z rest) (multiplication_type o x u) s later in
         each-of-both P (occurrences f) (occurrences rest) (factor-bound f u hu) (multipliers-bound v rest s last)
 
     factor-bound : (f : Tree N factor) (s : Shape) → type_of_factor meaning f ≡ Some s → Each P (occurrences f)
@@ -66,7 +66,7 @@ module _ {N Q : Type 0} (P : N → Type 0) (meaning : Meanings N Shape Q) (bound
         (bound x o ho, selectors-bound u path s last)
     factor-bound (integer n) s h = tt
     factor-bound (parenthesised e) s h = expression-bound e s h
-    factor-bound (negation f) s h = let (u, hu, last) = and-then complement_type (type_of_factor meaning f) s h in factor-bound f u hu
+    factor-bound (negation f) s h = let (u, hu, last) = and-then negation_type (type_of_factor meaning f) s h in factor-bound f u hu
 
     pub selectors-bound : (s : Shape) (path : Tree N (items selector)) (r : Shape) → type_at meaning s path ≡ Some r → Each P (occurrences path)
     selectors-bound s end r h = tt
@@ -79,15 +79,15 @@ module _ {N Q : Type 0} (P : N → Type 0) (meaning : Meanings N Shape Q) (bound
         each-of-both P (occurrences e) (occurrences rest) (expression-bound e u hu) (selectors-bound v rest r last)
 
 module _ {N V Q : Type 0} (P : N → Type 0) (meaning : Meanings N V Q) (bound : (x : N) (o : Object V Q) → meaning.object_for x ≡ Some o → P x) where
-  constant-bound : (R : Type 0) (x : N) (o : Object Shape R) → (constants_only {W = Shape} {Q = R} meaning).object_for x ≡ Some o → P x
+  constant-bound : (R : Type 0) (x : N) (o : Object Shape R) → (constant_meanings {W = Shape} {Q = R} meaning).object_for x ≡ Some o → P x
   constant-bound R x o h =
       let (p, hp) = name-of (λ m. option_map {U = Object Shape R} a_constant (constant_of m)) refl (meaning.object_for x) o h in bound x p hp
 
   pub value-bound : (e : Tree N expression) (v : Value) → constant_value meaning e ≡ Some v → Each P (occurrences e)
   unfolding constant_value
   value-bound e v h =
-      let (s, hs, given) = and-then (λ s. given_value (evaluate {P = Unit {0}} (constants_only meaning) [] e)) (type_of {P = Unit {0}} (constants_only meaning) e) v h in
-      expression-bound P (constants_only {W = Shape} {Q = Unit {0}} meaning) (constant-bound (Unit {0})) e s hs
+      let (s, hs, given) = and-then (λ s. outcome_value (evaluate {P = Unit {0}} (constant_meanings meaning) [] e)) (type_of {P = Unit {0}} (constant_meanings meaning) e) v h in
+      expression-bound P (constant_meanings {W = Shape} {Q = Unit {0}} meaning) (constant-bound (Unit {0})) e s hs
 
   mutual
     unfolding denoted
@@ -95,30 +95,30 @@ module _ {N V Q : Type 0} (P : N → Type 0) (meaning : Meanings N V Q) (bound :
     pub type-bound : (k : ℕ) (t : Tree N written_type) (s : Shape) → denoted meaning k t ≡ Some s → Each P (occurrences t)
     type-bound k (named_type x) s h = let (o, ho) = name-of type_of_name refl (meaning.object_for x) s h in (bound x o ho, tt)
     type-bound k (array_type e t) s h =
-        let (v, hv, later) = and-then (λ v. option_and_then (λ n. option_and_then (λ s. within_limits (array_shape k n s)) (denoted meaning (suc k) t)) (array_length v)) (constant_value meaning e) s h in
-        let (n, hn, last) = and-then (λ n. option_and_then (λ s. within_limits (array_shape k n s)) (denoted meaning (suc k) t)) (array_length v) s later in
-        let (u, hu, limits) = and-then (λ s. within_limits (array_shape k n s)) (denoted meaning (suc k) t) s last in
+        let (v, hv, later) = and-then (λ v. option_and_then (λ n. option_and_then (λ s. check_limits (array_shape k n s)) (denoted meaning (suc k) t)) (array_length v)) (constant_value meaning e) s h in
+        let (n, hn, last) = and-then (λ n. option_and_then (λ s. check_limits (array_shape k n s)) (denoted meaning (suc k) t)) (array_length v) s later in
+        let (u, hu, limits) = and-then (λ s. check_limits (array_shape k n s)) (denoted meaning (suc k) t) s last in
         each-of-both P (occurrences e) (occurrences t) (value-bound e v hv) (type-bound (suc k) t u hu)
     type-bound k (record_type g rest) s h =
-        let (later, hl, last) = and-then (λ later. option_and_then (λ fs. within_limits (record_shape k fs)) (denoted_group meaning (suc k) later g)) (denoted_groups meaning (suc k + group_constructors g) rest) s h in
-        let (fs, hf, limits) = and-then (λ fs. within_limits (record_shape k fs)) (denoted_group meaning (suc k) later g) s last in
-        each-of-both P (occurrences g) (occurrences rest) (group-bound (suc k) later g fs hf) (groups-bound (suc k + group_constructors g) rest later hl)
+        let (later, hl, last) = and-then (λ later. option_and_then (λ fs. check_limits (record_shape k fs)) (denoted_group meaning (suc k) later g)) (denoted_groups meaning (suc k + group_constructor_count g) rest) s h in
+        let (fs, hf, limits) = and-then (λ fs. check_limits (record_shape k fs)) (denoted_group meaning (suc k) later g) s last in
+        each-of-both P (occurrences g) (occurrences rest) (group-bound (suc k) later g fs hf) (groups-bound (suc k + group_constructor_count g) rest later hl)
 
     group-bound : (k : ℕ) (later : FieldShapes) (g : Tree N fields) (fs : FieldShapes) → denoted_group meaning k later g ≡ Some fs → Each P (occurrences g)
     group-bound k later no_fields fs h = tt
     group-bound k later (some_fields ns t) fs h =
-        let (s, hs, last) = and-then (λ s. Some (with_fields (map meaning.written (names_listed ns)) s later)) (denoted meaning k t) fs h in type-bound k t s hs
+        let (s, hs, last) = and-then (λ s. Some (prepend_fields (map meaning.written (names_in_list ns)) s later)) (denoted meaning k t) fs h in type-bound k t s hs
 
     groups-bound : (k : ℕ) (gs : Tree N (items further_fields)) (fs : FieldShapes) → denoted_groups meaning k gs ≡ Some fs → Each P (occurrences gs)
     groups-bound k end fs h = tt
     groups-bound k (more (then_fields g) rest) fs h =
-        let (later, hl, last) = and-then (λ later. denoted_group meaning k later g) (denoted_groups meaning (k + group_constructors g) rest) fs h in
-        each-of-both P (occurrences g) (occurrences rest) (group-bound k later g fs last) (groups-bound (k + group_constructors g) rest later hl)
+        let (later, hl, last) = and-then (λ later. denoted_group meaning k later g) (denoted_groups meaning (k + group_constructor_count g) rest) fs h in
+        each-of-both P (occurrences g) (occurrences rest) (group-bound k later g fs last) (groups-bound (k + group_constructor_count g) rest later hl)
 
-module _ {N : Type 0} (P : N → Type 0) (meaning : Typed N) (bound : (x : N) (o : Object Shape Signature) → meaning.object_for x ≡ Some o → P x) where
+module _ {N : Type 0} (P : N → Type 0) (meaning : TypeMeanings N) (bound : (x : N) (o : Object Shape Signature) → meaning.object_for x ≡ Some o → P x) where
   condition-bound : (e : Tree N expression) → condition_fits meaning e ≡ true → Each P (occurrences e)
   unfolding condition_fits
-  condition-bound e h = let (s, truth, typed) = agree-true (Some boolean_shape) (type_of meaning e) h in expression-bound P meaning bound e s typed
+  condition-bound e h = let (s, truth, typed) = same_known_shape-true (Some boolean_shape) (type_of meaning e) h in expression-bound P meaning bound e s typed
 
   variable-bound : (x : N) (path : Tree N (items selector)) (s : Shape) → variable_type meaning (Some (x, path)) ≡ Some s → P x × Each P (occurrences path)
   unfolding variable_type
@@ -146,13 +146,13 @@ module _ {N : Type 0} (P : N → Type 0) (meaning : Typed N) (bound : (x : N) (o
       let parts = variable-bound x path s h in
       (parts.0, each-of-both P ((occurrences path ++ []) ++ []) [] (each-of-both P (occurrences path ++ []) [] (each-of-both P (occurrences path) [] parts.1 tt) tt) tt)
 
-  argument-bound : (f : Formal) (e : Tree N expression) → argument_fits meaning f e ≡ true → Each P (occurrences e)
+  argument-bound : (f : FormalParameter) (e : Tree N expression) → argument_fits meaning f e ≡ true → Each P (occurrences e)
   unfolding argument_fits
   argument-bound f e h = by-mode f.mode h
     where
-      by-mode : (m : Mode) → agree (Some f.shape) (elim m [ by_value ↦ type_of meaning e | by_place ↦ variable_type meaning (lone_designator e) ]) ≡ true → Each P (occurrences e)
-      by-mode by_value h = let (s, own, typed) = agree-true (Some f.shape) (type_of meaning e) h in expression-bound P meaning bound e s typed
-      by-mode by_place h = let (s, own, typed) = agree-true (Some f.shape) (variable_type meaning (lone_designator e)) h in place-bound e s typed
+      by-mode : (m : Mode) → same_known_shape (Some f.shape) (elim m [ by_value ↦ type_of meaning e | by_place ↦ variable_type meaning (lone_designator e) ]) ≡ true → Each P (occurrences e)
+      by-mode by_value h = let (s, own, typed) = same_known_shape-true (Some f.shape) (type_of meaning e) h in expression-bound P meaning bound e s typed
+      by-mode by_place h = let (s, own, typed) = same_known_shape-true (Some f.shape) (variable_type meaning (lone_designator e)) h in place-bound e s typed
 
   abbrev EachBound : List (Tree N expression) → Type 0
   EachBound [] = Unit {0}
@@ -191,7 +191,7 @@ module _ {N : Type 0} (P : N → Type 0) (meaning : Typed N) (bound : (x : N) (o
     statement-bound : (a : Tree N statement) → statement_fits meaning a ≡ true → Each P (occurrences a)
     statement-bound empty h = tt
     statement-bound (assigns x path e) h =
-        let (s, left, right) = agree-true (variable_type meaning (Some (x, path))) (type_of meaning e) h in
+        let (s, left, right) = same_known_shape-true (variable_type meaning (Some (x, path))) (type_of meaning e) h in
         let parts = variable-bound x path s left in
         (parts.0, each-of-both P (occurrences path) (occurrences e) parts.1 (expression-bound P meaning bound e s right))
     statement-bound (calls x es) h = call-bound x es h

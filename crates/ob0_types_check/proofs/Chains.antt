@@ -7,12 +7,12 @@ use Rattle.ob0_scan.specs.declared.fault.Fault.{Fault}
 use Rattle.ob0_tree.specs.Tree.{Tree, Item, item, items, end, more}
 use Rattle.ob0_tree.specs.View.{items_of}
 use Rattle.ob0_types_check.specs.Known.{Reported}
-use Rattle.ob0_types_check.specs.Operations.{ReportsAfter, preceded_by, right, ◌>>=◌}
+use Rattle.ob0_types_check.specs.Operations.{ReportsAfter, with_earlier_faults, without_fault, ◌>>=◌}
 
 pub reported_equal : {A : Type 0} {a b : Reported A} → a.known ≡ b.known → a.faults ≡ b.faults → a ≡ b
 reported_equal p q = λ i. record { known = p i; faults = q i }
 
-pub reports_nothing : {A : Type 0} (faults : List Fault) (x : A) → ReportsAfter faults faults x (right x)
+pub reports_nothing : {A : Type 0} (faults : List Fault) (x : A) → ReportsAfter faults faults x (without_fault x)
 reports_nothing faults x = record { known = refl; reported = sym (append-nil faults) }
 
 pub steps : {A B : Type 0} {f0 f1 f2 : List Fault} {x : A} {y : B} {a : Reported A} (next : A → Reported B) → ReportsAfter f0 f1 x a → ReportsAfter f1 f2 y (next x) → ReportsAfter f0 f2 y (a >>= next)
@@ -21,7 +21,7 @@ steps {f0 = f0} {x = x} {a = a} next s1 s2 = record {
   reported = s2.reported ∙ ap (λ f. f ++ (next x).faults) s1.reported ∙ append_assoc f0 a.faults (next x).faults ∙ ap (λ z. f0 ++ (a.faults ++ (next z).faults)) s1.known;
 }
 
-pub reports_known : {A : Type 0} (faults : List Fault) {x y : A} → x ≡ y → ReportsAfter faults faults x (right y)
+pub reports_known : {A : Type 0} (faults : List Fault) {x y : A} → x ≡ y → ReportsAfter faults faults x (without_fault y)
 reports_known faults e = record { known = e; reported = sym (append-nil faults) }
 
 -- A report can be replaced by an equal report.
@@ -33,14 +33,14 @@ then_assoc a f g = reported_equal refl (sym (append_assoc a.faults (f a.known).f
 
 -- holds if a list of items is reported item by item
 pub record IsChain {O : Type 0} {i : Item} (chain : O → Tree ℕ (items i) → Reported O) (step : O → Tree ℕ (item i) → Reported O) : Type 0 where
-  pub ended : (x : O) → chain x end ≡ right x
+  pub ended : (x : O) → chain x end ≡ without_fault x
   pub stepped : (x : O) (t : Tree ℕ (item i)) (ts : Tree ℕ (items i)) → chain x (more t ts) ≡ (step x t >>= (λ y. chain y ts))
 
 -- holds if the faults so far, followed by the faults of the remaining items, are the faults of all items
 pub record Chained {O A : Type 0} {i : Item} (chain : O → Tree ℕ (items i) → Reported O) (f : A → Tree ℕ (item i)) (before : List Fault) (start : O) (xs : List A) (done : ℕ) (now : List Fault) (out : O) : Type 0 where
-  pub so_far : preceded_by now (chain out (items_of f (drop done xs))) ≡ preceded_by before (chain start (items_of f xs))
+  pub so_far : with_earlier_faults now (chain out (items_of f (drop done xs))) ≡ with_earlier_faults before (chain start (items_of f xs))
 
-then_following : {A B : Type 0} {f0 f1 : List Fault} {x : A} {a : Reported A} (next : A → Reported B) → ReportsAfter f0 f1 x a → preceded_by f1 (next x) ≡ preceded_by f0 (a >>= next)
+then_following : {A B : Type 0} {f0 f1 : List Fault} {x : A} {a : Reported A} (next : A → Reported B) → ReportsAfter f0 f1 x a → with_earlier_faults f1 (next x) ≡ with_earlier_faults f0 (a >>= next)
 then_following {f0 = f0} {x = x} {a = a} next s = reported_equal (ap (λ z. (next z).known) s.known)
     (ap (λ f. f ++ (next x).faults) s.reported ∙ append_assoc f0 a.faults (next x).faults ∙ ap (λ z. f0 ++ (a.faults ++ (next z).faults)) s.known)
 
@@ -51,13 +51,13 @@ chain_goes_on {chain = chain} {f = f} {xs = xs} {done = done} {now = now} {out =
     let rest = items_of f (drop (done + 1) xs) in
     record {
       so_far = then_following (λ z. chain z rest) s
-          ∙ sym (ap (preceded_by now) (h.stepped out (f x) rest))
-          ∙ sym (ap (λ ys. preceded_by now (chain out (items_of f ys))) split)
+          ∙ sym (ap (with_earlier_faults now) (h.stepped out (f x) rest))
+          ∙ sym (ap (λ ys. with_earlier_faults now (chain out (items_of f ys))) split)
           ∙ c.so_far;
     }
 
 pub chain_ends : {O A : Type 0} {i : Item} {chain : O → Tree ℕ (items i) → Reported O} {step : O → Tree ℕ (item i) → Reported O} {f : A → Tree ℕ (item i)} {before : List Fault} {start : O} {xs : List A} {done : ℕ} {now : List Fault} {out : O}
     → IsChain chain step → Chained chain f before start xs done now out → length xs ≤ done → ReportsAfter before now out (chain start (items_of f xs))
 chain_ends {chain = chain} {f = f} {xs = xs} {done = done} {now = now} {out = out} h c all =
-    let whole = sym (ap (preceded_by now) (h.ended out)) ∙ sym (ap (λ ys. preceded_by now (chain out (items_of f ys))) (drop_all done xs all)) ∙ c.so_far in
+    let whole = sym (ap (with_earlier_faults now) (h.ended out)) ∙ sym (ap (λ ys. with_earlier_faults now (chain out (items_of f ys))) (drop_all done xs all)) ∙ c.so_far in
     record { known = ap (λ t. t.known) whole; reported = sym (append-nil now) ∙ ap (λ t. t.faults) whole }

@@ -7,11 +7,11 @@ use Rattle.ob0_tree.specs.Places.{text_at}
 use Rattle.ob0_language_names.specs.Names.{Name}
 use Rattle.ob0_types_table.specs.declared.types.TypeId.{TypeId}
 use Rattle.ob0_types_table.specs.declared.types.TypeId.TheVariants as type
-use Rattle.ob0_language_types.specs.Typing.{depth, field_depth, field_scalars, scalars, with_fields, within_limits}
+use Rattle.ob0_language_types.specs.Typing.{depth, field_depth, field_scalars, scalars, prepend_fields, check_limits}
 use Rattle.ob0_language_values.specs.Values.{FieldShapes, Shape, array_shape, boolean_shape, integer_shape, next_field_shape, no_field_shape, record_shape}
-use Rattle.ob0_types_check.specs.SoFar.{MadeType, PartTypes, Size, FieldSoFar, is_within, of_elements, of_fields, one_scalar, size_at, size_made}
-use Rattle.ob0_types_check.specs.WrittenTypeFaults.{Gathered, array_size, record_size, with_name, with_field_names}
-use Rattle.ob0_types_check.specs.Agreement.{EachMade, FieldsAgree, MadeAgrees, PartsAgree, TableAgrees, as_array, as_record, shape_in}
+use Rattle.ob0_types_check.specs.KnownDeclarations.{CompositeType, PartTypes, Size, KnownField, is_within_limits, of_elements, of_fields, scalar_size, size_at, composite_size}
+use Rattle.ob0_types_check.specs.WrittenTypeFaults.{KnownFields, array_size, record_size, with_known_field, with_known_fields}
+use Rattle.ob0_types_check.specs.Agreement.{EntriesAgree, FieldsAgree, CompositeAgrees, PartsAgree, TableAgrees, as_array, as_record, shape_in}
 
 -- holds if each type that has a shape in `before` has the same shape in `after`
 abbrev pub Longer : List Shape → List Shape → Type 0
@@ -35,7 +35,7 @@ longer_more shapes later (type.Array i) s e = got_before shapes later i as_array
 longer_more shapes later (type.Record i) s e = got_before shapes later i as_record s e
 longer_more shapes later type.Unknown s e = absurd (cc)
 
-pub fields_kept : (before after : List Shape) → Longer before after → (fields : List FieldSoFar) (fs : FieldShapes) → FieldsAgree (shape_in before) fields fs → FieldsAgree (shape_in after) fields fs
+pub fields_kept : (before after : List Shape) → Longer before after → (fields : List KnownField) (fs : FieldShapes) → FieldsAgree (shape_in before) fields fs → FieldsAgree (shape_in after) fields fs
 fields_kept before after longer [] no_field_shape h = tt
 fields_kept before after longer [] (next_field_shape x s fs) h = absurd h
 fields_kept before after longer (f ∷ fields) no_field_shape h = absurd h
@@ -45,27 +45,27 @@ parts_kept : (before after : List Shape) → Longer before after → (k : ℕ) (
 parts_kept before after longer k (of_elements n t) s (u, e, h) = (u, e, longer t u h)
 parts_kept before after longer k (of_fields fields) s (fs, e, h) = (fs, e, fields_kept before after longer fields fs h)
 
-pub made_kept : (before after : List Shape) → Longer before after → (m : MadeType) (s : Shape) → MadeAgrees (shape_in before) m s → MadeAgrees (shape_in after) m s
+pub made_kept : (before after : List Shape) → Longer before after → (m : CompositeType) (s : Shape) → CompositeAgrees (shape_in before) m s → CompositeAgrees (shape_in after) m s
 made_kept before after longer m s h = record { parts = parts_kept before after longer m.ordinal m.parts s h.parts; scalars = h.scalars; depth = h.depth }
 
-each_more : (known : List Shape) (ms : List MadeType) (ss : List Shape) (m : MadeType) (s : Shape) → EachMade known ms ss → MadeAgrees (shape_in (known ++ ss)) m s → EachMade known (ms ++ m ∷ []) (ss ++ s ∷ [])
-each_more known [] [] m s h one = (subst (λ z. MadeAgrees (shape_in z) m s) (append-nil known) one, tt)
+each_more : (known : List Shape) (ms : List CompositeType) (ss : List Shape) (m : CompositeType) (s : Shape) → EntriesAgree known ms ss → CompositeAgrees (shape_in (known ++ ss)) m s → EntriesAgree known (ms ++ m ∷ []) (ss ++ s ∷ [])
+each_more known [] [] m s h one = (subst (λ z. CompositeAgrees (shape_in z) m s) (append-nil known) one, tt)
 each_more known [] (x ∷ ss) m s h one = absurd h
 each_more known (x ∷ ms) [] m s h one = absurd h
-each_more known (x ∷ ms) (y ∷ ss) m s h one = (h.0, each_more (known ++ y ∷ []) ms ss m s h.1 (subst (λ z. MadeAgrees (shape_in z) m s) (sym (append_assoc known (y ∷ []) ss)) one))
+each_more known (x ∷ ms) (y ∷ ss) m s h one = (h.0, each_more (known ++ y ∷ []) ms ss m s h.1 (subst (λ z. CompositeAgrees (shape_in z) m s) (sym (append_assoc known (y ∷ []) ss)) one))
 
 -- If a table agrees with its shapes, it still does when an entry and its shape are appended.
-pub table_more : (ms : List MadeType) (shapes : List Shape) (m : MadeType) (s : Shape) → TableAgrees ms shapes → MadeAgrees (shape_in shapes) m s → TableAgrees (ms ++ m ∷ []) (shapes ++ s ∷ [])
+pub table_more : (ms : List CompositeType) (shapes : List Shape) (m : CompositeType) (s : Shape) → TableAgrees ms shapes → CompositeAgrees (shape_in shapes) m s → TableAgrees (ms ++ m ∷ []) (shapes ++ s ∷ [])
 table_more ms shapes m s h one = each_more [] ms shapes m s h one
 
-each_long : (known : List Shape) (ms : List MadeType) (ss : List Shape) → EachMade known ms ss → length ms ≡ length ss
+each_long : (known : List Shape) (ms : List CompositeType) (ss : List Shape) → EntriesAgree known ms ss → length ms ≡ length ss
 each_long known [] [] h = refl
 each_long known [] (s ∷ ss) h = absurd h
 each_long known (m ∷ ms) [] h = absurd h
 each_long known (m ∷ ms) (s ∷ ss) h = ap suc (each_long (known ++ s ∷ []) ms ss h.1)
 
 -- A table that agrees with its shapes has as many entries as there are shapes.
-pub table_long : (ms : List MadeType) (shapes : List Shape) → TableAgrees ms shapes → length ms ≡ length shapes
+pub table_long : (ms : List CompositeType) (shapes : List Shape) → TableAgrees ms shapes → length ms ≡ length shapes
 table_long ms shapes h = each_long [] ms shapes h
 
 last_shape : (shapes : List Shape) (n : ℕ) (s : Shape) → n ≡ length shapes → slice_get (shapes ++ s ∷ []) n ≡ Some s
@@ -74,10 +74,10 @@ last_shape [] (suc n) s e = absurd (cc)
 last_shape (x ∷ shapes) zero s e = absurd (cc)
 last_shape (x ∷ shapes) (suc n) s e = last_shape shapes n s (omega (arith, e))
 
-pub last_array : (ms : List MadeType) (shapes : List Shape) (k n : ℕ) (u : Shape) → TableAgrees ms shapes → shape_in (shapes ++ array_shape k n u ∷ []) (type.Array (length ms)) ≡ Some (array_shape k n u)
+pub last_array : (ms : List CompositeType) (shapes : List Shape) (k n : ℕ) (u : Shape) → TableAgrees ms shapes → shape_in (shapes ++ array_shape k n u ∷ []) (type.Array (length ms)) ≡ Some (array_shape k n u)
 last_array ms shapes k n u h = ap (option_and_then as_array) (last_shape shapes (length ms) (array_shape k n u) (table_long ms shapes h))
 
-pub last_record : (ms : List MadeType) (shapes : List Shape) (k : ℕ) (fs : FieldShapes) → TableAgrees ms shapes → shape_in (shapes ++ record_shape k fs ∷ []) (type.Record (length ms)) ≡ Some (record_shape k fs)
+pub last_record : (ms : List CompositeType) (shapes : List Shape) (k : ℕ) (fs : FieldShapes) → TableAgrees ms shapes → shape_in (shapes ++ record_shape k fs ∷ []) (type.Record (length ms)) ≡ Some (record_shape k fs)
 last_record ms shapes k fs h = ap (option_and_then as_record) (last_shape shapes (length ms) (record_shape k fs) (table_long ms shapes h))
 
 -- holds if a size is the size of a shape
@@ -86,8 +86,8 @@ pub record SizeAgrees (z : Size) (s : Shape) : Type 0 where
   pub depth_is : z.depth ≡ depth s
 
 -- holds if the table has an entry that agrees with the shape in its size
-pub record Entered (m : Option MadeType) (s : Shape) : Type 0 where
-  pub entry : MadeType
+pub record Entered (m : Option CompositeType) (s : Shape) : Type 0 where
+  pub entry : CompositeType
   pub there : m ≡ Some entry
   pub sizes : SizeAgrees entry.size s
 
@@ -106,24 +106,24 @@ record_is boolean_shape s e = absurd (cc)
 record_is (array_shape k n u) s e = absurd (cc)
 record_is (record_shape k fs) s e = some_same (record_shape k fs) s e
 
-entered : (known : List Shape) (f : Shape → Option Shape) → ((x s : Shape) → f x ≡ Some s → x ≡ s) → (ms : List MadeType) (ss : List Shape) (i : ℕ) (s : Shape) → EachMade known ms ss → option_and_then f (slice_get ss i) ≡ Some s → Entered (slice_get ms i) s
+entered : (known : List Shape) (f : Shape → Option Shape) → ((x s : Shape) → f x ≡ Some s → x ≡ s) → (ms : List CompositeType) (ss : List Shape) (i : ℕ) (s : Shape) → EntriesAgree known ms ss → option_and_then f (slice_get ss i) ≡ Some s → Entered (slice_get ms i) s
 entered known f is [] [] i s h e = absurd (cc)
 entered known f is [] (x ∷ ss) i s h e = absurd h
 entered known f is (m ∷ ms) [] i s h e = absurd h
 entered known f is (m ∷ ms) (x ∷ ss) zero s h e = record { entry = m; there = refl; sizes = subst (SizeAgrees m.size) (is x s e) (record { scalars_are = h.0.scalars; depth_is = h.0.depth }) }
 entered known f is (m ∷ ms) (x ∷ ss) (suc i) s h e = entered (known ++ x ∷ []) f is ms ss i s h.1 e
 
-sized : {m : Option MadeType} (s : Shape) → Entered m s → SizeAgrees (size_made m) s
-sized s h = subst (λ o. SizeAgrees (size_made o) s) (sym h.there) h.sizes
+sized : {m : Option CompositeType} (s : Shape) → Entered m s → SizeAgrees (composite_size m) s
+sized s h = subst (λ o. SizeAgrees (composite_size o) s) (sym h.there) h.sizes
 
-pub size_agrees : (ms : List MadeType) (shapes : List Shape) (t : TypeId) (s : Shape) → TableAgrees ms shapes → shape_in shapes t ≡ Some s → SizeAgrees (size_at ms t) s
-size_agrees ms shapes type.Integer s h e = subst (SizeAgrees one_scalar) (some_same integer_shape s e) (record { scalars_are = refl; depth_is = refl })
-size_agrees ms shapes type.Boolean s h e = subst (SizeAgrees one_scalar) (some_same boolean_shape s e) (record { scalars_are = refl; depth_is = refl })
+pub size_agrees : (ms : List CompositeType) (shapes : List Shape) (t : TypeId) (s : Shape) → TableAgrees ms shapes → shape_in shapes t ≡ Some s → SizeAgrees (size_at ms t) s
+size_agrees ms shapes type.Integer s h e = subst (SizeAgrees scalar_size) (some_same integer_shape s e) (record { scalars_are = refl; depth_is = refl })
+size_agrees ms shapes type.Boolean s h e = subst (SizeAgrees scalar_size) (some_same boolean_shape s e) (record { scalars_are = refl; depth_is = refl })
 size_agrees ms shapes (type.Array i) s h e = sized s (entered [] as_array array_is ms shapes i s h e)
 size_agrees ms shapes (type.Record i) s h e = sized s (entered [] as_record record_is ms shapes i s h e)
 size_agrees ms shapes type.Unknown s h e = absurd (cc)
 
-pub is_limited : (z : Size) (s : Shape) → SizeAgrees z s → is_within z ≡ true → within_limits s ≡ Some s
+pub is_limited : (z : Size) (s : Shape) → SizeAgrees z s → is_within_limits z ≡ true → check_limits s ≡ Some s
 is_limited z s h e = (λ i. if nat_le (sym h.scalars_are i) 65536 && nat_le (sym h.depth_is i) 100 then Some s else None) ∙ ap (λ b. if b then Some s else None) e
 
 pub array_sized : (z : Size) (k n : ℕ) (s : Shape) → SizeAgrees z s → SizeAgrees (array_size n z) (array_shape k n s)
@@ -142,9 +142,9 @@ pub followed-nothing : (a : FieldShapes) → followed a no_field_shape ≡ a
 followed-nothing no_field_shape = refl
 followed-nothing (next_field_shape x s a) = ap (next_field_shape x s) (followed-nothing a)
 
-pub with_fields-followed : (xs : List Name) (s : Shape) (later : FieldShapes) → with_fields xs s later ≡ followed (with_fields xs s no_field_shape) later
-with_fields-followed [] s later = refl
-with_fields-followed (x ∷ xs) s later = ap (next_field_shape x s) (with_fields-followed xs s later)
+pub prepend_fields-followed : (xs : List Name) (s : Shape) (later : FieldShapes) → prepend_fields xs s later ≡ followed (prepend_fields xs s no_field_shape) later
+prepend_fields-followed [] s later = refl
+prepend_fields-followed (x ∷ xs) s later = ap (next_field_shape x s) (prepend_fields-followed xs s later)
 
 scalars-followed : (fs gs : FieldShapes) → field_scalars (followed fs gs) ≡ field_scalars fs + field_scalars gs
 scalars-followed no_field_shape gs = omega arith
@@ -154,7 +154,7 @@ depth-followed : (fs gs : FieldShapes) → field_depth (followed fs gs) ≡ max 
 depth-followed no_field_shape gs = omega arith
 depth-followed (next_field_shape x s fs) gs = omega (arith, depth-followed fs gs)
 
-pub field_put : (shapes : List Shape) (fields : List FieldSoFar) (fs : FieldShapes) (x : Name) (t : TypeId) (s : Shape) → FieldsAgree (shape_in shapes) fields fs → shape_in shapes t ≡ Some s
+pub field_put : (shapes : List Shape) (fields : List KnownField) (fs : FieldShapes) (x : Name) (t : TypeId) (s : Shape) → FieldsAgree (shape_in shapes) fields fs → shape_in shapes t ≡ Some s
     → FieldsAgree (shape_in shapes) (fields ++ record { name = x; of = t } ∷ []) (followed fs (next_field_shape x s no_field_shape))
 field_put shapes [] no_field_shape x t s h is = (refl, is, tt)
 field_put shapes [] (next_field_shape y u fs) x t s h is = absurd h
@@ -162,13 +162,13 @@ field_put shapes (f ∷ fields) no_field_shape x t s h is = absurd h
 field_put shapes (f ∷ fields) (next_field_shape y u fs) x t s h is = (h.0, h.1, field_put shapes fields fs x t s h.2 is)
 
 -- holds if the fields of a record so far have these shapes, and their total size is right
-pub record GatheredAgrees (shapes : List Shape) (g : Gathered) (fs : FieldShapes) : Type 0 where
+pub record GatheredAgrees (shapes : List Shape) (g : KnownFields) (fs : FieldShapes) : Type 0 where
   pub fields : FieldsAgree (shape_in shapes) g.fields fs
   pub scalars_are : g.size.scalars ≡ field_scalars fs
   pub depth_is : g.size.depth ≡ field_depth fs
 
-name_put : (shapes : List Shape) (g : Gathered) (fs : FieldShapes) (x : ℕ) (t : TypeId) (s : Shape) → GatheredAgrees shapes g fs → TableAgrees g.following.made shapes → shape_in shapes t ≡ Some s
-    → GatheredAgrees shapes (with_name t g x) (followed fs (next_field_shape (text_at g.following.source x) s no_field_shape))
+name_put : (shapes : List Shape) (g : KnownFields) (fs : FieldShapes) (x : ℕ) (t : TypeId) (s : Shape) → GatheredAgrees shapes g fs → TableAgrees g.following.made shapes → shape_in shapes t ≡ Some s
+    → GatheredAgrees shapes (with_known_field t g x) (followed fs (next_field_shape (text_at g.following.source x) s no_field_shape))
 name_put shapes g fs x t s h table is =
     let z = size_agrees g.following.made shapes t s table is in
     let one : FieldShapes = next_field_shape (text_at g.following.source x) s no_field_shape in
@@ -178,16 +178,16 @@ name_put shapes g fs x t s h table is =
       depth_is = omega (arith, h.depth_is, z.depth_is, depth-followed fs one);
     }
 
-pub names_put : (shapes : List Shape) (g : Gathered) (fs : FieldShapes) (xs : List ℕ) (t : TypeId) (s : Shape) → GatheredAgrees shapes g fs → TableAgrees g.following.made shapes → shape_in shapes t ≡ Some s
-    → GatheredAgrees shapes (with_field_names t g xs) (followed fs (with_fields (map (text_at g.following.source) xs) s no_field_shape))
+pub names_put : (shapes : List Shape) (g : KnownFields) (fs : FieldShapes) (xs : List ℕ) (t : TypeId) (s : Shape) → GatheredAgrees shapes g fs → TableAgrees g.following.made shapes → shape_in shapes t ≡ Some s
+    → GatheredAgrees shapes (with_known_fields t g xs) (followed fs (prepend_fields (map (text_at g.following.source) xs) s no_field_shape))
 names_put shapes g fs [] t s h table is = subst (GatheredAgrees shapes g) (sym (followed-nothing fs)) h
 names_put shapes g fs (x ∷ xs) t s h table is =
     let one : FieldShapes = next_field_shape (text_at g.following.source x) s no_field_shape in
-    subst (GatheredAgrees shapes (with_field_names t (with_name t g x) xs)) (followed-assoc fs one (with_fields (map (text_at g.following.source) xs) s no_field_shape))
-    (names_put shapes (with_name t g x) (followed fs one) xs t s (name_put shapes g fs x t s h table is) table is)
+    subst (GatheredAgrees shapes (with_known_fields t (with_known_field t g x) xs)) (followed-assoc fs one (prepend_fields (map (text_at g.following.source) xs) s no_field_shape))
+    (names_put shapes (with_known_field t g x) (followed fs one) xs t s (name_put shapes g fs x t s h table is) table is)
 
-pub record_sized : (shapes : List Shape) (g : Gathered) (k : ℕ) (fs : FieldShapes) → GatheredAgrees shapes g fs → SizeAgrees (record_size g.size) (record_shape k fs)
+pub record_sized : (shapes : List Shape) (g : KnownFields) (k : ℕ) (fs : FieldShapes) → GatheredAgrees shapes g fs → SizeAgrees (record_size g.size) (record_shape k fs)
 record_sized shapes g k fs h = record { scalars_are = ap (λ a. max a 1) h.scalars_are ∙ max_comm (field_scalars fs) 1; depth_is = omega (arith, h.depth_is) }
 
-pub gathered_kept : (before after : List Shape) → Longer before after → (g : Gathered) (fs : FieldShapes) → GatheredAgrees before g fs → GatheredAgrees after g fs
+pub gathered_kept : (before after : List Shape) → Longer before after → (g : KnownFields) (fs : FieldShapes) → GatheredAgrees before g fs → GatheredAgrees after g fs
 gathered_kept before after longer g fs h = record { fields = fields_kept before after longer g.fields fs h.fields; scalars_are = h.scalars_are; depth_is = h.depth_is }

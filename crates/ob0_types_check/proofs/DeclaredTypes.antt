@@ -2,35 +2,35 @@
 -- gathered from the left, but their shapes are built from the right. So `GroupGathers` is about the fields of a group
 -- before any fields that follow. Definitions nest two sums differently; `grouped` proves that they are equal.
 use Rattle.std.proofs.Common.{◌≡◌, ℕ, suc, ◌+◌, Bool, true, false, List, [], ◌∷◌, ◌++◌, length, map, Option, Some, None, option_and_then, if◌then◌else◌, refl, sym, ap, ◌∙◌, subst, subst₂, le_refl, arith}
-use Rattle.ob0_tree.specs.Places.{named, text_at, value_at}
+use Rattle.ob0_tree.specs.Places.{tree_with_names, text_at, value_at}
 use Rattle.ob0_tree.specs.Tree.{Tree, array_type, end, fields, further_fields, items, mapped, more, named_type, no_fields, occurrences, record_type, some_fields, then_fields, written_type}
-use Rattle.ob0_language_names.specs.Names.{Name, as_names}
-use Rattle.ob0_language_names.specs.Parts.{names_listed}
+use Rattle.ob0_language_names.specs.Names.{Name, naming_by_spelling}
+use Rattle.ob0_language_names.specs.Parts.{names_in_list}
 use Rattle.ob0_language_names.specs.Scopes.{Scope}
 use Rattle.ob0_types_table.specs.declared.types.TypeId.{TypeId}
 use Rattle.ob0_language_types.specs.Environments.{meanings}
 use Rattle.ob0_language_types.specs.Expressions as meant
-use Rattle.ob0_language_types.specs.Typing.{array_length, constant_value, denoted, denoted_group, denoted_groups, constructors, group_constructors, groups_constructors, type_of_name, with_fields, within_limits}
+use Rattle.ob0_language_types.specs.Typing.{array_length, constant_value, denoted, denoted_group, denoted_groups, constructor_count, group_constructor_count, groups_constructor_count, type_of_name, prepend_fields, check_limits}
 use Rattle.ob0_language_types.specs.WellTyped.{Signature, TypeEnvironment}
 use Rattle.ob0_language_values.specs.Values.{FieldShapes, Shape, Value, array_shape, no_field_shape, record_shape}
 use Rattle.ob0_types_check.specs.ExpressionFaults.{reported_expression}
 use Rattle.ob0_types_check.specs.Known.{Meaning, Operand, Reported, a_constant, a_procedure, a_type, a_variable}
-use Rattle.ob0_types_check.specs.Operations.{right}
-use Rattle.ob0_types_check.specs.SoFar.{PartTypes, Size, SoFar, TypedAfter, facts_at, is_within, made, make, of_elements, of_fields, size_at, too_large, type_with}
-use Rattle.ob0_types_check.specs.TypeFaults.{length_of, type_meant}
-use Rattle.ob0_types_check.specs.WrittenTypeFaults.{Gathered, array_made, array_size, gathered_after, nothing_gathered, record_made, record_size, record_word, reported_fields, reported_groups, ordinal_here, reported_type, with_name, with_field_names, word_before}
-use Rattle.ob0_types_check.specs.Agreement.{PartsAgree, MeansAlike, TableAgrees, shape_in}
-use Rattle.ob0_types_check.specs.WellTypedLaws.{constructor_of}
+use Rattle.ob0_types_check.specs.Operations.{without_fault}
+use Rattle.ob0_types_check.specs.KnownDeclarations.{PartTypes, Size, KnownDeclarations, TypeWithState, facts_at, is_within_limits, made, make_type, of_elements, of_fields, size_at, type_too_large, type_at_index}
+use Rattle.ob0_types_check.specs.TypeFaults.{length_of, type_by_meaning}
+use Rattle.ob0_types_check.specs.WrittenTypeFaults.{KnownFields, made_array_type, array_size, with_field_group, no_known_fields, made_record_type, record_size, record_keyword, reported_fields, reported_groups, next_type_ordinal, reported_type, with_known_field, with_known_fields, token_before_group}
+use Rattle.ob0_types_check.specs.Agreement.{PartsAgree, KnownMeaningAgrees, TableAgrees, shape_in}
+use Rattle.ob0_types_check.specs.WellTypedLaws.{constructor_ordinal}
 use Rattle.ob0_types_check.proofs.MadeOnce.{Apart, apart_made, apart_same, apart_then}
 use Rattle.ob0_types_check.proofs.PartsFitting.{PartsFit}
-use Rattle.ob0_types_check.proofs.DeclaredNames.{AreSeen, IsSeen, Numbering, each_part, names_listed-mapped}
-use Rattle.ob0_types_check.proofs.DeclaredShapes.{GatheredAgrees, SizeAgrees, array_sized, followed, followed-assoc, followed-nothing, gathered_kept, is_limited, last_array, last_record, longer_more, longer_then, names_put, record_sized, size_agrees, table_long, table_more, with_fields-followed}
+use Rattle.ob0_types_check.proofs.DeclaredNames.{AreSeen, IsSeen, Numbering, each_part, names_in_list-mapped}
+use Rattle.ob0_types_check.proofs.DeclaredShapes.{GatheredAgrees, SizeAgrees, array_sized, followed, followed-assoc, followed-nothing, gathered_kept, is_limited, last_array, last_record, longer_more, longer_then, names_put, record_sized, size_agrees, table_long, table_more, prepend_fields-followed}
 use Rattle.ob0_types_check.proofs.DeclaredKnown.{Later, IsKnownAt, agrees_where_seen, later_same, later_then, seen_holds, holds_later}
 use Rattle.ob0_types_check.proofs.Unreported.{none-reported}
 
 -- Holds if a type's text denotes a shape and the state after it agrees with this shape. `k` is the ordinal of its first
 -- word ARRAY or RECORD, and `l` the next ordinal after its last.
-pub record Denotes (n : ℕ) (p : SoFar) (before : List Shape) (k l : ℕ) (given : Option Shape) (u : TypedAfter) : Type 0 where
+pub record Denotes (n : ℕ) (p : KnownDeclarations) (before : List Shape) (k l : ℕ) (given : Option Shape) (u : TypeWithState) : Type 0 where
   pub shape : Shape
   pub given_is : given ≡ Some shape
   pub after : List Shape
@@ -39,8 +39,8 @@ pub record Denotes (n : ℕ) (p : SoFar) (before : List Shape) (k l : ℕ) (give
   pub known : shape_in after u.of ≡ Some shape
 
 -- A name of a type denotes that type's shape if no fault is reported for the name.
-named_denotes : (n : ℕ) (w : SoFar) (p : SoFar) (before : List Shape) (k l : ℕ) → l ≡ k → (token : ℕ) (m : Option (Meaning TypeId)) (o : Option (meant.Object Shape Signature)) → TableAgrees p.made before → MeansAlike (shape_in before) m o → (type_meant (facts_at w false) token m).faults ≡ []
-    → Denotes n p before k l (type_of_name o) (record { of = (type_meant (facts_at w false) token m).known; following = p })
+named_denotes : (n : ℕ) (w : KnownDeclarations) (p : KnownDeclarations) (before : List Shape) (k l : ℕ) → l ≡ k → (token : ℕ) (m : Option (Meaning TypeId)) (o : Option (meant.Object Shape Signature)) → TableAgrees p.made before → KnownMeaningAgrees (shape_in before) m o → (type_by_meaning (facts_at w false) token m).faults ≡ []
+    → Denotes n p before k l (type_of_name o) (record { of = (type_by_meaning (facts_at w false) token m).known; following = p })
 named_denotes n w p before k l last token None o table alike e = absurd alike
 named_denotes n w p before k l last token (Some (a_type t)) o table (s, known, is) e = record { shape = s; given_is = ap type_of_name is; after = before; apart = apart_same k l before last; later = later_same n p before table; known = known }
 named_denotes n w p before k l last token (Some (a_constant v)) o table alike e = absurd (cc)
@@ -48,16 +48,16 @@ named_denotes n w p before k l last token (Some (a_variable t)) o table alike e 
 named_denotes n w p before k l last token (Some (a_procedure fs)) o table alike e = absurd (cc)
 
 -- holds if an array or a record denotes a shape within the limits
-pub record MadeDenotes (n : ℕ) (p : SoFar) (before : List Shape) (k l : ℕ) (s : Shape) (u : TypedAfter) : Type 0 where
-  pub limited : within_limits s ≡ Some s
+pub record MadeDenotes (n : ℕ) (p : KnownDeclarations) (before : List Shape) (k l : ℕ) (s : Shape) (u : TypeWithState) : Type 0 where
+  pub limited : check_limits s ≡ Some s
   pub denotes : Denotes n p before k l (Some s) u
 
-made_denotes : (n : ℕ) (p q : SoFar) (before mid : List Shape) (k l word ordinal : ℕ) (parts : PartTypes) (size : Size) (s : Shape) → ordinal ≡ k → constructor_of s ≡ Some k → Apart (suc k) l before mid → Later n p q before mid → PartsAgree (shape_in mid) k parts s → SizeAgrees size s → shape_in (mid ++ s ∷ []) (type_with parts (length q.made)) ≡ Some s
-    → (make q word ordinal parts size).faults ≡ [] → MadeDenotes n p before k l s (make q word ordinal parts size).known
+made_denotes : (n : ℕ) (p q : KnownDeclarations) (before mid : List Shape) (k l word ordinal : ℕ) (parts : PartTypes) (size : Size) (s : Shape) → ordinal ≡ k → constructor_ordinal s ≡ Some k → Apart (suc k) l before mid → Later n p q before mid → PartsAgree (shape_in mid) k parts s → SizeAgrees size s → shape_in (mid ++ s ∷ []) (type_at_index parts (length q.made)) ≡ Some s
+    → (make_type q word ordinal parts size).faults ≡ [] → MadeDenotes n p before k l s (make_type q word ordinal parts size).known
 made_denotes n p q before mid k l word ordinal parts size s here number own later agrees sized last none =
-    by_size (is_within size) refl none
+    by_size (is_within_limits size) refl none
   where
-    by_size : (b : Bool) → is_within size ≡ b → (if b then right (made q ordinal parts size) else too_large q word).faults ≡ [] → MadeDenotes n p before k l s (if b then right (made q ordinal parts size) else too_large q word).known
+    by_size : (b : Bool) → is_within_limits size ≡ b → (if b then without_fault (made q ordinal parts size) else type_too_large q word).faults ≡ [] → MadeDenotes n p before k l s (if b then without_fault (made q ordinal parts size) else type_too_large q word).known
     by_size false e h = absurd (cc)
     by_size true e h = record {
       limited = is_limited size s sized e;
@@ -79,64 +79,64 @@ made_denotes n p q before mid k l word ordinal parts size s here number own late
     }
 
 -- An array denotes a shape if the type of its elements denotes one and no fault is reported for the array.
-array_denotes : (n : ℕ) (p : SoFar) (before : List Shape) (k l ordinal count : ℕ) (o : Operand TypeId) (given : Option Shape) (u : TypedAfter) → ordinal ≡ k → Denotes n p before (suc k) l given u → (array_made ordinal o (Some count) u).faults ≡ []
-    → Denotes n p before k l (option_and_then (λ s. within_limits (array_shape k count s)) given) (array_made ordinal o (Some count) u).known
+array_denotes : (n : ℕ) (p : KnownDeclarations) (before : List Shape) (k l ordinal count : ℕ) (o : Operand TypeId) (given : Option Shape) (u : TypeWithState) → ordinal ≡ k → Denotes n p before (suc k) l given u → (made_array_type ordinal o (Some count) u).faults ≡ []
+    → Denotes n p before k l (option_and_then (λ s. check_limits (array_shape k count s)) given) (made_array_type ordinal o (Some count) u).known
 array_denotes n p before k l ordinal count o given u here d none =
     let s : Shape = array_shape k count d.shape in
     let size = array_sized (size_at u.following.made u.of) k count d.shape (size_agrees u.following.made d.after u.of d.shape d.later.table d.known) in
     let m = made_denotes n p u.following before d.after k l _ ordinal (of_elements count u.of) (array_size count (size_at u.following.made u.of)) s here refl d.apart d.later (d.shape, refl, d.known) size (last_array u.following.made d.after k count d.shape d.later.table) none in
     record {
       shape = m.denotes.shape;
-      given_is = ap (option_and_then (λ s. within_limits (array_shape k count s))) d.given_is ∙ (m.limited ∙ m.denotes.given_is);
+      given_is = ap (option_and_then (λ s. check_limits (array_shape k count s))) d.given_is ∙ (m.limited ∙ m.denotes.given_is);
       after = m.denotes.after;
       apart = m.denotes.apart;
       later = m.denotes.later;
       known = m.denotes.known;
     }
 
-sized_array : (n : ℕ) (p : SoFar) (before : List Shape) (k l ordinal : ℕ) (o : Operand TypeId) (reported : Option ℕ) (count : ℕ) (given : Option Shape) (u : TypedAfter) → reported ≡ Some count → ordinal ≡ k → Denotes n p before (suc k) l given u → (array_made ordinal o reported u).faults ≡ []
-    → Denotes n p before k l (option_and_then (λ s. within_limits (array_shape k count s)) given) (array_made ordinal o reported u).known
+sized_array : (n : ℕ) (p : KnownDeclarations) (before : List Shape) (k l ordinal : ℕ) (o : Operand TypeId) (reported : Option ℕ) (count : ℕ) (given : Option Shape) (u : TypeWithState) → reported ≡ Some count → ordinal ≡ k → Denotes n p before (suc k) l given u → (made_array_type ordinal o reported u).faults ≡ []
+    → Denotes n p before k l (option_and_then (λ s. check_limits (array_shape k count s)) given) (made_array_type ordinal o reported u).known
 sized_array n p before k l ordinal o reported count given u e here d none =
-    subst (λ z. (array_made ordinal o z u).faults ≡ [] → Denotes n p before k l (option_and_then (λ s. within_limits (array_shape k count s)) given) (array_made ordinal o z u).known) (sym e) (array_denotes n p before k l ordinal count o given u here d) none
+    subst (λ z. (made_array_type ordinal o z u).faults ≡ [] → Denotes n p before k l (option_and_then (λ s. check_limits (array_shape k count s)) given) (made_array_type ordinal o z u).known) (sym e) (array_denotes n p before k l ordinal count o given u here d) none
 
 -- holds if the fields gathered so far agree with the earlier shapes `first` followed by the shapes `own`
-pub record Gathers (n : ℕ) (p : SoFar) (before : List Shape) (k l : ℕ) (first : FieldShapes) (own : FieldShapes) (g : Gathered) : Type 0 where
+pub record AddsKnownFields (n : ℕ) (p : KnownDeclarations) (before : List Shape) (k l : ℕ) (first : FieldShapes) (own : FieldShapes) (g : KnownFields) : Type 0 where
   pub after : List Shape
   pub apart : Apart k l before after
   pub later : Later n p g.following before after
   pub agrees : GatheredAgrees after g (followed first own)
 
-pub record GroupGathers (n : ℕ) (p : SoFar) (before : List Shape) (k l : ℕ) (first : FieldShapes) (given : FieldShapes → Option FieldShapes) (g : Gathered) : Type 0 where
+pub record GroupGathers (n : ℕ) (p : KnownDeclarations) (before : List Shape) (k l : ℕ) (first : FieldShapes) (given : FieldShapes → Option FieldShapes) (g : KnownFields) : Type 0 where
   pub own : FieldShapes
   pub given_is : (later : FieldShapes) → given later ≡ Some (followed own later)
-  pub gathers : Gathers n p before k l first own g
+  pub gathers : AddsKnownFields n p before k l first own g
 
-pub record GroupsGather (n : ℕ) (p : SoFar) (before : List Shape) (k l : ℕ) (first : FieldShapes) (given : Option FieldShapes) (g : Gathered) : Type 0 where
+pub record GroupsGather (n : ℕ) (p : KnownDeclarations) (before : List Shape) (k l : ℕ) (first : FieldShapes) (given : Option FieldShapes) (g : KnownFields) : Type 0 where
   pub own : FieldShapes
   pub given_is : given ≡ Some own
-  pub gathers : Gathers n p before k l first own g
+  pub gathers : AddsKnownFields n p before k l first own g
 
-names_following : (t : TypeId) (g : Gathered) (xs : List ℕ) → (with_field_names t g xs).following ≡ g.following
+names_following : (t : TypeId) (g : KnownFields) (xs : List ℕ) → (with_known_fields t g xs).following ≡ g.following
 names_following t g [] = refl
-names_following t g (x ∷ xs) = names_following t (with_name t g x) xs
+names_following t g (x ∷ xs) = names_following t (with_known_field t g x) xs
 
 -- Fields of one type have shapes if their type denotes one.
-names_gather : (n : ℕ) (w : Numbering) (g : Gathered) (before : List Shape) (k l : ℕ) (first : FieldShapes) (xs : List ℕ) (ys : List Name) (given : Option Shape) (u : TypedAfter) → g.following.source ≡ w.source → ys ≡ map (text_at w.source) xs → GatheredAgrees before g first → Denotes n g.following before k l given u
-    → GroupGathers n g.following before k l first (λ later. option_and_then (λ s. Some (with_fields ys s later)) given) (gathered_after g xs u)
+names_gather : (n : ℕ) (w : Numbering) (g : KnownFields) (before : List Shape) (k l : ℕ) (first : FieldShapes) (xs : List ℕ) (ys : List Name) (given : Option Shape) (u : TypeWithState) → g.following.source ≡ w.source → ys ≡ map (text_at w.source) xs → GatheredAgrees before g first → Denotes n g.following before k l given u
+    → GroupGathers n g.following before k l first (λ later. option_and_then (λ s. Some (prepend_fields ys s later)) given) (with_field_group g xs u)
 names_gather n w g before k l first xs ys given u source texts h d =
-    let own : FieldShapes = with_fields ys d.shape no_field_shape in
-    let start : Gathered = record { fields = g.fields; size = g.size; following = u.following } in
+    let own : FieldShapes = prepend_fields ys d.shape no_field_shape in
+    let start : KnownFields = record { fields = g.fields; size = g.size; following = u.following } in
     let kept = gathered_kept before d.after d.later.longer g first h in
     let text : u.following.source ≡ w.source = d.later.source ∙ source in
     let put = names_put d.after start first xs u.of d.shape (record { fields = kept.fields; scalars_are = kept.scalars_are; depth_is = kept.depth_is }) d.later.table d.known in
     record {
       own = own;
-      given_is = λ later. ap (option_and_then (λ s. Some (with_fields ys s later))) d.given_is ∙ ap Some (with_fields-followed ys d.shape later);
+      given_is = λ later. ap (option_and_then (λ s. Some (prepend_fields ys s later))) d.given_is ∙ ap Some (prepend_fields-followed ys d.shape later);
       gathers = record {
         after = d.after;
         apart = d.apart;
         later = subst (λ z. Later n g.following z before d.after) (sym (names_following u.of start xs)) d.later;
-        agrees = subst (λ zs. GatheredAgrees d.after (with_field_names u.of start xs) (followed first (with_fields zs d.shape no_field_shape))) ((λ i. map (text_at (text i)) xs) ∙ sym texts) put;
+        agrees = subst (λ zs. GatheredAgrees d.after (with_known_fields u.of start xs) (followed first (prepend_fields zs d.shape no_field_shape))) ((λ i. map (text_at (text i)) xs) ∙ sym texts) put;
       };
     }
 
@@ -144,14 +144,14 @@ map-same : (xs : List Name) → map (λ x. x) xs ≡ xs
 map-same [] = refl
 map-same (x ∷ xs) = λ i. x ∷ map-same xs i
 
-pub nothing_agrees : (shapes : List Shape) (p : SoFar) → GatheredAgrees shapes (nothing_gathered p) no_field_shape
+pub nothing_agrees : (shapes : List Shape) (p : KnownDeclarations) → GatheredAgrees shapes (no_known_fields p) no_field_shape
 nothing_agrees shapes p = record { fields = tt; scalars_are = refl; depth_is = refl }
 
-nothing_more : (n : ℕ) (g : Gathered) (before : List Shape) (k l : ℕ) → l ≡ k → (first : FieldShapes) → TableAgrees g.following.made before → GatheredAgrees before g first → Gathers n g.following before k l first no_field_shape g
+nothing_more : (n : ℕ) (g : KnownFields) (before : List Shape) (k l : ℕ) → l ≡ k → (first : FieldShapes) → TableAgrees g.following.made before → GatheredAgrees before g first → AddsKnownFields n g.following before k l first no_field_shape g
 nothing_more n g before k l last first table h = record { after = before; apart = apart_same k l before last; later = later_same n g.following before table; agrees = subst (GatheredAgrees before g) (sym (followed-nothing first)) h }
 
 -- If a group of fields and the later groups have shapes, all of them together do.
-pub both_gather : (n : ℕ) (p : SoFar) (before : List Shape) (k m l : ℕ) (first : FieldShapes) (given : FieldShapes → Option FieldShapes) (g h : Gathered) (others : Option FieldShapes) (one : GroupGathers n p before k m first given g)
+pub both_gather : (n : ℕ) (p : KnownDeclarations) (before : List Shape) (k m l : ℕ) (first : FieldShapes) (given : FieldShapes → Option FieldShapes) (g h : KnownFields) (others : Option FieldShapes) (one : GroupGathers n p before k m first given g)
     → GroupsGather n g.following one.gathers.after m l (followed first one.own) others h → GroupsGather n p before k l first (option_and_then given others) h
 both_gather n p before k m l first given g h others one other = record {
   own = followed one.own other.own;
@@ -165,15 +165,15 @@ both_gather n p before k m l first given g h others one other = record {
 }
 
 -- A record denotes a shape if its fields have shapes and no fault is reported for the record.
-record_denotes : (n : ℕ) (p : SoFar) (before : List Shape) (k l word ordinal : ℕ) (given : Option FieldShapes) (g : Gathered) → ordinal ≡ k → GroupsGather n p before (suc k) l no_field_shape given g → (record_made word ordinal g).faults ≡ []
-    → Denotes n p before k l (option_and_then (λ fs. within_limits (record_shape k fs)) given) (record_made word ordinal g).known
+record_denotes : (n : ℕ) (p : KnownDeclarations) (before : List Shape) (k l word ordinal : ℕ) (given : Option FieldShapes) (g : KnownFields) → ordinal ≡ k → GroupsGather n p before (suc k) l no_field_shape given g → (made_record_type word ordinal g).faults ≡ []
+    → Denotes n p before k l (option_and_then (λ fs. check_limits (record_shape k fs)) given) (made_record_type word ordinal g).known
 record_denotes n p before k l word ordinal given g here h none =
     let after = h.gathers.after in
     let s : Shape = record_shape k h.own in
     let m = made_denotes n p g.following before after k l word ordinal (of_fields g.fields) (record_size g.size) s here refl h.gathers.apart h.gathers.later (h.own, refl, h.gathers.agrees.fields) (record_sized after g k h.own h.gathers.agrees) (last_record g.following.made after k h.own h.gathers.later.table) none in
     record {
       shape = m.denotes.shape;
-      given_is = ap (option_and_then (λ fs. within_limits (record_shape k fs))) h.given_is ∙ (m.limited ∙ m.denotes.given_is);
+      given_is = ap (option_and_then (λ fs. check_limits (record_shape k fs))) h.given_is ∙ (m.limited ∙ m.denotes.given_is);
       after = m.denotes.after;
       apart = m.denotes.apart;
       later = m.denotes.later;
@@ -181,7 +181,7 @@ record_denotes n p before k l word ordinal given g here h none =
     }
 
 abbrev pub of_limits : ℕ → ℕ → Option Shape → Option Shape
-of_limits k count given = option_and_then (λ s. within_limits (array_shape k count s)) given
+of_limits k count given = option_and_then (λ s. check_limits (array_shape k count s)) given
 
 pub array_given : (k : ℕ) (value : Option Value) (v : Value) (count : ℕ) (given : Option Shape) → value ≡ Some v → array_length v ≡ Some count → option_and_then (λ v. option_and_then (λ c. of_limits k c given) (array_length v)) value ≡ of_limits k count given
 array_given k value v count given e h = ap (option_and_then (λ v. option_and_then (λ c. of_limits k c given) (array_length v))) e ∙ ap (option_and_then (λ c. of_limits k c given)) h
@@ -204,65 +204,65 @@ module _ (w : Numbering) (fit : PartsFit) (n : ℕ) (scope : Scope Name) (env : 
   mutual
     unfolding reported_type denoted
 
-    pub type_denotes : (around k : ℕ) (t : Tree ℕ written_type) (p : SoFar) (before : List Shape) → length before + around ≡ k → IsKnownAt w p before n scope env → AreSeen w scope t → (reported_type around p t).faults ≡ []
-        → Denotes n p before k (k + constructors (named w.source t)) (denoted (meanings as_names env) k (named w.source t)) (reported_type around p t).known
+    pub type_denotes : (around k : ℕ) (t : Tree ℕ written_type) (p : KnownDeclarations) (before : List Shape) → length before + around ≡ k → IsKnownAt w p before n scope env → AreSeen w scope t → (reported_type around p t).faults ≡ []
+        → Denotes n p before k (k + constructor_count (tree_with_names w.source t)) (denoted (meanings naming_by_spelling env) k (tree_with_names w.source t)) (reported_type around p t).known
     type_denotes around k (named_type x) p before at st seen e =
-        named_denotes n p p before k (k + 0) (omega arith) x ((facts_at p false).object_for x) ((meanings as_names env).object_for (text_at w.source x)) st.table (seen_holds w p false before n scope env st x seen.0) (none-reported (type_meant (facts_at p false) x ((facts_at p false).object_for x)).faults [] e).0
+        named_denotes n p p before k (k + 0) (omega arith) x ((facts_at p false).object_for x) ((meanings naming_by_spelling env).object_for (text_at w.source x)) st.table (seen_holds w p false before n scope env st x seen.0) (none-reported (type_by_meaning (facts_at p false) x ((facts_at p false).object_for x)).faults [] e).0
     type_denotes around k (array_type e u) p before at st seen h =
         let parts = each_part (IsSeen w scope) (occurrences e) (occurrences u) seen in
         let o : Operand TypeId = (reported_expression (facts_at p true) e).known in
         let l : Reported (Option ℕ) = length_of (facts_at p false) o in
-        let el : Reported TypedAfter = reported_type (suc around) p u in
-        let ordinal : ℕ = ordinal_here around p in
+        let el : Reported TypeWithState = reported_type (suc around) p u in
+        let ordinal : ℕ = next_type_ordinal around p in
         let here : ordinal ≡ k = omega (arith, table_long p.made before st.table, at) in
-        let a = none-reported (reported_expression (facts_at p true) e).faults (l.faults ++ (el.faults ++ (array_made ordinal o l.known el.known).faults)) h in
-        let b = none-reported l.faults (el.faults ++ (array_made ordinal o l.known el.known).faults) a.1 in
-        let c = none-reported el.faults (array_made ordinal o l.known el.known).faults b.1 in
-        let long = fit.lengths p before (text_at w.source) (meanings as_names env) e (agrees_where_seen w p true before n scope env st fit e parts.0) (λ i. a.0 i ++ b.0 i) in
-        let given : constant_value (meanings as_names env) (named w.source e) ≡ Some long.value = ap (λ s. constant_value (meanings as_names env) (mapped (text_at w.source) (value_at s) e)) (sym st.source) ∙ long.given in
+        let a = none-reported (reported_expression (facts_at p true) e).faults (l.faults ++ (el.faults ++ (made_array_type ordinal o l.known el.known).faults)) h in
+        let b = none-reported l.faults (el.faults ++ (made_array_type ordinal o l.known el.known).faults) a.1 in
+        let c = none-reported el.faults (made_array_type ordinal o l.known el.known).faults b.1 in
+        let long = fit.lengths p before (text_at w.source) (meanings naming_by_spelling env) e (agrees_where_seen w p true before n scope env st fit e parts.0) (λ i. a.0 i ++ b.0 i) in
+        let given : constant_value (meanings naming_by_spelling env) (tree_with_names w.source e) ≡ Some long.value = ap (λ s. constant_value (meanings naming_by_spelling env) (mapped (text_at w.source) (value_at s) e)) (sym st.source) ∙ long.given in
         let element = type_denotes (suc around) (suc k) u p before (omega (arith, at)) st parts.1 c.0 in
-        let inner : ℕ = constructors (named w.source u) in
-        subst₂ (λ j z. Denotes n p before k j z (array_made ordinal o l.known el.known).known) (later_constructor k inner) (sym (array_given k (constant_value (meanings as_names env) (named w.source e)) long.value long.length (denoted (meanings as_names env) (suc k) (named w.source u)) given long.counted))
-        (sized_array n p before k (suc k + inner) ordinal o l.known long.length (denoted (meanings as_names env) (suc k) (named w.source u)) el.known long.known here element c.1)
+        let inner : ℕ = constructor_count (tree_with_names w.source u) in
+        subst₂ (λ j z. Denotes n p before k j z (made_array_type ordinal o l.known el.known).known) (later_constructor k inner) (sym (array_given k (constant_value (meanings naming_by_spelling env) (tree_with_names w.source e)) long.value long.length (denoted (meanings naming_by_spelling env) (suc k) (tree_with_names w.source u)) given long.counted))
+        (sized_array n p before k (suc k + inner) ordinal o l.known long.length (denoted (meanings naming_by_spelling env) (suc k) (tree_with_names w.source u)) el.known long.known here element c.1)
     type_denotes around k (record_type g rest) p before at st seen h =
         let parts = each_part (IsSeen w scope) (occurrences g) (occurrences rest) seen in
-        let word : ℕ = word_before g (record_word rest) in
-        let ordinal : ℕ = ordinal_here around p in
+        let word : ℕ = token_before_group g (record_keyword rest) in
+        let ordinal : ℕ = next_type_ordinal around p in
         let here : ordinal ≡ k = omega (arith, table_long p.made before st.table, at) in
-        let first : Reported Gathered = reported_fields (suc around) (nothing_gathered p) g in
-        let all : Reported Gathered = reported_groups (suc around) first.known rest in
-        let a = none-reported first.faults (all.faults ++ (record_made word ordinal all.known).faults) h in
-        let b = none-reported all.faults (record_made word ordinal all.known).faults a.1 in
-        let one = group_gathers (suc around) (suc k) g (nothing_gathered p) before no_field_shape (omega (arith, at)) st parts.0 (nothing_agrees before p) a.0 in
+        let first : Reported KnownFields = reported_fields (suc around) (no_known_fields p) g in
+        let all : Reported KnownFields = reported_groups (suc around) first.known rest in
+        let a = none-reported first.faults (all.faults ++ (made_record_type word ordinal all.known).faults) h in
+        let b = none-reported all.faults (made_record_type word ordinal all.known).faults a.1 in
+        let one = group_gathers (suc around) (suc k) g (no_known_fields p) before no_field_shape (omega (arith, at)) st parts.0 (nothing_agrees before p) a.0 in
         let later = holds_later w n n n p first.known.following before one.gathers.after scope env (le_refl n) (le_refl n) st one.gathers.later in
-        let other = groups_gather (suc around) (suc k + group_constructors (named w.source g)) rest first.known one.gathers.after one.own (omega (arith, at, one.gathers.apart.counted)) later parts.1 one.gathers.agrees b.0 in
-        let c : ℕ = group_constructors (named w.source g) in
-        let d : ℕ = groups_constructors (named w.source rest) in
-        subst₂ (λ j z. Denotes n p before k j z (record_made word ordinal all.known).known) (later_groups k c d) (grouped (denoted_groups (meanings as_names env) (suc k + group_constructors (named w.source g)) (named w.source rest)) (λ ys. denoted_group (meanings as_names env) (suc k) ys (named w.source g)) (λ fs. within_limits (record_shape k fs)))
-        (record_denotes n p before k (suc k + c + d) word ordinal (option_and_then (λ ys. denoted_group (meanings as_names env) (suc k) ys (named w.source g)) (denoted_groups (meanings as_names env) (suc k + group_constructors (named w.source g)) (named w.source rest))) all.known here
-        (both_gather n p before (suc k) (suc k + c) (suc k + c + d) no_field_shape (λ ys. denoted_group (meanings as_names env) (suc k) ys (named w.source g)) first.known all.known (denoted_groups (meanings as_names env) (suc k + group_constructors (named w.source g)) (named w.source rest)) one other) b.1)
+        let other = groups_gather (suc around) (suc k + group_constructor_count (tree_with_names w.source g)) rest first.known one.gathers.after one.own (omega (arith, at, one.gathers.apart.counted)) later parts.1 one.gathers.agrees b.0 in
+        let c : ℕ = group_constructor_count (tree_with_names w.source g) in
+        let d : ℕ = groups_constructor_count (tree_with_names w.source rest) in
+        subst₂ (λ j z. Denotes n p before k j z (made_record_type word ordinal all.known).known) (later_groups k c d) (grouped (denoted_groups (meanings naming_by_spelling env) (suc k + group_constructor_count (tree_with_names w.source g)) (tree_with_names w.source rest)) (λ ys. denoted_group (meanings naming_by_spelling env) (suc k) ys (tree_with_names w.source g)) (λ fs. check_limits (record_shape k fs)))
+        (record_denotes n p before k (suc k + c + d) word ordinal (option_and_then (λ ys. denoted_group (meanings naming_by_spelling env) (suc k) ys (tree_with_names w.source g)) (denoted_groups (meanings naming_by_spelling env) (suc k + group_constructor_count (tree_with_names w.source g)) (tree_with_names w.source rest))) all.known here
+        (both_gather n p before (suc k) (suc k + c) (suc k + c + d) no_field_shape (λ ys. denoted_group (meanings naming_by_spelling env) (suc k) ys (tree_with_names w.source g)) first.known all.known (denoted_groups (meanings naming_by_spelling env) (suc k + group_constructor_count (tree_with_names w.source g)) (tree_with_names w.source rest)) one other) b.1)
 
-    pub group_gathers : (around k : ℕ) (t : Tree ℕ fields) (g : Gathered) (before : List Shape) (first : FieldShapes) → length before + around ≡ k → IsKnownAt w g.following before n scope env → AreSeen w scope t → GatheredAgrees before g first → (reported_fields around g t).faults ≡ []
-        → GroupGathers n g.following before k (k + group_constructors (named w.source t)) first (λ ys. denoted_group (meanings as_names env) k ys (named w.source t)) (reported_fields around g t).known
+    pub group_gathers : (around k : ℕ) (t : Tree ℕ fields) (g : KnownFields) (before : List Shape) (first : FieldShapes) → length before + around ≡ k → IsKnownAt w g.following before n scope env → AreSeen w scope t → GatheredAgrees before g first → (reported_fields around g t).faults ≡ []
+        → GroupGathers n g.following before k (k + group_constructor_count (tree_with_names w.source t)) first (λ ys. denoted_group (meanings naming_by_spelling env) k ys (tree_with_names w.source t)) (reported_fields around g t).known
     group_gathers around k no_fields g before first at st seen agrees h = record { own = no_field_shape; given_is = λ ys. refl; gathers = nothing_more n g before k (k + 0) (omega arith) first st.table agrees }
     group_gathers around k (some_fields ns t) g before first at st seen agrees h =
-        let u : Reported TypedAfter = reported_type around g.following t in
+        let u : Reported TypeWithState = reported_type around g.following t in
         let d = type_denotes around k t g.following before at st seen (none-reported u.faults [] h).0 in
-        names_gather n w g before k (k + constructors (named w.source t)) first (names_listed ns) (map (λ x. x) (names_listed (named w.source ns))) (denoted (meanings as_names env) k (named w.source t)) u.known st.source
-        (map-same (names_listed (named w.source ns)) ∙ names_listed-mapped (text_at w.source) (value_at w.source) ns) agrees d
+        names_gather n w g before k (k + constructor_count (tree_with_names w.source t)) first (names_in_list ns) (map (λ x. x) (names_in_list (tree_with_names w.source ns))) (denoted (meanings naming_by_spelling env) k (tree_with_names w.source t)) u.known st.source
+        (map-same (names_in_list (tree_with_names w.source ns)) ∙ names_in_list-mapped (text_at w.source) (value_at w.source) ns) agrees d
 
-    pub groups_gather : (around k : ℕ) (t : Tree ℕ (items further_fields)) (g : Gathered) (before : List Shape) (first : FieldShapes) → length before + around ≡ k → IsKnownAt w g.following before n scope env → AreSeen w scope t → GatheredAgrees before g first → (reported_groups around g t).faults ≡ []
-        → GroupsGather n g.following before k (k + groups_constructors (named w.source t)) first (denoted_groups (meanings as_names env) k (named w.source t)) (reported_groups around g t).known
+    pub groups_gather : (around k : ℕ) (t : Tree ℕ (items further_fields)) (g : KnownFields) (before : List Shape) (first : FieldShapes) → length before + around ≡ k → IsKnownAt w g.following before n scope env → AreSeen w scope t → GatheredAgrees before g first → (reported_groups around g t).faults ≡ []
+        → GroupsGather n g.following before k (k + groups_constructor_count (tree_with_names w.source t)) first (denoted_groups (meanings naming_by_spelling env) k (tree_with_names w.source t)) (reported_groups around g t).known
     groups_gather around k end g before first at st seen agrees h = record { own = no_field_shape; given_is = refl; gathers = nothing_more n g before k (k + 0) (omega arith) first st.table agrees }
     groups_gather around k (more (then_fields f) rest) g before first at st seen agrees h =
         let parts = each_part (IsSeen w scope) (occurrences f) (occurrences rest) seen in
-        let next : Reported Gathered = reported_fields around g f in
-        let all : Reported Gathered = reported_groups around next.known rest in
+        let next : Reported KnownFields = reported_fields around g f in
+        let all : Reported KnownFields = reported_groups around next.known rest in
         let a = none-reported next.faults all.faults h in
         let one = group_gathers around k f g before first at st parts.0 agrees a.0 in
         let later = holds_later w n n n g.following next.known.following before one.gathers.after scope env (le_refl n) (le_refl n) st one.gathers.later in
-        let other = groups_gather around (k + group_constructors (named w.source f)) rest next.known one.gathers.after (followed first one.own) (omega (arith, at, one.gathers.apart.counted)) later parts.1 one.gathers.agrees a.1 in
-        let c : ℕ = group_constructors (named w.source f) in
-        let d : ℕ = groups_constructors (named w.source rest) in
-        subst (λ j. GroupsGather n g.following before k j first (denoted_groups (meanings as_names env) k (named w.source (more (then_fields f) rest))) all.known) (more_groups k c d)
-        (both_gather n g.following before k (k + c) (k + c + d) first (λ ys. denoted_group (meanings as_names env) k ys (named w.source f)) next.known all.known (denoted_groups (meanings as_names env) (k + group_constructors (named w.source f)) (named w.source rest)) one other)
+        let other = groups_gather around (k + group_constructor_count (tree_with_names w.source f)) rest next.known one.gathers.after (followed first one.own) (omega (arith, at, one.gathers.apart.counted)) later parts.1 one.gathers.agrees a.1 in
+        let c : ℕ = group_constructor_count (tree_with_names w.source f) in
+        let d : ℕ = groups_constructor_count (tree_with_names w.source rest) in
+        subst (λ j. GroupsGather n g.following before k j first (denoted_groups (meanings naming_by_spelling env) k (tree_with_names w.source (more (then_fields f) rest))) all.known) (more_groups k c d)
+        (both_gather n g.following before k (k + c) (k + c + d) first (λ ys. denoted_group (meanings naming_by_spelling env) k ys (tree_with_names w.source f)) next.known all.known (denoted_groups (meanings naming_by_spelling env) (k + group_constructor_count (tree_with_names w.source f)) (tree_with_names w.source rest)) one other)

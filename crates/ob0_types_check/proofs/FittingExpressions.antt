@@ -13,14 +13,14 @@ use Rattle.ob0_tree.specs.declared.tree.Sign.{Sign}
 use Rattle.ob0_tree.specs.Places.{text_at, value_at}
 use Rattle.ob0_tree.specs.Tree.{Sort, Tree, addend, adds, compares, designator, end, expression, factor, field, identifiers, index, integer, item, items, mapped, more, multiplier, multiplies, negation, none, one, parenthesised, product, relates, selector, simple, sum, term}
 use Rattle.ob0_language_types.specs.Expressions.{Meanings, a_variable, evaluate, evaluate_addends, evaluate_factor, evaluate_multipliers, evaluate_simple, evaluate_term}
-use Rattle.ob0_language_types.specs.Selected.{both}
-use Rattle.ob0_language_types.specs.Typing.{add_type, complement_type, constant_of, constants_only, element_type, field_type, given_value, multiply_type, object_type, relation_type, sign_type, type_at, type_of, type_of_addends, type_of_factor, type_of_multipliers, type_of_simple, type_of_term}
+use Rattle.ob0_language_types.specs.Selected.{apply_to_both}
+use Rattle.ob0_language_types.specs.Typing.{addition_type, negation_type, constant_of, constant_meanings, element_type, field_type, outcome_value, multiplication_type, object_type, relation_type, sign_type, type_at, type_of, type_of_addends, type_of_factor, type_of_multipliers, type_of_simple, type_of_term}
 use Rattle.ob0_types_table.specs.Operators.{product_value, sum_value}
 use Rattle.ob0_language_values.specs.Values.{Place, Shape, Value, boolean_shape, integer_shape, negate, number, relate}
 use Rattle.ob0_language_values.specs.Values.{apply_sign as with_sign}
 use Rattle.ob0_types_check.specs.ExpressionFaults.{reported_addends, reported_expression, reported_factor, reported_multipliers, reported_selectors, reported_simple, reported_term}
 use Rattle.ob0_types_check.specs.Known.{Facts, Operand}
-use Rattle.ob0_types_check.specs.Operations.{add_operands, complement_operand, element_selected, field_selected, multiply_operands, name_operand, relate_operands, sign_operand}
+use Rattle.ob0_types_check.specs.Operations.{add_operands, complement_operand, element_operand, field_operand, multiply_operands, name_operand, relate_operands, sign_operand}
 use Rattle.ob0_types_check.specs.Agreement.{TypesAgree}
 use Rattle.ob0_types_check.proofs.Operands.{IsOf, added-fits, complement-of, complemented-fits, element-fits, field-fits, multiplied-fits, none-of, related-fits, relation-of, apply_sign-fits, some-of}
 use Rattle.ob0_types_check.proofs.Unreported.{goes-on, none-reported, then-assoc, then-itself}
@@ -61,19 +61,19 @@ module _ {T : Type 0} (facts : Facts T) where
   pub parts-none : (x : Operand T) (path : Tree ℕ (items selector)) → x.value ≡ None → (reported_selectors facts x path).known.value ≡ None
   unfolding reported_expression
   parts-none x end h = h
-  parts-none x (more (field n) rest) h = parts-none (field_selected facts x n).known rest refl
-  parts-none x (more (index e) rest) h = parts-none (element_selected facts x (reported_expression facts e).known).known rest refl
+  parts-none x (more (field n) rest) h = parts-none (field_operand facts x n).known rest refl
+  parts-none x (more (index e) rest) h = parts-none (element_operand facts x (reported_expression facts e).known).known rest refl
 
   pub parts-have-none : (x : Operand T) (part : Tree ℕ (item selector)) (path : Tree ℕ (items selector)) → (reported_selectors facts x (more part path)).known.value ≡ None
   unfolding reported_expression
-  parts-have-none x (field n) path = parts-none (field_selected facts x n).known path refl
-  parts-have-none x (index e) path = parts-none (element_selected facts x (reported_expression facts e).known).known path refl
+  parts-have-none x (field n) path = parts-none (field_operand facts x n).known path refl
+  parts-have-none x (index e) path = parts-none (element_operand facts x (reported_expression facts e).known).known path refl
 
   pub parts-placed : (x : Operand T) (path : Tree ℕ (items selector)) → (reported_selectors facts x path).known.is_place ≡ x.is_place
   unfolding reported_expression
   parts-placed x end = refl
-  parts-placed x (more (field n) rest) = parts-placed (field_selected facts x n).known rest
-  parts-placed x (more (index e) rest) = parts-placed (element_selected facts x (reported_expression facts e).known).known rest
+  parts-placed x (more (field n) rest) = parts-placed (field_operand facts x n).known rest
+  parts-placed x (more (index e) rest) = parts-placed (element_operand facts x (reported_expression facts e).known).known rest
 
   pub addends-apart : (x : Operand T) (rest : Tree ℕ (items addend)) → x.is_place ≡ false → (reported_addends facts x rest).known.is_place ≡ false
   unfolding reported_expression
@@ -93,30 +93,30 @@ module _ {T N P : Type 0} (facts : Facts T) (shape : T → Option Shape) (types 
   All t = TokensFit facts shape label meaning (identifiers role.Declaring t)
 
   abbrev pub among : Meanings N Place (Unit {0})
-  among = constants_only meaning
+  among = constant_meanings meaning
 
   -- holds if the operand of an expression has the expression's type and value; the next three are about a simple
   -- expression, a term and a factor
   abbrev pub FitsExpression : Tree ℕ expression → Type 0
-  FitsExpression e = Fits shape (reported_expression facts e).known (type_of meaning (tree e)) (given_value (evaluate among [] (tree e)))
+  FitsExpression e = Fits shape (reported_expression facts e).known (type_of meaning (tree e)) (outcome_value (evaluate among [] (tree e)))
 
   abbrev pub FitsSimple : Tree ℕ simple → Type 0
-  FitsSimple a = Fits shape (reported_simple facts a).known (type_of_simple meaning (tree a)) (given_value (evaluate_simple among [] (tree a)))
+  FitsSimple a = Fits shape (reported_simple facts a).known (type_of_simple meaning (tree a)) (outcome_value (evaluate_simple among [] (tree a)))
 
   abbrev pub FitsTerm : Tree ℕ term → Type 0
-  FitsTerm t = Fits shape (reported_term facts t).known (type_of_term meaning (tree t)) (given_value (evaluate_term among [] (tree t)))
+  FitsTerm t = Fits shape (reported_term facts t).known (type_of_term meaning (tree t)) (outcome_value (evaluate_term among [] (tree t)))
 
   abbrev pub FitsFactor : Tree ℕ factor → Type 0
-  FitsFactor f = Fits shape (reported_factor facts f).known (type_of_factor meaning (tree f)) (given_value (evaluate_factor among [] (tree f)))
+  FitsFactor f = Fits shape (reported_factor facts f).known (type_of_factor meaning (tree f)) (outcome_value (evaluate_factor among [] (tree f)))
 
   -- holds if the operand after further terms, which follow an operand `x`, has the right type and value; the next one
   -- is about factors
   abbrev pub FitsAddends : Operand T → Shape → Tree ℕ (items addend) → Type 0
-  FitsAddends x s rest = Fits shape (reported_addends facts x rest).known (type_of_addends meaning s (tree rest)) (option_and_then (λ v. given_value (evaluate_addends among [] v (tree rest))) x.value)
+  FitsAddends x s rest = Fits shape (reported_addends facts x rest).known (type_of_addends meaning s (tree rest)) (option_and_then (λ v. outcome_value (evaluate_addends among [] v (tree rest))) x.value)
 
   abbrev pub FitsMultipliers : Operand T → Shape → Tree ℕ (items multiplier) → Type 0
   FitsMultipliers x s rest =
-      Fits shape (reported_multipliers facts x rest).known (type_of_multipliers meaning s (tree rest)) (option_and_then (λ v. given_value (evaluate_multipliers among [] v (tree rest))) x.value)
+      Fits shape (reported_multipliers facts x rest).known (type_of_multipliers meaning s (tree rest)) (option_and_then (λ v. outcome_value (evaluate_multipliers among [] v (tree rest))) x.value)
 
   -- holds if the operand after selectors has the right type
   pub record FitsSelectors (o : Operand T) (s : Shape) (path : Tree ℕ (items selector)) : Type 0 where
@@ -135,39 +135,39 @@ module _ {T N P : Type 0} (facts : Facts T) (shape : T → Option Shape) (types 
         known = known;
         typed = goes-on (λ x. option_and_then (relation_type r x) (type_of_simple meaning (tree b))) (type_of_simple meaning (tree a)) fa.of (Some boolean_shape) fa.typed
             (goes-on (relation_type r fa.of) (type_of_simple meaning (tree b)) fb.of (Some boolean_shape) fb.typed typed);
-        valued = (λ i. both (λ x y. given_value (relate r x y)) (fa.valued i) (fb.valued i)) ∙ sym (related-valued among r (tree a) (tree b));
+        valued = (λ i. apply_to_both (λ x y. outcome_value (relate r x y)) (fa.valued i) (fb.valued i)) ∙ sym (related-valued among r (tree a) (tree b));
         scalar = relation-of r (reported_simple facts a).known.value (reported_simple facts b).known.value;
       }
 
-  addend-whole : (x : Operand T) (s : Shape) (o : AddOperator) (t : Tree ℕ term) (rest : Tree ℕ (items addend)) (ft : FitsTerm t) (w : Shape) → add_type o s ft.of ≡ Some w
+  addend-whole : (x : Operand T) (s : Shape) (o : AddOperator) (t : Tree ℕ term) (rest : Tree ℕ (items addend)) (ft : FitsTerm t) (w : Shape) → addition_type o s ft.of ≡ Some w
       → FitsAddends (add_operands facts o x (reported_term facts t).known).known w rest → FitsAddends x s (more (adds o t) rest)
   unfolding reported_expression type_of evaluate
   addend-whole x s o t rest ft w typed fr = record {
     of = fr.of;
     known = fr.known;
-    typed = goes-on (λ y. option_and_then (λ z. type_of_addends meaning z (tree rest)) (add_type o s y)) (type_of_term meaning (tree t)) ft.of (Some fr.of) ft.typed
-        (goes-on (λ z. type_of_addends meaning z (tree rest)) (add_type o s ft.of) w (Some fr.of) typed fr.typed);
+    typed = goes-on (λ y. option_and_then (λ z. type_of_addends meaning z (tree rest)) (addition_type o s y)) (type_of_term meaning (tree t)) ft.of (Some fr.of) ft.typed
+        (goes-on (λ z. type_of_addends meaning z (tree rest)) (addition_type o s ft.of) w (Some fr.of) typed fr.typed);
     valued = fr.valued
-        ∙ (then-assoc (sum_value o (reported_term facts t).known.value) (λ v. given_value (evaluate_addends among [] v (tree rest))) x.value
-        ∙ (λ i. option_and_then (λ v. (ap (λ y. option_and_then (λ u. given_value (evaluate_addends among [] u (tree rest))) (sum_value o y v)) ft.valued ∙ sym (addend-valued among o (tree t) (tree rest) v)) i) x.value));
+        ∙ (then-assoc (sum_value o (reported_term facts t).known.value) (λ v. outcome_value (evaluate_addends among [] v (tree rest))) x.value
+        ∙ (λ i. option_and_then (λ v. (ap (λ y. option_and_then (λ u. outcome_value (evaluate_addends among [] u (tree rest))) (sum_value o y v)) ft.valued ∙ sym (addend-valued among o (tree t) (tree rest) v)) i) x.value));
     scalar = fr.scalar;
   }
 
-  multiplier-whole : (x : Operand T) (s : Shape) (o : MultiplyOperator) (f : Tree ℕ factor) (rest : Tree ℕ (items multiplier)) (ff : FitsFactor f) (w : Shape) → multiply_type o s ff.of ≡ Some w
+  multiplier-whole : (x : Operand T) (s : Shape) (o : MultiplyOperator) (f : Tree ℕ factor) (rest : Tree ℕ (items multiplier)) (ff : FitsFactor f) (w : Shape) → multiplication_type o s ff.of ≡ Some w
       → FitsMultipliers (multiply_operands facts o x (reported_factor facts f).known).known w rest → FitsMultipliers x s (more (multiplies o f) rest)
   unfolding reported_expression type_of evaluate
   multiplier-whole x s o f rest ff w typed fr = record {
     of = fr.of;
     known = fr.known;
-    typed = goes-on (λ y. option_and_then (λ z. type_of_multipliers meaning z (tree rest)) (multiply_type o s y)) (type_of_factor meaning (tree f)) ff.of (Some fr.of) ff.typed
-        (goes-on (λ z. type_of_multipliers meaning z (tree rest)) (multiply_type o s ff.of) w (Some fr.of) typed fr.typed);
+    typed = goes-on (λ y. option_and_then (λ z. type_of_multipliers meaning z (tree rest)) (multiplication_type o s y)) (type_of_factor meaning (tree f)) ff.of (Some fr.of) ff.typed
+        (goes-on (λ z. type_of_multipliers meaning z (tree rest)) (multiplication_type o s ff.of) w (Some fr.of) typed fr.typed);
     valued = fr.valued
-        ∙ (then-assoc (product_value o (reported_factor facts f).known.value) (λ v. given_value (evaluate_multipliers among [] v (tree rest))) x.value
-        ∙ (λ i. option_and_then (λ v. (ap (λ y. option_and_then (λ u. given_value (evaluate_multipliers among [] u (tree rest))) (product_value o y v)) ff.valued ∙ sym (multiplier-valued among o (tree f) (tree rest) v)) i) x.value));
+        ∙ (then-assoc (product_value o (reported_factor facts f).known.value) (λ v. outcome_value (evaluate_multipliers among [] v (tree rest))) x.value
+        ∙ (λ i. option_and_then (λ v. (ap (λ y. option_and_then (λ u. outcome_value (evaluate_multipliers among [] u (tree rest))) (product_value o y v)) ff.valued ∙ sym (multiplier-valued among o (tree f) (tree rest) v)) i) x.value));
     scalar = fr.scalar;
   }
 
-  sign-value : (g : Option Sign) (o : Operand T) → (sign_operand facts g o).known.value ≡ option_and_then (λ x. given_value (with_sign g x)) o.value
+  sign-value : (g : Option Sign) (o : Operand T) → (sign_operand facts g o).known.value ≡ option_and_then (λ x. outcome_value (with_sign g x)) o.value
   sign-value None o = then-itself o.value
   sign-value (Some g) o = refl
 
@@ -180,8 +180,8 @@ module _ {T N P : Type 0} (facts : Facts T) (shape : T → Option Shape) (types 
     typed = goes-on (λ x. option_and_then (λ y. type_of_addends meaning y (tree rest)) (sign_type g x)) (type_of_term meaning (tree t)) ft.of (Some fr.of) ft.typed
         (goes-on (λ y. type_of_addends meaning y (tree rest)) (sign_type g ft.of) w (Some fr.of) typed fr.typed);
     valued = fr.valued
-        ∙ (ap (option_and_then (λ v. given_value (evaluate_addends among [] v (tree rest)))) (sign-value g (reported_term facts t).known ∙ ap (option_and_then (λ x. given_value (with_sign g x))) ft.valued)
-        ∙ (then-assoc (λ x. given_value (with_sign g x)) (λ v. given_value (evaluate_addends among [] v (tree rest))) (given_value (evaluate_term among [] (tree t)))
+        ∙ (ap (option_and_then (λ v. outcome_value (evaluate_addends among [] v (tree rest)))) (sign-value g (reported_term facts t).known ∙ ap (option_and_then (λ x. outcome_value (with_sign g x))) ft.valued)
+        ∙ (then-assoc (λ x. outcome_value (with_sign g x)) (λ v. outcome_value (evaluate_addends among [] v (tree rest))) (outcome_value (evaluate_term among [] (tree t)))
         ∙ sym (simple-valued among g (tree t) (tree rest))));
     scalar = fr.scalar;
   }
@@ -192,12 +192,12 @@ module _ {T N P : Type 0} (facts : Facts T) (shape : T → Option Shape) (types 
     of = fr.of;
     known = fr.known;
     typed = goes-on (λ x. type_of_multipliers meaning x (tree rest)) (type_of_factor meaning (tree f)) ff.of (Some fr.of) ff.typed fr.typed;
-    valued = fr.valued ∙ (ap (option_and_then (λ v. given_value (evaluate_multipliers among [] v (tree rest)))) ff.valued ∙ sym (term-valued among (tree f) (tree rest)));
+    valued = fr.valued ∙ (ap (option_and_then (λ v. outcome_value (evaluate_multipliers among [] v (tree rest)))) ff.valued ∙ sym (term-valued among (tree f) (tree rest)));
     scalar = fr.scalar;
   }
 
   designator-valued : (x : ℕ) (path : Tree ℕ (items selector)) → NameFits facts shape label meaning x
-      → (reported_factor facts (designator x path)).known.value ≡ given_value (evaluate_factor among [] (tree (designator x path)))
+      → (reported_factor facts (designator x path)).known.value ≡ outcome_value (evaluate_factor among [] (tree (designator x path)))
   unfolding reported_expression type_of evaluate
   designator-valued x end name = name.fits.valued ∙ sym (name-valued among (label x) (constant_of (meaning.object_for (label x))) refl)
   designator-valued x (more s path) name =
@@ -226,8 +226,8 @@ module _ {T N P : Type 0} (facts : Facts T) (shape : T → Option Shape) (types 
       record {
         of = boolean_shape;
         known = known;
-        typed = goes-on complement_type (type_of_factor meaning (tree f)) ff.of (Some boolean_shape) ff.typed typed;
-        valued = ap (option_and_then (λ x. given_value (negate x))) ff.valued ∙ sym (negation-valued among (tree f));
+        typed = goes-on negation_type (type_of_factor meaning (tree f)) ff.of (Some boolean_shape) ff.typed typed;
+        valued = ap (option_and_then (λ x. outcome_value (negate x))) ff.valued ∙ sym (negation-valued among (tree f));
         scalar = complement-of (reported_factor facts f).known.value;
       }
 
@@ -240,7 +240,7 @@ module _ {T N P : Type 0} (facts : Facts T) (shape : T → Option Shape) (types 
   integer-whole n = record { of = integer_shape; known = types.integer; typed = refl; valued = refl; scalar = some-of integer_shape (number (pos (value_at facts.source n))) refl }
 
   field-whole : (x : Operand T) (s : Shape) (n : ℕ) (rest : Tree ℕ (items selector)) (u : Shape) → field_type s (text_at facts.source n) ≡ Some u → meaning.written (label n) ≡ text_at facts.source n
-      → FitsSelectors (field_selected facts x n).known u rest → FitsSelectors x s (more (field n) rest)
+      → FitsSelectors (field_operand facts x n).known u rest → FitsSelectors x s (more (field n) rest)
   unfolding reported_expression type_of
   field-whole x s n rest u typed written fs = record {
     of = fs.of;
@@ -249,7 +249,7 @@ module _ {T N P : Type 0} (facts : Facts T) (shape : T → Option Shape) (types 
   }
 
   index-whole : (x : Operand T) (s : Shape) (e : Tree ℕ expression) (rest : Tree ℕ (items selector)) (fe : FitsExpression e) (u : Shape) → element_type s fe.of ≡ Some u
-      → FitsSelectors (element_selected facts x (reported_expression facts e).known).known u rest → FitsSelectors x s (more (index e) rest)
+      → FitsSelectors (element_operand facts x (reported_expression facts e).known).known u rest → FitsSelectors x s (more (index e) rest)
   unfolding reported_expression type_of
   index-whole x s e rest fe u typed fs = record {
     of = fs.of;
@@ -339,13 +339,13 @@ module _ {T N P : Type 0} (facts : Facts T) (shape : T → Option Shape) (types 
     pub selectors-fit : (x : Operand T) (s : Shape) (path : Tree ℕ (items selector)) → shape x.of ≡ Some s → All path → (reported_selectors facts x path).faults ≡ [] → FitsSelectors x s path
     selectors-fit x s end hx k h = ended-selectors x s hx
     selectors-fit x s (more (field n) rest) hx k h =
-        let parts = none-reported (field_selected facts x n).faults _ h in
+        let parts = none-reported (field_operand facts x n).faults _ h in
         let (u, known, typed) = field-fits facts shape types x s hx n parts.0 in
-        field-whole x s n rest u typed k.0 (selectors-fit (field_selected facts x n).known u rest known k.1 parts.1)
+        field-whole x s n rest u typed k.0 (selectors-fit (field_operand facts x n).known u rest known k.1 parts.1)
     selectors-fit x s (more (index e) rest) hx k h =
         let parts = split (ids e) (ids rest) k in
         let left = none-reported (reported_expression facts e).faults _ h in
-        let right = none-reported (element_selected facts x (reported_expression facts e).known).faults _ left.1 in
+        let right = none-reported (element_operand facts x (reported_expression facts e).known).faults _ left.1 in
         let fe : FitsExpression e = expression-fits e parts.0 left.0 in
         let (u, known, typed) = element-fits facts shape types x (reported_expression facts e).known s fe.of hx fe.known right.0 in
-        index-whole x s e rest fe u typed (selectors-fit (element_selected facts x (reported_expression facts e).known).known u rest known parts.1 right.1)
+        index-whole x s e rest fe u typed (selectors-fit (element_operand facts x (reported_expression facts e).known).known u rest known parts.1 right.1)

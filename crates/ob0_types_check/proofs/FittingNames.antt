@@ -6,15 +6,15 @@ use Rattle.ob0_tree.specs.declared.tree.Role.{Role}
 use Rattle.ob0_tree.specs.declared.tree.Role.TheVariants as role
 use Rattle.ob0_language_types.specs.Expressions as meant
 use Rattle.ob0_language_types.specs.Expressions.{Object}
-use Rattle.ob0_language_types.specs.Typing.{constant_of, constants_only, object_type, value_type}
-use Rattle.ob0_language_types.specs.WellTyped.{Signature, Typed}
+use Rattle.ob0_language_types.specs.Typing.{constant_of, constant_meanings, object_type, value_type}
+use Rattle.ob0_language_types.specs.WellTyped.{Signature, TypeMeanings}
 use Rattle.ob0_language_values.specs.Values.{Shape, Value, boolean_shape, elements, integer_shape, members, number, truth}
 use Rattle.ob0_types_check.specs.Known.{Facts, Meaning, Operand, a_constant, a_procedure, a_type, a_variable}
-use Rattle.ob0_types_check.specs.Operations.{a_constant_name, a_name, at_token, named_value, right}
-use Rattle.ob0_types_check.specs.Agreement.{MeansAlike, TokenAgrees, TokensAgree, TypesAgree}
+use Rattle.ob0_types_check.specs.Operations.{constant_name_operand, typed_name_operand, fault_at_token, operand_by_meaning, without_fault}
+use Rattle.ob0_types_check.specs.Agreement.{KnownMeaningAgrees, TokenAgrees, TokensAgree, TypesAgree}
 use Rattle.ob0_types_check.proofs.FittingExpressions.{Fits, TokenFits, TokensFit}
 use Rattle.ob0_types_check.proofs.Operands.{none-of, some-of}
-use Rattle.ob0_scan.specs.declared.fault.Code.TheVariants as code
+use Rattle.ob0_scan.specs.declared.fault.FaultCode.TheVariants as code
 
 -- holds if the operand of a name has the type and the value of the name's object
 pub record ObjectFits {T P : Type 0} (shape : T → Option Shape) (k : Operand T) (o : Option (Object Shape P)) : Type 0 where
@@ -22,7 +22,7 @@ pub record ObjectFits {T P : Type 0} (shape : T → Option Shape) (k : Operand T
   pub placed : k.is_place ≡ true → o ≡ Some (meant.a_variable fits.of)
 
 module _ {T : Type 0} (facts : Facts T) (shape : T → Option Shape) (types : TypesAgree facts.types shape) where
-  constant-fits : {P : Type 0} (x : ℕ) (v : Value) → is_some (value_type v) ≡ true → ObjectFits {P = P} shape (a_constant_name facts.types (Some v) x) (Some (meant.a_constant v))
+  constant-fits : {P : Type 0} (x : ℕ) (v : Value) → is_some (value_type v) ≡ true → ObjectFits {P = P} shape (constant_name_operand facts.types (Some v) x) (Some (meant.a_constant v))
   constant-fits x (number n) h = record {
     fits = record { of = integer_shape; known = types.integer; typed = refl; valued = refl; scalar = some-of integer_shape (number n) refl };
     placed = λ e. absurd (true≢false (sym e));
@@ -35,36 +35,36 @@ module _ {T : Type 0} (facts : Facts T) (shape : T → Option Shape) (types : Ty
   constant-fits x (members k ms) h = absurd (cc)
 
   variable-fits : {P : Type 0} (x : ℕ) (t : T) (s : Shape) → shape t ≡ Some s → (b : Bool)
-      → (if b then record { known = a_name facts.types.unknown x; faults = at_token facts code.NotConstant x } else right (a_name t x)).faults ≡ []
-      → ObjectFits {P = P} shape (if b then record { known = a_name facts.types.unknown x; faults = at_token facts code.NotConstant x } else right (a_name t x)).known (Some (meant.a_variable s))
+      → (if b then record { known = typed_name_operand facts.types.unknown x; faults = fault_at_token facts code.NotConstant x } else without_fault (typed_name_operand t x)).faults ≡ []
+      → ObjectFits {P = P} shape (if b then record { known = typed_name_operand facts.types.unknown x; faults = fault_at_token facts code.NotConstant x } else without_fault (typed_name_operand t x)).known (Some (meant.a_variable s))
   variable-fits x t s known true h = absurd (cc)
   variable-fits x t s known false h = record { fits = record { of = s; known = known; typed = refl; valued = refl; scalar = none-of s }; placed = λ e. refl }
 
-  holds-fits : (x : ℕ) (m : Option (Meaning T)) (o : Option (Object Shape Signature)) → MeansAlike shape m o → (named_value facts x m).faults ≡ [] → ObjectFits shape (named_value facts x m).known o
+  holds-fits : (x : ℕ) (m : Option (Meaning T)) (o : Option (Object Shape Signature)) → KnownMeaningAgrees shape m o → (operand_by_meaning facts x m).faults ≡ [] → ObjectFits shape (operand_by_meaning facts x m).known o
   holds-fits x None o a h = absurd a
   holds-fits x (Some (a_type t)) o a h = absurd (cc)
   holds-fits x (Some (a_procedure fs)) o a h = absurd (cc)
   holds-fits x (Some (a_constant c)) o (v, reported, holds, scalar) h =
-      subst₂ (λ c o. ObjectFits shape (a_constant_name facts.types c x) o) (sym reported) (sym holds) (constant-fits x v scalar)
+      subst₂ (λ c o. ObjectFits shape (constant_name_operand facts.types c x) o) (sym reported) (sym holds) (constant-fits x v scalar)
   holds-fits x (Some (a_variable t)) o (s, known, holds) h =
-      subst (λ o. ObjectFits shape (named_value facts x (Some (a_variable t))).known o) (sym holds) (variable-fits x t s known facts.only_constants h)
+      subst (λ o. ObjectFits shape (operand_by_meaning facts x (Some (a_variable t))).known o) (sym holds) (variable-fits x t s known facts.only_constants h)
 
   -- The operand of a name in a constant expression, in which names may only refer to constants, has the type and value
   -- of its object.
-  no-variable : (x : ℕ) (t : T) (b : Bool) → b ≡ true → (if b then record { known = a_name facts.types.unknown x; faults = at_token facts code.NotConstant x } else right (a_name t x)).faults ≡ [] → ⊥
+  no-variable : (x : ℕ) (t : T) (b : Bool) → b ≡ true → (if b then record { known = typed_name_operand facts.types.unknown x; faults = fault_at_token facts code.NotConstant x } else without_fault (typed_name_operand t x)).faults ≡ [] → ⊥
   no-variable x t true only h = cc
   no-variable x t false only h = true≢false (sym only)
 
-  only-fits : {Q : Type 0} (x : ℕ) (m : Option (Meaning T)) (o : Option (Object Shape Signature)) → facts.only_constants ≡ true → MeansAlike shape m o → (named_value facts x m).faults ≡ []
-      → ObjectFits {P = Q} shape (named_value facts x m).known (option_map meant.a_constant (constant_of o))
+  only-fits : {Q : Type 0} (x : ℕ) (m : Option (Meaning T)) (o : Option (Object Shape Signature)) → facts.only_constants ≡ true → KnownMeaningAgrees shape m o → (operand_by_meaning facts x m).faults ≡ []
+      → ObjectFits {P = Q} shape (operand_by_meaning facts x m).known (option_map meant.a_constant (constant_of o))
   only-fits x None o only a h = absurd a
   only-fits x (Some (a_type t)) o only a h = absurd (cc)
   only-fits x (Some (a_procedure fs)) o only a h = absurd (cc)
   only-fits {Q = Q} x (Some (a_constant c)) o only (v, reported, holds, scalar) h =
-      subst₂ (λ c o. ObjectFits {P = Q} shape (a_constant_name facts.types c x) (option_map meant.a_constant (constant_of o))) (sym reported) (sym holds) (constant-fits x v scalar)
+      subst₂ (λ c o. ObjectFits {P = Q} shape (constant_name_operand facts.types c x) (option_map meant.a_constant (constant_of o))) (sym reported) (sym holds) (constant-fits x v scalar)
   only-fits x (Some (a_variable t)) o only a h = absurd (no-variable x t facts.only_constants only h)
 
-module _ {T N : Type 0} (facts : Facts T) (shape : T → Option Shape) (types : TypesAgree facts.types shape) (label : ℕ → N) (meaning : Typed N) where
+module _ {T N : Type 0} (facts : Facts T) (shape : T → Option Shape) (types : TypesAgree facts.types shape) (label : ℕ → N) (meaning : TypeMeanings N) where
   token-fits : (r : Role) (x : ℕ) → TokenAgrees facts shape label meaning r x → TokenFits facts shape label meaning r x
   token-fits role.LookedUp x a = λ h. let o = holds-fits facts shape types x (facts.object_for x) (meaning.object_for (label x)) a h in record { fits = o.fits; placed = o.placed }
   token-fits role.FieldName x a = a
@@ -76,13 +76,13 @@ module _ {T N : Type 0} (facts : Facts T) (shape : T → Option Shape) (types : 
   tokens-fit [] a = tt
   tokens-fit (x ∷ xs) a = (token-fits x.0 x.1 a.0, tokens-fit xs a.1)
 
-  only-token : (Q : Type 0) → facts.only_constants ≡ true → (r : Role) (x : ℕ) → TokenAgrees facts shape label meaning r x → TokenFits {P = Q} facts shape label (constants_only meaning) r x
+  only-token : (Q : Type 0) → facts.only_constants ≡ true → (r : Role) (x : ℕ) → TokenAgrees facts shape label meaning r x → TokenFits {P = Q} facts shape label (constant_meanings meaning) r x
   only-token Q only role.LookedUp x a = λ h. let o = only-fits facts shape types x (facts.object_for x) (meaning.object_for (label x)) only a h in record { fits = o.fits; placed = o.placed }
   only-token Q only role.FieldName x a = a
   only-token Q only role.Declaring x a = tt
   only-token Q only role.ClosingName x a = tt
   only-token Q only role.ModuleName x a = tt
 
-  pub only-tokens : (Q : Type 0) → facts.only_constants ≡ true → (xs : List (Role × ℕ)) → TokensAgree facts shape label meaning xs → TokensFit {P = Q} facts shape label (constants_only meaning) xs
+  pub only-tokens : (Q : Type 0) → facts.only_constants ≡ true → (xs : List (Role × ℕ)) → TokensAgree facts shape label meaning xs → TokensFit {P = Q} facts shape label (constant_meanings meaning) xs
   only-tokens Q only [] a = tt
   only-tokens Q only (x ∷ xs) a = (only-token Q only x.0 x.1 a.0, only-tokens Q only xs a.1)

@@ -1,7 +1,7 @@
 -- Statements fit if no fault is reported for them.
 use Rattle.std.proofs.Common.{◌≡◌, ℕ, Bool, true, false, ◌&&◌, not, nat_eq, List, [], ◌∷◌, ◌++◌, length, map, Option, Some, None, if◌then◌else◌, refl, sym, ap, ◌∙◌, arith, eqb-true}
 use Rattle.std.proofs.lemmas.Bool.{and_from}
-use Rattle.ob0_scan.specs.declared.fault.Code.TheVariants as code
+use Rattle.ob0_scan.specs.declared.fault.FaultCode.TheVariants as code
 use Rattle.ob0_types_table.specs.Tables.{mode_of}
 use Rattle.ob0_types_table.proofs.SameShapes.{same_shape-refl}
 use Rattle.ob0_tree.specs.declared.tree.Role.{Role}
@@ -12,15 +12,15 @@ use Rattle.ob0_language_types.specs.Arguments.{arguments_listed, further_argumen
 use Rattle.ob0_language_types.specs.Expressions as meant
 use Rattle.ob0_language_types.specs.Expressions.{Object}
 use Rattle.ob0_language_types.specs.Typing.{lone_designator, type_of}
-use Rattle.ob0_language_types.specs.WellTyped.{Formal, Signature, Typed, agree, argument_fits, arguments_fit, by_place, by_value, call_fits, condition_fits, else_fits, elsifs_fit, sequence_fits, signature_of, statement_fits, statements_fit, variable_type}
+use Rattle.ob0_language_types.specs.WellTyped.{FormalParameter, Signature, TypeMeanings, same_known_shape, argument_fits, arguments_fit, by_place, by_value, call_fits, condition_fits, else_fits, elsifs_fit, sequence_fits, signature_of, statement_fits, statements_fit, variable_type}
 use Rattle.ob0_language_values.specs.Values.{Shape, boolean_shape}
 use Rattle.ob0_types_check.specs.ExpressionFaults.{reported_expression}
 use Rattle.ob0_types_check.specs.Known.{Facts, Meaning, Operand, Reported, a_constant, a_procedure, a_type, a_variable}
 use Rattle.ob0_types_check.specs.Known as known
-use Rattle.ob0_types_check.specs.Operations.{a_name, required, at_operand}
-use Rattle.ob0_types_check.specs.SoFar.{facts_at}
-use Rattle.ob0_types_check.specs.StatementFaults.{target_meaning, target_by_meaning, call_by_meaning, reported_argument, reported_arguments, reported_required, reported_assignment, reported_call, reported_condition, reported_else, reported_elsifs, reported_sequence, reported_statement, reported_statements, reported_target}
-use Rattle.ob0_types_check.specs.Agreement.{FormalsAgree, MeansAlike, TokensAgree, TypesAgree, shape_in}
+use Rattle.ob0_types_check.specs.Operations.{typed_name_operand, required_type, fault_at_operand}
+use Rattle.ob0_types_check.specs.KnownDeclarations.{facts_at}
+use Rattle.ob0_types_check.specs.StatementFaults.{target_name_type, target_type_by_meaning, reported_call_by_meaning, reported_argument, reported_arguments, reported_required, reported_assignment, reported_call, reported_condition, reported_else, reported_elsifs, reported_sequence, reported_statement, reported_statements, reported_target}
+use Rattle.ob0_types_check.specs.Agreement.{FormalsAgree, KnownMeaningAgrees, TokensAgree, TypesAgree, shape_in}
 use Rattle.ob0_types_check.specs.ReportLaws.{OperandFits, StatementsFit}
 use Rattle.ob0_types_check.proofs.FittingExpressions.{FitsSelectors, selectors-fit}
 use Rattle.ob0_types_check.proofs.FittingNames.{tokens-fit}
@@ -28,8 +28,8 @@ use Rattle.ob0_types_check.proofs.FittingPlaces.{operand-fits, variable-typed}
 use Rattle.ob0_types_check.proofs.Operands.{requested-fits}
 use Rattle.ob0_types_check.proofs.Unreported.{none-reported, second-reported}
 
-pub agree-same : (s : Shape) (a b : Option Shape) → a ≡ Some s → b ≡ Some s → agree a b ≡ true
-agree-same s a b p q = (λ i. agree (p i) (q i)) ∙ same_shape-refl s
+pub same_known_shape-same : (s : Shape) (a b : Option Shape) → a ≡ Some s → b ≡ Some s → same_known_shape a b ≡ true
+same_known_shape-same s a b p q = (λ i. same_known_shape (p i) (q i)) ∙ same_shape-refl s
 
 not-false : (b : Bool) → not b ≡ false → b ≡ true
 not-false true h = refl
@@ -40,7 +40,7 @@ counted : {A : Type 0} (b : Bool) (xs : List A) (x : A) → (if b then xs else x
 counted true xs x h = (refl, h)
 counted false xs x h = absurd (cc)
 
-module _ {T N : Type 0} (facts : Facts T) (shape : T → Option Shape) (types : TypesAgree facts.types shape) (label : ℕ → N) (meaning : Typed N) where
+module _ {T N : Type 0} (facts : Facts T) (shape : T → Option Shape) (types : TypesAgree facts.types shape) (label : ℕ → N) (meaning : TypeMeanings N) where
   abbrev here : {s : Sort} → Tree ℕ s → Tree N s
   here t = mapped label (value_at facts.source) t
 
@@ -68,7 +68,7 @@ module _ {T N : Type 0} (facts : Facts T) (shape : T → Option Shape) (types : 
 
   condition-fits : (e : Tree ℕ expression) → Agreed e → reported_condition facts e ≡ [] → condition_fits meaning (here e) ≡ true
   unfolding condition_fits
-  condition-fits e k h = ap (agree (Some boolean_shape)) (requested-typed facts.types.boolean boolean_shape e types.boolean k h)
+  condition-fits e k h = ap (same_known_shape (Some boolean_shape)) (requested-typed facts.types.boolean boolean_shape e types.boolean k h)
 
   -- holds if the name that is assigned to is a variable of the reported type
 
@@ -77,7 +77,7 @@ module _ {T N : Type 0} (facts : Facts T) (shape : T → Option Shape) (types : 
     pub known : shape reported.known ≡ Some of
     pub holds : o ≡ Some (meant.a_variable of)
 
-  assigned-holds : (x : ℕ) (m : Option (Meaning T)) (o : Option (Object Shape Signature)) → MeansAlike shape m o → (target_by_meaning facts x m).faults ≡ [] → IsAssigned (target_by_meaning facts x m) o
+  assigned-holds : (x : ℕ) (m : Option (Meaning T)) (o : Option (Object Shape Signature)) → KnownMeaningAgrees shape m o → (target_type_by_meaning facts x m).faults ≡ [] → IsAssigned (target_type_by_meaning facts x m) o
   assigned-holds x None o a h = absurd a
   assigned-holds x (Some (a_type t)) o a h = absurd (cc)
   assigned-holds x (Some (a_constant c)) o a h = absurd (cc)
@@ -88,35 +88,35 @@ module _ {T N : Type 0} (facts : Facts T) (shape : T → Option Shape) (types : 
   unfolding reported_target statement_fits
   assignment-fits x path e k h =
       let parts = none-reported (reported_target facts x path).faults _ h in
-      let target = none-reported (target_meaning facts x).faults _ parts.0 in
+      let target = none-reported (target_name_type facts x).faults _ parts.0 in
       let rest = split (ids path) (ids e) k.1 in
-      let a : IsAssigned (target_meaning facts x) (meaning.object_for (label x)) = assigned-holds x (facts.object_for x) (meaning.object_for (label x)) k.0 target.0 in
-      let fs : FitsSelectors facts shape types label meaning (a_name (target_meaning facts x).known x) a.of path
-      = selectors-fit facts shape types label meaning (a_name (target_meaning facts x).known x) a.of path a.known (tokens-fit facts shape types label meaning (ids path) rest.0) target.1 in
-      agree-same fs.of (variable_type meaning (Some (label x, here path))) (type_of meaning (here e))
+      let a : IsAssigned (target_name_type facts x) (meaning.object_for (label x)) = assigned-holds x (facts.object_for x) (meaning.object_for (label x)) k.0 target.0 in
+      let fs : FitsSelectors facts shape types label meaning (typed_name_operand (target_name_type facts x).known x) a.of path
+      = selectors-fit facts shape types label meaning (typed_name_operand (target_name_type facts x).known x) a.of path a.known (tokens-fit facts shape types label meaning (ids path) rest.0) target.1 in
+      same_known_shape-same fs.of (variable_type meaning (Some (label x, here path))) (type_of meaning (here e))
       (variable-typed facts shape types label meaning x path a.of (Some fs.of) a.holds fs.typed)
       (requested-typed (reported_target facts x path).known.of fs.of e fs.known rest.1 parts.1)
 
   -- Arguments and calls fit if no fault is reported for them.
 
-  passed-fits : (b : Bool) (of : T) (g : Formal) (e : Tree ℕ expression) (o : Operand T) → OperandFits shape meaning o (here e) → g.mode ≡ mode_of b → shape of ≡ Some g.shape
-      → (if b && not o.is_place then record { known = facts.types.unknown; faults = at_operand facts code.NotVariable o } else required facts of o).faults ≡ [] → argument_fits meaning g (here e) ≡ true
+  required_of_argument-fits : (b : Bool) (of : T) (g : FormalParameter) (e : Tree ℕ expression) (o : Operand T) → OperandFits shape meaning o (here e) → g.mode ≡ mode_of b → shape of ≡ Some g.shape
+      → (if b && not o.is_place then record { known = facts.types.unknown; faults = fault_at_operand facts code.NotVariable o } else required_type facts of o).faults ≡ [] → argument_fits meaning g (here e) ≡ true
   unfolding argument_fits
-  passed-fits true of g e o fe mode wanted h =
-      let parts = second-reported (not o.is_place) (record { known = facts.types.unknown; faults = at_operand facts code.NotVariable o }) (required facts of o) _ refl h in
+  required_of_argument-fits true of g e o fe mode wanted h =
+      let parts = second-reported (not o.is_place) (record { known = facts.types.unknown; faults = fault_at_operand facts code.NotVariable o }) (required_type facts of o) _ refl h in
       let (given, same) = requested-fits facts shape types of o fe.of g.shape fe.known wanted parts.1 in
-      (λ i. agree (Some g.shape) (elim (mode i) [ by_value ↦ type_of meaning (here e) | by_place ↦ variable_type meaning (lone_designator (here e)) ]))
-      ∙ agree-same g.shape (Some g.shape) (variable_type meaning (lone_designator (here e))) refl (fe.placed (not-false o.is_place parts.0) ∙ ap (λ s. Some s) same)
-  passed-fits false of g e o fe mode wanted h =
+      (λ i. same_known_shape (Some g.shape) (elim (mode i) [ by_value ↦ type_of meaning (here e) | by_place ↦ variable_type meaning (lone_designator (here e)) ]))
+      ∙ same_known_shape-same g.shape (Some g.shape) (variable_type meaning (lone_designator (here e))) refl (fe.placed (not-false o.is_place parts.0) ∙ ap (λ s. Some s) same)
+  required_of_argument-fits false of g e o fe mode wanted h =
       let (given, same) = requested-fits facts shape types of o fe.of g.shape fe.known wanted h in
-      (λ i. agree (Some g.shape) (elim (mode i) [ by_value ↦ type_of meaning (here e) | by_place ↦ variable_type meaning (lone_designator (here e)) ]))
-      ∙ agree-same g.shape (Some g.shape) (type_of meaning (here e)) refl (fe.typed ∙ ap (λ s. Some s) same)
+      (λ i. same_known_shape (Some g.shape) (elim (mode i) [ by_value ↦ type_of meaning (here e) | by_place ↦ variable_type meaning (lone_designator (here e)) ]))
+      ∙ same_known_shape-same g.shape (Some g.shape) (type_of meaning (here e)) refl (fe.typed ∙ ap (λ s. Some s) same)
 
-  argument-fits : (f : known.KnownFormal T) (g : Formal) (e : Tree ℕ expression) → g.mode ≡ mode_of f.by_place → shape f.of ≡ Some g.shape → Agreed e → reported_argument facts f e ≡ [] → argument_fits meaning g (here e) ≡ true
+  argument-fits : (f : known.KnownFormal T) (g : FormalParameter) (e : Tree ℕ expression) → g.mode ≡ mode_of f.by_place → shape f.of ≡ Some g.shape → Agreed e → reported_argument facts f e ≡ [] → argument_fits meaning g (here e) ≡ true
   unfolding reported_argument
   argument-fits f g e mode wanted k h =
       let parts = none-reported (reported_expression facts e).faults _ h in
-      passed-fits f.by_place f.of g e (reported_expression facts e).known (known-operand e k parts.0) mode wanted parts.1
+      required_of_argument-fits f.by_place f.of g e (reported_expression facts e).known (known-operand e k parts.0) mode wanted parts.1
 
   abbrev pub EachAgreed : List (Tree ℕ expression) → Type 0
   EachAgreed [] = Unit {0}
@@ -152,7 +152,7 @@ module _ {T N : Type 0} (facts : Facts T) (shape : T → Option Shape) (types : 
   arguments-agreed (one no_arguments) k = tt
   arguments-agreed (one (some_arguments e es)) k = let parts = split (ids e) (ids es) k in (parts.0, further-agreed es parts.1)
 
-  called-fits : (x : ℕ) (m : Option (Meaning T)) (o : Option (Object Shape Signature)) (es : List (Tree ℕ expression)) → MeansAlike shape m o → EachAgreed es → call_by_meaning facts x m es ≡ [] → call_fits meaning (signature_of o) (map here es) ≡ true
+  called-fits : (x : ℕ) (m : Option (Meaning T)) (o : Option (Object Shape Signature)) (es : List (Tree ℕ expression)) → KnownMeaningAgrees shape m o → EachAgreed es → reported_call_by_meaning facts x m es ≡ [] → call_fits meaning (signature_of o) (map here es) ≡ true
   unfolding call_fits
   called-fits x None o es a k h = absurd a
   called-fits x (Some (a_type t)) o es a k h = absurd (cc)

@@ -1,7 +1,7 @@
 -- If no fault is reported for an operation, its operands have the required types and its result has the right type. A
 -- type that has a shape isn't the unknown type (`is-known`). So no separate fact is needed to say that a type is known.
 use Rattle.std.proofs.Common.{◌≡◌, ℕ, Bool, true, false, ◌||◌, cond, [], if◌then◌else◌, Option, Some, None, option_and_then, option_map, ℤ, ◌+ℤ◌, ◌-ℤ◌, ◌*ℤ◌, neg_ℤ, refl, sym, ap, ◌∙◌, subst}
-use Rattle.ob0_scan.specs.declared.fault.Code.TheVariants as code
+use Rattle.ob0_scan.specs.declared.fault.FaultCode.TheVariants as code
 use Rattle.ob0_types_table.specs.Operators.{product_value, sum_value}
 use Rattle.ob0_tree.specs.declared.tree.AddOperator.{AddOperator}
 use Rattle.ob0_tree.specs.declared.tree.AddOperator.TheVariants as add_operator
@@ -12,12 +12,12 @@ use Rattle.ob0_tree.specs.declared.tree.Relation.TheVariants as relation
 use Rattle.ob0_tree.specs.declared.tree.Sign.{Sign}
 use Rattle.ob0_tree.specs.declared.tree.Sign.TheVariants as sign
 use Rattle.ob0_tree.specs.Places.{text_at}
-use Rattle.ob0_language_types.specs.Selected.{both}
-use Rattle.ob0_language_types.specs.Typing.{add_type, complement_type, element_type, field_type, given_value, multiply_type, relation_type, shape_of_field, sign_type, value_type}
-use Rattle.ob0_language_values.specs.Values.{Overflow, Shape, Value, add, add_is_settled, boolean_shape, divided, divided_by, ends, gives, in_range, integer_shape, multiply, multiply_is_settled, negate, number, quotient, relate, remainder, truth}
+use Rattle.ob0_language_types.specs.Selected.{apply_to_both}
+use Rattle.ob0_language_types.specs.Typing.{addition_type, negation_type, element_type, field_type, outcome_value, multiplication_type, relation_type, shape_of_field, sign_type, value_type}
+use Rattle.ob0_language_values.specs.Values.{Overflow, Shape, Value, add, add_short_circuits, boolean_shape, checked_division, division_outcome, ends, gives, checked_number, integer_shape, multiply, multiply_short_circuits, negate, number, quotient, relate, remainder, truth}
 use Rattle.ob0_language_values.specs.Values as values
 use Rattle.ob0_types_check.specs.Known.{Facts, Form, Operand, Reported, a_record, a_scalar, an_array, unknown_form}
-use Rattle.ob0_types_check.specs.Operations.{add_operands, required, required_both, at_operand, complement_operand, element_in, element_selected, field_in, field_selected, fits, found_field, multiply_operands, relate_operands, sign_operand, comparison_type, required_by_add, required_by_equality, required_by_multiply, required_by_relation}
+use Rattle.ob0_types_check.specs.Operations.{add_operands, required_type, required_type_of_both, fault_at_operand, complement_operand, element_type_in_form, element_operand, field_type_in_form, field_operand, fits, found_field_type, multiply_operands, relate_operands, sign_operand, comparison_type, add_operand_type, equality_operand_type, multiply_operand_type, relation_operand_type}
 use Rattle.ob0_types_check.specs.Agreement.{FormAgrees, TypesAgree}
 use Rattle.ob0_types_check.proofs.Unreported.{first-of, first-reported, none-if, none-reported, not-true, some-none, some-same}
 
@@ -43,40 +43,40 @@ shape_multiplied multiply_operator.Divide = integer_shape
 shape_multiplied multiply_operator.Modulo = integer_shape
 shape_multiplied multiply_operator.And = boolean_shape
 
-in_range-of : (n : ℤ) → IsOf integer_shape (given_value (in_range n))
-in_range-of n =
-    elim (values.fits n) as (λ b. IsOf integer_shape (given_value (if b then gives (number n) else ends Overflow)))
+checked_number-of : (n : ℤ) → IsOf integer_shape (outcome_value (checked_number n))
+checked_number-of n =
+    elim (values.fits n) as (λ b. IsOf integer_shape (outcome_value (if b then gives (number n) else ends Overflow)))
     [ true ↦ some-of integer_shape (number n) refl | false ↦ none-of integer_shape ]
 
-divided_by-of : (result : Option ℤ) → IsOf integer_shape (given_value (divided_by result))
-divided_by-of None = none-of integer_shape
-divided_by-of (Some n) = in_range-of n
+division_outcome-of : (result : Option ℤ) → IsOf integer_shape (outcome_value (division_outcome result))
+division_outcome-of None = none-of integer_shape
+division_outcome-of (Some n) = checked_number-of n
 
-add-of : (o : AddOperator) (v w : Value) → IsOf (shape_added o) (given_value (add o v w))
-add-of add_operator.Add (number a) (number b) = in_range-of (a +ℤ b)
-add-of add_operator.Subtract (number a) (number b) = in_range-of (a -ℤ b)
+add-of : (o : AddOperator) (v w : Value) → IsOf (shape_added o) (outcome_value (add o v w))
+add-of add_operator.Add (number a) (number b) = checked_number-of (a +ℤ b)
+add-of add_operator.Subtract (number a) (number b) = checked_number-of (a -ℤ b)
 add-of add_operator.Or (truth a) (truth b) = some-of boolean_shape (truth (a || b)) refl
 add-of _ _ _ = none-of _
 
-multiply-of : (o : MultiplyOperator) (v w : Value) → IsOf (shape_multiplied o) (given_value (multiply o v w))
-multiply-of multiply_operator.Multiply (number a) (number b) = in_range-of (a *ℤ b)
-multiply-of multiply_operator.Divide (number a) (number b) = divided_by-of (divided quotient a b)
-multiply-of multiply_operator.Modulo (number a) (number b) = divided_by-of (divided remainder a b)
+multiply-of : (o : MultiplyOperator) (v w : Value) → IsOf (shape_multiplied o) (outcome_value (multiply o v w))
+multiply-of multiply_operator.Multiply (number a) (number b) = checked_number-of (a *ℤ b)
+multiply-of multiply_operator.Divide (number a) (number b) = division_outcome-of (checked_division quotient a b)
+multiply-of multiply_operator.Modulo (number a) (number b) = division_outcome-of (checked_division remainder a b)
 multiply-of multiply_operator.And (truth a) (truth b) = some-of boolean_shape (truth _) refl
 multiply-of _ _ _ = none-of _
 
-relate-of : (r : Relation) (v w : Value) → IsOf boolean_shape (given_value (relate r v w))
+relate-of : (r : Relation) (v w : Value) → IsOf boolean_shape (outcome_value (relate r v w))
 relate-of r (number a) (number b) = some-of boolean_shape (truth _) refl
 relate-of relation.Equal (truth a) (truth b) = some-of boolean_shape (truth _) refl
 relate-of relation.NotEqual (truth a) (truth b) = some-of boolean_shape (truth _) refl
 relate-of _ _ _ = none-of boolean_shape
 
-apply_sign-of : (s : Sign) (v : Value) → IsOf integer_shape (given_value (values.apply_sign (Some s) v))
-apply_sign-of sign.Plus (number a) = in_range-of a
-apply_sign-of sign.Minus (number a) = in_range-of (neg_ℤ a)
+apply_sign-of : (s : Sign) (v : Value) → IsOf integer_shape (outcome_value (values.apply_sign (Some s) v))
+apply_sign-of sign.Plus (number a) = checked_number-of a
+apply_sign-of sign.Minus (number a) = checked_number-of (neg_ℤ a)
 apply_sign-of _ _ = none-of integer_shape
 
-negate-of : (v : Value) → IsOf boolean_shape (given_value (negate v))
+negate-of : (v : Value) → IsOf boolean_shape (outcome_value (negate v))
 negate-of (truth b) = some-of boolean_shape (truth _) refl
 negate-of _ = none-of boolean_shape
 
@@ -91,31 +91,31 @@ settled-of s false x o h k = k
 sum-of : (o : AddOperator) (a b : Option Value) (s : Shape) → s ≡ shape_added o → IsOf s a → IsOf (shape_added o) (option_and_then (sum_value o b) a)
 sum-of o a b s same h =
     then-of (shape_added o) (sum_value o b) a
-    (λ x e. settled-of (shape_added o) (add_is_settled o x) x (option_and_then (λ y. given_value (add o x y)) b) (h x e ∙ ap (λ u. Some u) same)
-    (then-of (shape_added o) (λ y. given_value (add o x y)) b (λ y f. add-of o x y)))
+    (λ x e. settled-of (shape_added o) (add_short_circuits o x) x (option_and_then (λ y. outcome_value (add o x y)) b) (h x e ∙ ap (λ u. Some u) same)
+    (then-of (shape_added o) (λ y. outcome_value (add o x y)) b (λ y f. add-of o x y)))
 
 product-of : (o : MultiplyOperator) (a b : Option Value) (s : Shape) → s ≡ shape_multiplied o → IsOf s a → IsOf (shape_multiplied o) (option_and_then (product_value o b) a)
 product-of o a b s same h =
     then-of (shape_multiplied o) (product_value o b) a
-    (λ x e. settled-of (shape_multiplied o) (multiply_is_settled o x) x (option_and_then (λ y. given_value (multiply o x y)) b) (h x e ∙ ap (λ u. Some u) same)
-    (then-of (shape_multiplied o) (λ y. given_value (multiply o x y)) b (λ y f. multiply-of o x y)))
+    (λ x e. settled-of (shape_multiplied o) (multiply_short_circuits o x) x (option_and_then (λ y. outcome_value (multiply o x y)) b) (h x e ∙ ap (λ u. Some u) same)
+    (then-of (shape_multiplied o) (λ y. outcome_value (multiply o x y)) b (λ y f. multiply-of o x y)))
 
-pub relation-of : (r : Relation) (a b : Option Value) → IsOf boolean_shape (both (λ x y. given_value (relate r x y)) a b)
+pub relation-of : (r : Relation) (a b : Option Value) → IsOf boolean_shape (apply_to_both (λ x y. outcome_value (relate r x y)) a b)
 relation-of r a b =
-    then-of boolean_shape (λ x. option_and_then (λ y. given_value (relate r x y)) b) a (λ x e. then-of boolean_shape (λ y. given_value (relate r x y)) b (λ y f. relate-of r x y))
+    then-of boolean_shape (λ x. option_and_then (λ y. outcome_value (relate r x y)) b) a (λ x e. then-of boolean_shape (λ y. outcome_value (relate r x y)) b (λ y f. relate-of r x y))
 
-sign-of : (s : Sign) (a : Option Value) → IsOf integer_shape (option_and_then (λ x. given_value (values.apply_sign (Some s) x)) a)
-sign-of s a = then-of integer_shape (λ x. given_value (values.apply_sign (Some s) x)) a (λ x e. apply_sign-of s x)
+sign-of : (s : Sign) (a : Option Value) → IsOf integer_shape (option_and_then (λ x. outcome_value (values.apply_sign (Some s) x)) a)
+sign-of s a = then-of integer_shape (λ x. outcome_value (values.apply_sign (Some s) x)) a (λ x e. apply_sign-of s x)
 
-pub complement-of : (a : Option Value) → IsOf boolean_shape (option_and_then (λ x. given_value (negate x)) a)
-complement-of a = then-of boolean_shape (λ x. given_value (negate x)) a (λ x e. negate-of x)
+pub complement-of : (a : Option Value) → IsOf boolean_shape (option_and_then (λ x. outcome_value (negate x)) a)
+complement-of a = then-of boolean_shape (λ x. outcome_value (negate x)) a (λ x e. negate-of x)
 
-add-typed : (o : AddOperator) → add_type o (shape_added o) (shape_added o) ≡ Some (shape_added o)
+add-typed : (o : AddOperator) → addition_type o (shape_added o) (shape_added o) ≡ Some (shape_added o)
 add-typed add_operator.Add = refl
 add-typed add_operator.Subtract = refl
 add-typed add_operator.Or = refl
 
-multiply-typed : (o : MultiplyOperator) → multiply_type o (shape_multiplied o) (shape_multiplied o) ≡ Some (shape_multiplied o)
+multiply-typed : (o : MultiplyOperator) → multiplication_type o (shape_multiplied o) (shape_multiplied o) ≡ Some (shape_multiplied o)
 multiply-typed multiply_operator.Multiply = refl
 multiply-typed multiply_operator.Divide = refl
 multiply-typed multiply_operator.Modulo = refl
@@ -136,44 +136,44 @@ module _ {T : Type 0} (facts : Facts T) (shape : T → Option Shape) (types : Ty
   same-where-fits t u s w ht hu e =
       first-of (facts.types.same t u) (facts.types.same t facts.types.unknown) (facts.types.same u facts.types.unknown) e (is-known t s ht) (is-known u w hu)
 
-  pub requested-fits : (wanted : T) (o : Operand T) (s w : Shape) → shape o.of ≡ Some s → shape wanted ≡ Some w → (required facts wanted o).faults ≡ [] → ((required facts wanted o).known ≡ wanted) × (s ≡ w)
+  pub requested-fits : (wanted : T) (o : Operand T) (s w : Shape) → shape o.of ≡ Some s → shape wanted ≡ Some w → (required_type facts wanted o).faults ≡ [] → ((required_type facts wanted o).known ≡ wanted) × (s ≡ w)
   requested-fits wanted o s w hs hw h =
       let same : facts.types.same o.of wanted ≡ true = same-where-fits o.of wanted s w hs hw (none-if (fits facts.types o.of wanted) _ h) in
       (ap (λ b. if b then wanted else facts.types.unknown) same, same-shape o.of wanted s w hs hw same)
 
-  both-requested : (wanted : T) (a b : Operand T) (s t w : Shape) → shape a.of ≡ Some s → shape b.of ≡ Some t → shape wanted ≡ Some w → (required_both facts wanted a b).faults ≡ []
-      → ((required_both facts wanted a b).known ≡ wanted) × (s ≡ w) × (t ≡ w)
-  both-requested wanted a b s t w hs ht hw h =
-      let left : Reported T = record { known = if facts.types.same a.of wanted then (required facts wanted b).known else facts.types.unknown; faults = (required facts wanted b).faults } in
-      let wrong : Reported T = record { known = facts.types.unknown; faults = at_operand facts code.TypeMismatch a } in
+  apply_to_both-requested : (wanted : T) (a b : Operand T) (s t w : Shape) → shape a.of ≡ Some s → shape b.of ≡ Some t → shape wanted ≡ Some w → (required_type_of_both facts wanted a b).faults ≡ []
+      → ((required_type_of_both facts wanted a b).known ≡ wanted) × (s ≡ w) × (t ≡ w)
+  apply_to_both-requested wanted a b s t w hs ht hw h =
+      let left : Reported T = record { known = if facts.types.same a.of wanted then (required_type facts wanted b).known else facts.types.unknown; faults = (required_type facts wanted b).faults } in
+      let wrong : Reported T = record { known = facts.types.unknown; faults = fault_at_operand facts code.TypeMismatch a } in
       let (fit, none) = first-reported (fits facts.types a.of wanted) left wrong _ refl h in
       let same : facts.types.same a.of wanted ≡ true = same-where-fits a.of wanted s w hs hw fit in
       let (known, right) = requested-fits wanted b t w ht hw none in
-      (ap (λ c. (if c then left else wrong).known) fit ∙ (ap (λ c. if c then (required facts wanted b).known else facts.types.unknown) same ∙ known), same-shape a.of wanted s w hs hw same, right)
+      (ap (λ c. (if c then left else wrong).known) fit ∙ (ap (λ c. if c then (required_type facts wanted b).known else facts.types.unknown) same ∙ known), same-shape a.of wanted s w hs hw same, right)
 
   -- The types that operators require have shapes.
 
-  add-wanted : (o : AddOperator) → shape (required_by_add facts.types o) ≡ Some (shape_added o)
+  add-wanted : (o : AddOperator) → shape (add_operand_type facts.types o) ≡ Some (shape_added o)
   add-wanted add_operator.Add = types.integer
   add-wanted add_operator.Subtract = types.integer
   add-wanted add_operator.Or = types.boolean
 
-  multiply-wanted : (o : MultiplyOperator) → shape (required_by_multiply facts.types o) ≡ Some (shape_multiplied o)
+  multiply-wanted : (o : MultiplyOperator) → shape (multiply_operand_type facts.types o) ≡ Some (shape_multiplied o)
   multiply-wanted multiply_operator.Multiply = types.integer
   multiply-wanted multiply_operator.Divide = types.integer
   multiply-wanted multiply_operator.Modulo = types.integer
   multiply-wanted multiply_operator.And = types.boolean
 
   equality-wanted : (r : Relation) → relation_type r boolean_shape boolean_shape ≡ Some boolean_shape → (t : T) (s : Shape) → shape t ≡ Some s
-      → (w : Shape) × (shape (required_by_equality facts.types t) ≡ Some w) × (relation_type r w w ≡ Some boolean_shape)
-  equality-wanted r both t s h =
+      → (w : Shape) × (shape (equality_operand_type facts.types t) ≡ Some w) × (relation_type r w w ≡ Some boolean_shape)
+  equality-wanted r apply_to_both t s h =
       elim (facts.types.same t facts.types.integer)
       as (λ b. (w : Shape) × (shape (if b then facts.types.integer else if facts.types.same t facts.types.unknown then facts.types.unknown else facts.types.boolean) ≡ Some w) × (relation_type r w w ≡ Some boolean_shape)) [
         | true ↦ (integer_shape, types.integer, refl)
-        | false ↦ (boolean_shape, ap (λ b. shape (if b then facts.types.unknown else facts.types.boolean)) (not-true (facts.types.same t facts.types.unknown) (is-known t s h)) ∙ types.boolean, both)
+        | false ↦ (boolean_shape, ap (λ b. shape (if b then facts.types.unknown else facts.types.boolean)) (not-true (facts.types.same t facts.types.unknown) (is-known t s h)) ∙ types.boolean, apply_to_both)
       ]
 
-  relation-wanted : (r : Relation) (t : T) (s : Shape) → shape t ≡ Some s → (w : Shape) × (shape (required_by_relation facts.types r t) ≡ Some w) × (relation_type r w w ≡ Some boolean_shape)
+  relation-wanted : (r : Relation) (t : T) (s : Shape) → shape t ≡ Some s → (w : Shape) × (shape (relation_operand_type facts.types r t) ≡ Some w) × (relation_type r w w ≡ Some boolean_shape)
   relation-wanted relation.Equal t s h = equality-wanted relation.Equal refl t s h
   relation-wanted relation.NotEqual t s h = equality-wanted relation.NotEqual refl t s h
   relation-wanted relation.Less t s h = (integer_shape, types.integer, refl)
@@ -187,23 +187,23 @@ module _ {T : Type 0} (facts : Facts T) (shape : T → Option Shape) (types : Ty
   -- An operation for which no fault is reported has the right type, and its value, when present, has that type.
 
   pub added-fits : (o : AddOperator) (a b : Operand T) (s t : Shape) → shape a.of ≡ Some s → shape b.of ≡ Some t → (add_operands facts o a b).faults ≡ []
-      → (w : Shape) × (shape (add_operands facts o a b).known.of ≡ Some w) × (add_type o s t ≡ Some w) × (IsOf s a.value → IsOf w (add_operands facts o a b).known.value)
+      → (w : Shape) × (shape (add_operands facts o a b).known.of ≡ Some w) × (addition_type o s t ≡ Some w) × (IsOf s a.value → IsOf w (add_operands facts o a b).known.value)
   added-fits o a b s t hs ht h =
-      let (known, left, right) = both-requested (required_by_add facts.types o) a b s t (shape_added o) hs ht (add-wanted o) (none-reported _ _ h).0 in
-      (shape_added o, ap shape known ∙ add-wanted o, (λ i. add_type o (left i) (right i)) ∙ add-typed o, sum-of o a.value b.value s left)
+      let (known, left, right) = apply_to_both-requested (add_operand_type facts.types o) a b s t (shape_added o) hs ht (add-wanted o) (none-reported _ _ h).0 in
+      (shape_added o, ap shape known ∙ add-wanted o, (λ i. addition_type o (left i) (right i)) ∙ add-typed o, sum-of o a.value b.value s left)
 
   pub multiplied-fits : (o : MultiplyOperator) (a b : Operand T) (s t : Shape) → shape a.of ≡ Some s → shape b.of ≡ Some t → (multiply_operands facts o a b).faults ≡ []
-      → (w : Shape) × (shape (multiply_operands facts o a b).known.of ≡ Some w) × (multiply_type o s t ≡ Some w) × (IsOf s a.value → IsOf w (multiply_operands facts o a b).known.value)
+      → (w : Shape) × (shape (multiply_operands facts o a b).known.of ≡ Some w) × (multiplication_type o s t ≡ Some w) × (IsOf s a.value → IsOf w (multiply_operands facts o a b).known.value)
   multiplied-fits o a b s t hs ht h =
-      let (known, left, right) = both-requested (required_by_multiply facts.types o) a b s t (shape_multiplied o) hs ht (multiply-wanted o) (none-reported _ _ h).0 in
-      (shape_multiplied o, ap shape known ∙ multiply-wanted o, (λ i. multiply_type o (left i) (right i)) ∙ multiply-typed o, product-of o a.value b.value s left)
+      let (known, left, right) = apply_to_both-requested (multiply_operand_type facts.types o) a b s t (shape_multiplied o) hs ht (multiply-wanted o) (none-reported _ _ h).0 in
+      (shape_multiplied o, ap shape known ∙ multiply-wanted o, (λ i. multiplication_type o (left i) (right i)) ∙ multiply-typed o, product-of o a.value b.value s left)
 
   pub related-fits : (r : Relation) (a b : Operand T) (s t : Shape) → shape a.of ≡ Some s → shape b.of ≡ Some t → (relate_operands facts r a b).faults ≡ []
       → (shape (relate_operands facts r a b).known.of ≡ Some boolean_shape) × (relation_type r s t ≡ Some boolean_shape)
   related-fits r a b s t hs ht h =
       let (w, hw, typed) = relation-wanted r a.of s hs in
-      let (known, left, right) = both-requested (required_by_relation facts.types r a.of) a b s t w hs ht hw (none-reported _ _ h).0 in
-      (ap (λ u. shape (comparison_type facts.types u)) known ∙ truth-known (required_by_relation facts.types r a.of) w hw, (λ i. relation_type r (left i) (right i)) ∙ typed)
+      let (known, left, right) = apply_to_both-requested (relation_operand_type facts.types r a.of) a b s t w hs ht hw (none-reported _ _ h).0 in
+      (ap (λ u. shape (comparison_type facts.types u)) known ∙ truth-known (relation_operand_type facts.types r a.of) w hw, (λ i. relation_type r (left i) (right i)) ∙ typed)
 
   pub apply_sign-fits : (g : Option Sign) (o : Operand T) (s : Shape) → shape o.of ≡ Some s → (sign_operand facts g o).faults ≡ []
       → (w : Shape) × (shape (sign_operand facts g o).known.of ≡ Some w) × (sign_type g s ≡ Some w) × (IsOf s o.value → IsOf w (sign_operand facts g o).known.value)
@@ -213,19 +213,19 @@ module _ {T : Type 0} (facts : Facts T) (shape : T → Option Shape) (types : Ty
       (integer_shape, ap shape known ∙ types.integer, ap (sign_type (Some g)) right ∙ sign-typed g, λ has_value. sign-of g o.value)
 
   pub complemented-fits : (o : Operand T) (s : Shape) → shape o.of ≡ Some s → (complement_operand facts o).faults ≡ []
-      → (shape (complement_operand facts o).known.of ≡ Some boolean_shape) × (complement_type s ≡ Some boolean_shape)
+      → (shape (complement_operand facts o).known.of ≡ Some boolean_shape) × (negation_type s ≡ Some boolean_shape)
   complemented-fits o s hs h =
       let (known, right) = requested-fits facts.types.boolean o s boolean_shape hs types.boolean (none-reported _ _ h).0 in
-      (ap shape known ∙ types.boolean, ap complement_type right)
+      (ap shape known ∙ types.boolean, ap negation_type right)
 
   -- A selection for which no fault is reported has the right type.
 
-  found-fits : (x : ℕ) (o : Option T) (t : Option Shape) → option_map shape o ≡ option_map Some t → (found_field facts x o).faults ≡ [] → (u : Shape) × (shape (found_field facts x o).known ≡ Some u) × (t ≡ Some u)
+  found-fits : (x : ℕ) (o : Option T) (t : Option Shape) → option_map shape o ≡ option_map Some t → (found_field_type facts x o).faults ≡ [] → (u : Shape) × (shape (found_field_type facts x o).known ≡ Some u) × (t ≡ Some u)
   found-fits x None t e h = absurd (cc)
   found-fits x (Some u) None e h = absurd (cc)
   found-fits x (Some u) (Some v) e h = (v, some-same (shape u) (Some v) e, refl)
 
-  field-found : (f : Form T) (s : Shape) → FormAgrees shape f s → (x : ℕ) → (field_in facts x f).faults ≡ [] → (u : Shape) × (shape (field_in facts x f).known ≡ Some u) × (field_type s (text_at facts.source x) ≡ Some u)
+  field-found : (f : Form T) (s : Shape) → FormAgrees shape f s → (x : ℕ) → (field_type_in_form facts x f).faults ≡ [] → (u : Shape) × (shape (field_type_in_form facts x f).known ≡ Some u) × (field_type s (text_at facts.source x) ≡ Some u)
   field-found a_scalar s a x h = absurd (cc)
   field-found (an_array t) s a x h = absurd (cc)
   field-found (a_record fields) s (k, fs, e, each) x h =
@@ -233,22 +233,22 @@ module _ {T : Type 0} (facts : Facts T) (shape : T → Option Shape) (types : Ty
       (u, known, ap (λ s. field_type s (text_at facts.source x)) e ∙ found)
   field-found unknown_form s a x h = absurd a
 
-  pub field-fits : (o : Operand T) (s : Shape) → shape o.of ≡ Some s → (x : ℕ) → (field_selected facts o x).faults ≡ []
-      → (u : Shape) × (shape (field_selected facts o x).known.of ≡ Some u) × (field_type s (text_at facts.source x) ≡ Some u)
+  pub field-fits : (o : Operand T) (s : Shape) → shape o.of ≡ Some s → (x : ℕ) → (field_operand facts o x).faults ≡ []
+      → (u : Shape) × (shape (field_operand facts o x).known.of ≡ Some u) × (field_type s (text_at facts.source x) ≡ Some u)
   field-fits o s hs x h = field-found (facts.types.form o.of) s (types.formed o.of s hs) x (none-reported _ _ h).0
 
-  element-found : (f : Form T) (s : Shape) → FormAgrees shape f s → (o : Operand T) (n : T) → n ≡ facts.types.integer → (element_in facts o n f).faults ≡ []
-      → (u : Shape) × (shape (element_in facts o n f).known ≡ Some u) × (element_type s integer_shape ≡ Some u)
+  element-found : (f : Form T) (s : Shape) → FormAgrees shape f s → (o : Operand T) (n : T) → n ≡ facts.types.integer → (element_type_in_form facts o n f).faults ≡ []
+      → (u : Shape) × (shape (element_type_in_form facts o n f).known ≡ Some u) × (element_type s integer_shape ≡ Some u)
   element-found a_scalar s a o n e h = absurd (cc)
   element-found (an_array t) s (k, count, u, same, known) o n e h =
       (u, ap (λ n. shape (if facts.types.same n facts.types.integer then t else facts.types.unknown)) e ∙ (ap (λ b. shape (if b then t else facts.types.unknown)) types.alone ∙ known), ap (λ s. element_type s integer_shape) same)
   element-found (a_record fields) s a o n e h = absurd (cc)
   element-found unknown_form s a o n e h = absurd a
 
-  pub element-fits : (o i : Operand T) (s t : Shape) → shape o.of ≡ Some s → shape i.of ≡ Some t → (element_selected facts o i).faults ≡ []
-      → (u : Shape) × (shape (element_selected facts o i).known.of ≡ Some u) × (element_type s t ≡ Some u)
+  pub element-fits : (o i : Operand T) (s t : Shape) → shape o.of ≡ Some s → shape i.of ≡ Some t → (element_operand facts o i).faults ≡ []
+      → (u : Shape) × (shape (element_operand facts o i).known.of ≡ Some u) × (element_type s t ≡ Some u)
   element-fits o i s t hs ht h =
-      let parts = none-reported (required facts facts.types.integer i).faults _ h in
+      let parts = none-reported (required_type facts facts.types.integer i).faults _ h in
       let (known, index) = requested-fits facts.types.integer i t integer_shape ht types.integer parts.0 in
-      let (u, found, typed) = element-found (facts.types.form o.of) s (types.formed o.of s hs) i (required facts facts.types.integer i).known known (none-reported _ _ parts.1).0 in
+      let (u, found, typed) = element-found (facts.types.form o.of) s (types.formed o.of s hs) i (required_type facts facts.types.integer i).known known (none-reported _ _ parts.1).0 in
       (u, found, ap (element_type s) index ∙ typed)

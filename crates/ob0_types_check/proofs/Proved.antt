@@ -4,16 +4,16 @@ use Rattle.ob0_tree.specs.declared.tree.Role.TheVariants as role
 use Rattle.ob0_tree.specs.Places.{value_at}
 use Rattle.ob0_tree.specs.Tree.{Tree, expression, identifiers, mapped}
 use Rattle.ob0_language_types.specs.Expressions.{Meanings, Object, a_constant, evaluate}
-use Rattle.ob0_language_types.specs.Typing.{array_length, constant_of, constant_value, constants_only, given_value, type_of}
-use Rattle.ob0_language_types.specs.WellTyped.{Typed}
+use Rattle.ob0_language_types.specs.Typing.{array_length, constant_of, constant_value, constant_meanings, outcome_value, type_of}
+use Rattle.ob0_language_types.specs.WellTyped.{TypeMeanings}
 use Rattle.ob0_language_values.specs.Values.{Place, Shape, Value, integer_shape}
 use Rattle.ob0_types_check.specs.ExpressionFaults.{reported_expression}
 use Rattle.ob0_types_check.specs.Known.{Facts, Operand}
-use Rattle.ob0_types_check.specs.Operations.{required, right}
-use Rattle.ob0_types_check.specs.SoFar.{facts_at}
-use Rattle.ob0_types_check.specs.TypeFaults.{operand_value, in_bounds, length_given, length_of, reported_constant, valued}
+use Rattle.ob0_types_check.specs.Operations.{required_type, without_fault}
+use Rattle.ob0_types_check.specs.KnownDeclarations.{facts_at}
+use Rattle.ob0_types_check.specs.TypeFaults.{operand_value, length_or_fault, length_by_value, length_of, reported_constant, valued}
 use Rattle.ob0_types_check.specs.Agreement.{Agrees, TypesAgree, shape_in}
-use Rattle.ob0_types_check.specs.ReportLaws.{ConstantsFit, ExpressionsFit, LengthsFit, OperandFits, meaning_here}
+use Rattle.ob0_types_check.specs.ReportLaws.{ConstantsFit, ExpressionsFit, LengthsFit, OperandFits, allowed_meanings}
 use Rattle.ob0_types_check.proofs.FittingExpressions.{FitsExpression, expression-fits}
 use Rattle.ob0_types_check.proofs.FittingNames.{only-tokens, tokens-fit}
 use Rattle.ob0_types_check.proofs.FittingPlaces.{operand-fits}
@@ -23,12 +23,12 @@ use Rattle.ob0_types_check.proofs.Unreported.{goes-on, none-reported, not-true}
 only-once : {V P : Type 0} (o : Option (Object V P)) → option_map {U = Object Place (Unit {0})} a_constant (constant_of {V = Shape} {P = Unit {0}} (option_map a_constant (constant_of o))) ≡ option_map a_constant (constant_of o)
 only-once o = elim (constant_of o) as (λ c. option_map {U = Object Place (Unit {0})} a_constant (constant_of {V = Shape} {P = Unit {0}} (option_map a_constant c)) ≡ option_map a_constant c) [ None ↦ refl | Some v ↦ refl ]
 
-pub constants-again : {N V P : Type 0} (meaning : Meanings N V P) → constants_only {W = Place} {Q = Unit {0}} (constants_only {W = Shape} {Q = Unit {0}} meaning) ≡ constants_only meaning
+pub constants-again : {N V P : Type 0} (meaning : Meanings N V P) → constant_meanings {W = Place} {Q = Unit {0}} (constant_meanings {W = Shape} {Q = Unit {0}} meaning) ≡ constant_meanings meaning
 constants-again meaning = λ i. record { object_for = λ x. only-once (meaning.object_for x) i; written = meaning.written }
 
-module _ {T N : Type 0} (facts : Facts T) (shape : T → Option Shape) (label : ℕ → N) (meaning : Typed N) (e : Tree ℕ expression) (agrees : Agrees facts shape label meaning e) where
-  pub here-fits : (b : Bool) → facts.only_constants ≡ b → (reported_expression facts e).faults ≡ [] → OperandFits shape (meaning_here b meaning) (reported_expression facts e).known (mapped label (value_at facts.source) e)
-  here-fits true only h = operand-fits facts shape agrees.types label (constants_only meaning) e (only-tokens facts shape agrees.types label meaning _ only (identifiers role.Declaring e) agrees.tokens) h
+module _ {T N : Type 0} (facts : Facts T) (shape : T → Option Shape) (label : ℕ → N) (meaning : TypeMeanings N) (e : Tree ℕ expression) (agrees : Agrees facts shape label meaning e) where
+  pub here-fits : (b : Bool) → facts.only_constants ≡ b → (reported_expression facts e).faults ≡ [] → OperandFits shape (allowed_meanings b meaning) (reported_expression facts e).known (mapped label (value_at facts.source) e)
+  here-fits true only h = operand-fits facts shape agrees.types label (constant_meanings meaning) e (only-tokens facts shape agrees.types label meaning _ only (identifiers role.Declaring e) agrees.tokens) h
   here-fits false only h = operand-fits facts shape agrees.types label meaning e (tokens-fit facts shape agrees.types label meaning (identifiers role.Declaring e) agrees.tokens) h
 
   -- holds if an operand has a type, and its value, when present, is the constant's value
@@ -41,13 +41,13 @@ module _ {T N : Type 0} (facts : Facts T) (shape : T → Option Shape) (label : 
   pub constant-known : facts.only_constants ≡ true → (reported_expression facts e).faults ≡ [] → IsConstant
   unfolding constant_value
   constant-known only h =
-      let fe : FitsExpression facts shape agrees.types label (constants_only {W = Shape} {Q = Unit {0}} meaning) e
-      = expression-fits facts shape agrees.types label (constants_only {W = Shape} {Q = Unit {0}} meaning) e (only-tokens facts shape agrees.types label meaning _ only (identifiers role.Declaring e) agrees.tokens) h in
+      let fe : FitsExpression facts shape agrees.types label (constant_meanings {W = Shape} {Q = Unit {0}} meaning) e
+      = expression-fits facts shape agrees.types label (constant_meanings {W = Shape} {Q = Unit {0}} meaning) e (only-tokens facts shape agrees.types label meaning _ only (identifiers role.Declaring e) agrees.tokens) h in
       record {
         of = fe.of;
         known = fe.known;
-        given = λ v is. goes-on (λ s. given_value (evaluate {P = Unit {0}} (constants_only meaning) [] (mapped label (value_at facts.source) e))) (type_of {P = Unit {0}} (constants_only meaning) (mapped label (value_at facts.source) e)) fe.of (Some v) fe.typed
-            (ap (λ m. given_value (evaluate {P = Unit {0}} m [] (mapped label (value_at facts.source) e))) (sym (constants-again meaning)) ∙ (sym fe.valued ∙ is));
+        given = λ v is. goes-on (λ s. outcome_value (evaluate {P = Unit {0}} (constant_meanings meaning) [] (mapped label (value_at facts.source) e))) (type_of {P = Unit {0}} (constant_meanings meaning) (mapped label (value_at facts.source) e)) fe.of (Some v) fe.typed
+            (ap (λ m. outcome_value (evaluate {P = Unit {0}} m [] (mapped label (value_at facts.source) e))) (sym (constants-again meaning)) ∙ (sym fe.valued ∙ is));
         scalar = fe.scalar;
       }
 
@@ -63,8 +63,8 @@ value-there facts o (Some v) e h = record { value = v; known = refl; there = e }
 
 pub operand_value-there : {T : Type 0} (facts : Facts T) (o : Operand T) → facts.types.same o.of facts.types.unknown ≡ false → (operand_value facts o).faults ≡ [] → HasReportedValue o (operand_value facts o).known
 operand_value-there facts o known h =
-    let w = value-there facts o o.value refl (sym (ap (λ b. (if b then right None else valued facts o o.value).faults) known) ∙ h) in
-    record { value = w.value; known = ap (λ b. (if b then right None else valued facts o o.value).known) known ∙ w.known; there = w.there }
+    let w = value-there facts o o.value refl (sym (ap (λ b. (if b then without_fault None else valued facts o o.value).faults) known) ∙ h) in
+    record { value = w.value; known = ap (λ b. (if b then without_fault None else valued facts o o.value).known) known ∙ w.known; there = w.there }
 
 pub constants_fit-holds : {N : Type 0} → ConstantsFit N
 unfolding reported_constant
@@ -87,24 +87,24 @@ pub record IsLong {T : Type 0} (o : Operand T) (reported : Option ℕ) : Type 0 
   pub there : o.value ≡ Some value
   pub counted : array_length value ≡ Some length
 
-bounded : {T : Type 0} (facts : Facts T) (o : Operand T) (v : Value) (n : Option ℕ) → o.value ≡ Some v → array_length v ≡ n → (in_bounds facts o n).faults ≡ [] → IsLong o (in_bounds facts o n).known
+bounded : {T : Type 0} (facts : Facts T) (o : Operand T) (v : Value) (n : Option ℕ) → o.value ≡ Some v → array_length v ≡ n → (length_or_fault facts o n).faults ≡ [] → IsLong o (length_or_fault facts o n).known
 bounded facts o v None there e h = absurd (cc)
 bounded facts o v (Some n) there e h = record { value = v; length = n; known = refl; there = there; counted = e }
 
-length-given : {T : Type 0} (facts : Facts T) (o : Operand T) (c : Option Value) → o.value ≡ c → (length_given facts o c).faults ≡ [] → IsLong o (length_given facts o c).known
+length-given : {T : Type 0} (facts : Facts T) (o : Operand T) (c : Option Value) → o.value ≡ c → (length_by_value facts o c).faults ≡ [] → IsLong o (length_by_value facts o c).known
 length-given facts o None e h = absurd (cc)
 length-given facts o (Some v) e h = bounded facts o v (array_length v) e refl h
 
 pub length-there : {T : Type 0} (facts : Facts T) (shape : T → Option Shape) (types : TypesAgree facts.types shape) (o : Operand T) (s : Shape) → shape o.of ≡ Some s → (length_of facts o).faults ≡ [] → IsLong o (length_of facts o).known
 length-there facts shape types o s hs h =
-    let parts = none-reported (required facts facts.types.integer o).faults _ h in
+    let parts = none-reported (required_type facts facts.types.integer o).faults _ h in
     let (given, same) = requested-fits facts shape types facts.types.integer o s integer_shape hs types.integer parts.0 in
-    let alone : facts.types.same (required facts facts.types.integer o).known facts.types.integer ≡ true = ap (λ t. facts.types.same t facts.types.integer) given ∙ types.alone in
-    let long : IsLong o (length_given facts o o.value).known = length-given facts o o.value refl (sym (ap (λ b. (if b then length_given facts o o.value else right None).faults) alone) ∙ parts.1) in
+    let alone : facts.types.same (required_type facts facts.types.integer o).known facts.types.integer ≡ true = ap (λ t. facts.types.same t facts.types.integer) given ∙ types.alone in
+    let long : IsLong o (length_by_value facts o o.value).known = length-given facts o o.value refl (sym (ap (λ b. (if b then length_by_value facts o o.value else without_fault None).faults) alone) ∙ parts.1) in
     record {
       value = long.value;
       length = long.length;
-      known = ap (λ b. (if b then length_given facts o o.value else right None).known) alone ∙ long.known;
+      known = ap (λ b. (if b then length_by_value facts o o.value else without_fault None).known) alone ∙ long.known;
       there = long.there;
       counted = long.counted;
     }

@@ -2,17 +2,17 @@
 use Rattle.std.proofs.Common.{◌≡◌, ◌==◌, ℕ, Bool, true, false, List, [], ◌++◌, length, eq-eqb, eqb-true, true≢false, sym, ap, ◌∙◌, subst}
 use Rattle.std.specs.List.{filter}
 use Rattle.ob0_scan.specs.declared.fault.Fault.{Fault}
-use Rattle.ob0_tree.specs.Parsed.{named_tree_of}
-use Rattle.ob0_scope_table.specs.Resolution.{IsResolution, Resolution, is_of_occurrences}
+use Rattle.ob0_tree.specs.ParsedModule.{named_tree_of}
+use Rattle.ob0_scope_table.specs.Resolution.{IsResolution, Resolution, is_undeclared_fault}
 use Rattle.ob0_types_table.specs.Tables.{AreEntriesInOrder}
 use Rattle.ob0_types_check.specs.DeclarationFaults.{reported_module}
 use Rattle.ob0_types_check.specs.ModuleLaws.{DeclarationsKnown, HasDeclarations, KnowsDeclarations}
 use Rattle.ob0_types_check.specs.Known.{Reported}
 use Rattle.ob0_types_check.specs.Operations.{ReportsAfter}
-use Rattle.ob0_types_check.specs.SoFar.{SoFar}
-use Rattle.ob0_types_check.specs.SomeBodies.{HasWalked, Walked, every, module_with, walked_in}
-use Rattle.ob0_types_check.specs.SupposedFacts.{so_far_in, table_in}
-use Rattle.ob0_types_check.specs.declared.reporting.supposed.Supposed.{Supposed}
+use Rattle.ob0_types_check.specs.KnownDeclarations.{KnownDeclarations}
+use Rattle.ob0_types_check.specs.SomeBodies.{HasWalked, WalkProgress, every_body, reported_module_with, walked_in}
+use Rattle.ob0_types_check.specs.CheckerFacts.{declarations_in_state, table_in}
+use Rattle.ob0_types_check.specs.declared.reporting.checker_state.CheckerState.{CheckerState}
 use Rattle.ob0_types_check.proofs.Listed.{nothing_left}
 use Rattle.ob0_types_check.proofs.TableKnown.{table_declares, table_in_order}
 use Rattle.ob0_types_check.proofs.ReportedDeclarations.{module_reported}
@@ -26,20 +26,20 @@ pub is_something : (xs : List Fault) (n : ℕ) (b : Bool) → n ≡ length xs �
 is_something xs n b long e h none = true≢false (sym (eq-eqb n 0 (long ∙ ap length none)) ∙ (sym e ∙ h))
 
 -- A walk over some bodies ends with the faults of the module if it reports the same as the walk over all bodies.
-pub walked : (r : Resolution) (before after : List Fault) (s : Supposed) (faulty : List ℕ) (t : Reported Walked) → before ≡ filter is_of_occurrences r.faults → module_with every r ≡ t → ReportsAfter before after (walked_in s faulty) t → HasWalked r after s faulty
+pub walked : (r : Resolution) (before after : List Fault) (s : CheckerState) (faulty : List ℕ) (t : Reported WalkProgress) → before ≡ filter is_undeclared_fault r.faults → reported_module_with every_body r ≡ t → ReportsAfter before after (walked_in s faulty) t → HasWalked r after s faulty
 walked r before after s faulty t first is reported =
     let all = sym (module_forgets r) in
     record {
-      faults = reported.reported ∙ ((λ i. first i ++ (sym is i).faults) ∙ (ap (λ (x : Reported SoFar). filter is_of_occurrences r.faults ++ x.faults) (sym all) ∙ sym (module_reported r)));
-      known = ap (λ (w : Walked). w.so_far) (reported.known ∙ ap (λ (x : Reported Walked). x.known) (sym is)) ∙ ap (λ (x : Reported SoFar). x.known) (sym all);
-      faulty_are = ap (λ (w : Walked). w.faulty) (reported.known ∙ ap (λ (x : Reported Walked). x.known) (sym is));
+      faults = reported.reported ∙ ((λ i. first i ++ (sym is i).faults) ∙ (ap (λ (x : Reported KnownDeclarations). filter is_undeclared_fault r.faults ++ x.faults) (sym all) ∙ sym (module_reported r)));
+      known = ap (λ (w : WalkProgress). w.so_far) (reported.known ∙ ap (λ (x : Reported WalkProgress). x.known) (sym is)) ∙ ap (λ (x : Reported KnownDeclarations). x.known) (sym all);
+      faulty_are = ap (λ (w : WalkProgress). w.faulty) (reported.known ∙ ap (λ (x : Reported WalkProgress). x.known) (sym is));
     }
 
-module _ (r : Resolution) (after : List Fault) (s : Supposed) (faulty : List ℕ) (w : HasWalked r after s faulty) (law : DeclarationsKnown) (is : IsResolution r) (none : after ≡ []) where
+module _ (r : Resolution) (after : List Fault) (s : CheckerState) (faulty : List ℕ) (w : HasWalked r after s faulty) (law : DeclarationsKnown) (is : IsResolution r) (none : after ≡ []) where
   pub nothing : reported_module r ≡ []
   nothing = sym w.faults ∙ none
 
-  pub knows : KnowsDeclarations (so_far_in s) (named_tree_of r.module_read)
+  pub knows : KnowsDeclarations (declarations_in_state s) (named_tree_of r.module_read)
   knows = subst (λ p. KnowsDeclarations p (named_tree_of r.module_read)) (sym w.known) (law r is nothing)
 
   pub in_order : AreEntriesInOrder [] s.composites.items

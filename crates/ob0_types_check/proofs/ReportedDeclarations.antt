@@ -2,23 +2,23 @@
 use Rattle.std.proofs.Common.{◌≡◌, ℕ, Bool, true, false, if◌then◌else◌, List, [], ◌∷◌, ◌++◌, map, drop, refl, sym, ap, ◌∙◌}
 use Rattle.std.proofs.lemmas.List.{map-append}
 use Rattle.std.specs.List.{filter}
-use Rattle.ob0_scope_table.specs.Resolution.{Resolution, is_of_occurrences}
-use Rattle.ob0_tree.specs.Parsed.{tree_of}
-use Rattle.ob0_language_names.specs.Parts.{formal_sections, further_names, module_block, names_listed, section_constants, section_types, section_variables}
-use Rattle.ob0_types_table.specs.declared.known.Formal as formal
+use Rattle.ob0_scope_table.specs.Resolution.{Resolution, is_undeclared_fault}
+use Rattle.ob0_tree.specs.ParsedModule.{tree_of}
+use Rattle.ob0_language_names.specs.Parts.{formal_sections, further_names, module_block, names_in_list, section_constants, section_types, section_variables}
+use Rattle.ob0_types_table.specs.declared.known.FormalParameter as formal
 use Rattle.ob0_types_table.specs.declared.types.TypeId.{TypeId}
 use Rattle.ob0_tree.specs.Tree.{Tree, begins, block, body, constant, constants, declares, declares_constant, declares_procedure, declares_type, declares_variable, end, expression, formals, further_section, has_body, item, items, maybe, more, names, none, one, procedure, sequence, then_name, then_section, type_name, type_names, value_section, variable, variable_section, variables, written_type}
-use Rattle.ob0_tree.specs.View.{block_of, formals_listed, formals_of, further_section_of, items_of, names_of, procedure_of}
+use Rattle.ob0_tree.specs.View.{block_of, formals_of_list, formals_of, further_section_of, items_of, names_of, procedure_of}
 use Rattle.ob0_tree.specs.declared.tree.Names.{Names}
 use Rattle.ob0_tree.specs.declared.tree.Procedure.{Procedure, out-Procedure, roll-out-Procedure}
-use Rattle.ob0_tree.specs.declared.tree.Section.{Section}
+use Rattle.ob0_tree.specs.declared.tree.ParameterSection.{ParameterSection}
 use Rattle.ob0_tree.proofs.Viewed.{procedure_made}
-use Rattle.ob0_types_check.specs.DeclarationFaults.{KnownHeading, after_heading, constant_declared, reported_block, reported_body, reported_constants, reported_module, reported_parameters, reported_procedure, reported_procedures, reported_section, reported_sections, reported_types, reported_variables, type_declared, variables_declared, with_parameters}
+use Rattle.ob0_types_check.specs.DeclarationFaults.{KnownHeading, state_after_heading, constant_declared, reported_block, reported_body, reported_constants, reported_module, reported_parameters, reported_procedure, reported_procedures, reported_section, reported_sections, reported_types, reported_variables, type_declared, variables_declared, with_parameters}
 use Rattle.ob0_types_check.specs.Known.{Meaning, a_constant, a_type, a_variable}
-use Rattle.ob0_types_check.specs.Operations.{right, ◌>>=◌}
-use Rattle.ob0_types_check.specs.SoFar.{SoFar, at_first, define, define_all, facts_at}
+use Rattle.ob0_types_check.specs.Operations.{without_fault, ◌>>=◌}
+use Rattle.ob0_types_check.specs.KnownDeclarations.{KnownDeclarations, state_at_start, define, define_all, facts_at}
 use Rattle.ob0_types_check.specs.StatementFaults.{reported_sequence}
-use Rattle.ob0_types_check.specs.SupposedFacts.{formal_of}
+use Rattle.ob0_types_check.specs.CheckerFacts.{formal_of}
 use Rattle.ob0_types_check.specs.TypeFaults.{reported_constant}
 use Rattle.ob0_types_check.specs.WrittenTypeFaults.{reported_type}
 use Rattle.ob0_types_check.proofs.Chains.{IsChain}
@@ -27,79 +27,79 @@ further_are : (xs : List ℕ) → further_names (items_of then_name xs) ≡ xs
 further_are [] = refl
 further_are (x ∷ xs) = ap (λ ys. x ∷ ys) (further_are xs)
 
-pub names_are : (ns : Names) → names_listed (names_of ns) ≡ ns.first ∷ ns.more.items
+pub names_are : (ns : Names) → names_in_list (names_of ns) ≡ ns.first ∷ ns.more.items
 names_are ns = ap (λ ys. ns.first ∷ ys) (further_are ns.more.items)
 
 -- holds if declaring the remaining names gives the same state as declaring all names from the start
-pub record DefinedSoFar (m : Meaning TypeId) (start : SoFar) (xs : List ℕ) (done : ℕ) (now : SoFar) : Type 0 where
+pub record DefinedSoFar (m : Meaning TypeId) (start : KnownDeclarations) (xs : List ℕ) (done : ℕ) (now : KnownDeclarations) : Type 0 where
   pub left : define_all now m (drop done xs) ≡ define_all start m xs
 
-alike : (f : formal.Formal) (xs : List ℕ) → map formal_of (map (λ x. f) xs) ≡ map (λ x. formal_of f) xs
+alike : (f : formal.FormalParameter) (xs : List ℕ) → map formal_of (map (λ x. f) xs) ≡ map (λ x. formal_of f) xs
 alike f [] = refl
 alike f (x ∷ xs) = ap (λ fs. formal_of f ∷ fs) (alike f xs)
 
-pub parameters_added : (old : List formal.Formal) (f : formal.Formal) (xs : List ℕ) → map formal_of (old ++ map (λ x. f) xs) ≡ map formal_of old ++ map (λ x. formal_of f) xs
+pub parameters_added : (old : List formal.FormalParameter) (f : formal.FormalParameter) (xs : List ℕ) → map formal_of (old ++ map (λ x. f) xs) ≡ map formal_of old ++ map (λ x. formal_of f) xs
 parameters_added old f xs = map-append formal_of old (map (λ x. f) xs) ∙ ap (λ fs. map formal_of old ++ fs) (alike f xs)
 
-pub constant_reported : (p : SoFar) (x : ℕ) (e : Tree ℕ expression) → constant_declared p (declares_constant x e) ≡ (reported_constant (facts_at p true) e >>= (λ v. right (define p (a_constant v) x)))
+pub constant_reported : (p : KnownDeclarations) (x : ℕ) (e : Tree ℕ expression) → constant_declared p (declares_constant x e) ≡ (reported_constant (facts_at p true) e >>= (λ v. without_fault (define p (a_constant v) x)))
 unfolding constant_declared
 constant_reported p x e = refl
 
-pub constants_ended : (p : SoFar) → reported_constants p end ≡ right p
+pub constants_ended : (p : KnownDeclarations) → reported_constants p end ≡ without_fault p
 unfolding reported_constants
 constants_ended p = refl
 
-constants_stepped : (p : SoFar) (t : Tree ℕ (item constant)) (ts : Tree ℕ (items constant)) → reported_constants p (more t ts) ≡ (constant_declared p t >>= (λ q. reported_constants q ts))
+constants_stepped : (p : KnownDeclarations) (t : Tree ℕ (item constant)) (ts : Tree ℕ (items constant)) → reported_constants p (more t ts) ≡ (constant_declared p t >>= (λ q. reported_constants q ts))
 unfolding reported_constants
 constants_stepped p t ts = refl
 
 pub constants_chain : IsChain reported_constants constant_declared
 constants_chain = record { ended = constants_ended; stepped = constants_stepped }
 
-pub type_reported : (p : SoFar) (x : ℕ) (t : Tree ℕ written_type) → type_declared p (declares_type x t) ≡ (reported_type 0 p t >>= (λ u. right (define u.following (a_type u.of) x)))
+pub type_reported : (p : KnownDeclarations) (x : ℕ) (t : Tree ℕ written_type) → type_declared p (declares_type x t) ≡ (reported_type 0 p t >>= (λ u. without_fault (define u.following (a_type u.of) x)))
 unfolding type_declared
 type_reported p x t = refl
 
-pub types_ended : (p : SoFar) → reported_types p end ≡ right p
+pub types_ended : (p : KnownDeclarations) → reported_types p end ≡ without_fault p
 unfolding reported_types
 types_ended p = refl
 
-types_stepped : (p : SoFar) (t : Tree ℕ (item type_name)) (ts : Tree ℕ (items type_name)) → reported_types p (more t ts) ≡ (type_declared p t >>= (λ q. reported_types q ts))
+types_stepped : (p : KnownDeclarations) (t : Tree ℕ (item type_name)) (ts : Tree ℕ (items type_name)) → reported_types p (more t ts) ≡ (type_declared p t >>= (λ q. reported_types q ts))
 unfolding reported_types
 types_stepped p t ts = refl
 
 pub types_chain : IsChain reported_types type_declared
 types_chain = record { ended = types_ended; stepped = types_stepped }
 
-pub variables_reported : (p : SoFar) (ns : Names) (t : Tree ℕ written_type) → variables_declared p (declares_variable (names_of ns) t) ≡ (reported_type 0 p t >>= (λ u. right (define_all u.following (a_variable u.of) (ns.first ∷ ns.more.items))))
+pub variables_reported : (p : KnownDeclarations) (ns : Names) (t : Tree ℕ written_type) → variables_declared p (declares_variable (names_of ns) t) ≡ (reported_type 0 p t >>= (λ u. without_fault (define_all u.following (a_variable u.of) (ns.first ∷ ns.more.items))))
 unfolding variables_declared
-variables_reported p ns t = ap (λ xs. reported_type 0 p t >>= (λ u. right (define_all u.following (a_variable u.of) xs))) (names_are ns)
+variables_reported p ns t = ap (λ xs. reported_type 0 p t >>= (λ u. without_fault (define_all u.following (a_variable u.of) xs))) (names_are ns)
 
-pub variables_ended : (p : SoFar) → reported_variables p end ≡ right p
+pub variables_ended : (p : KnownDeclarations) → reported_variables p end ≡ without_fault p
 unfolding reported_variables
 variables_ended p = refl
 
-variables_stepped : (p : SoFar) (t : Tree ℕ (item variable)) (ts : Tree ℕ (items variable)) → reported_variables p (more t ts) ≡ (variables_declared p t >>= (λ q. reported_variables q ts))
+variables_stepped : (p : KnownDeclarations) (t : Tree ℕ (item variable)) (ts : Tree ℕ (items variable)) → reported_variables p (more t ts) ≡ (variables_declared p t >>= (λ q. reported_variables q ts))
 unfolding reported_variables
 variables_stepped p t ts = refl
 
 pub variables_chain : IsChain reported_variables variables_declared
 variables_chain = record { ended = variables_ended; stepped = variables_stepped }
 
-parameters_reported : (h : KnownHeading) (b : Bool) (ns : Tree ℕ names) (t : Tree ℕ written_type) → reported_section h (then_section (if b then variable_section ns t else value_section ns t)) ≡ (reported_type 0 h.following t >>= (λ u. right (with_parameters h b (names_listed ns) u)))
+parameters_reported : (h : KnownHeading) (b : Bool) (ns : Tree ℕ names) (t : Tree ℕ written_type) → reported_section h (then_section (if b then variable_section ns t else value_section ns t)) ≡ (reported_type 0 h.following t >>= (λ u. without_fault (with_parameters h b (names_in_list ns) u)))
 unfolding reported_section reported_parameters
 parameters_reported h true ns t = refl
 parameters_reported h false ns t = refl
 
 pub section_reported : (h : KnownHeading) (b : Bool) (ns : Names) (t : Tree ℕ written_type)
-    → reported_section h (then_section (if b then variable_section (names_of ns) t else value_section (names_of ns) t)) ≡ (reported_type 0 h.following t >>= (λ u. right (with_parameters h b (ns.first ∷ ns.more.items) u)))
-section_reported h b ns t = parameters_reported h b (names_of ns) t ∙ ap (λ xs. reported_type 0 h.following t >>= (λ u. right (with_parameters h b xs u))) (names_are ns)
+    → reported_section h (then_section (if b then variable_section (names_of ns) t else value_section (names_of ns) t)) ≡ (reported_type 0 h.following t >>= (λ u. without_fault (with_parameters h b (ns.first ∷ ns.more.items) u)))
+section_reported h b ns t = parameters_reported h b (names_of ns) t ∙ ap (λ xs. reported_type 0 h.following t >>= (λ u. without_fault (with_parameters h b xs u))) (names_are ns)
 
-pub sections_listed : (ss : List Section) → formal_sections (one (formals_listed ss)) ≡ items_of further_section_of ss
+pub sections_listed : (ss : List ParameterSection) → formal_sections (one (formals_of_list ss)) ≡ items_of further_section_of ss
 sections_listed [] = refl
 sections_listed (s ∷ ss) = refl
 
-pub sections_ended : (h : KnownHeading) → reported_sections h end ≡ right h
+pub sections_ended : (h : KnownHeading) → reported_sections h end ≡ without_fault h
 unfolding reported_sections
 sections_ended h = refl
 
@@ -110,42 +110,42 @@ sections_stepped h t ts = refl
 pub sections_chain : IsChain reported_sections reported_section
 sections_chain = record { ended = sections_ended; stepped = sections_stepped }
 
-pub no_body_reported : (p : SoFar) → reported_body p none ≡ right p
+pub no_body_reported : (p : KnownDeclarations) → reported_body p none ≡ without_fault p
 unfolding reported_body
 no_body_reported p = refl
 
-pub body_reported : (p : SoFar) (a : Tree ℕ sequence) → reported_body p (one (begins a)) ≡ record { known = p; faults = reported_sequence (facts_at p false) a }
+pub body_reported : (p : KnownDeclarations) (a : Tree ℕ sequence) → reported_body p (one (begins a)) ≡ record { known = p; faults = reported_sequence (facts_at p false) a }
 unfolding reported_body
 body_reported p a = refl
 
-pub block_reported : (p : SoFar) (cs : Tree ℕ (maybe constants)) (ts : Tree ℕ (maybe type_names)) (vs : Tree ℕ (maybe variables)) (ps : Tree ℕ (items procedure)) (a : Tree ℕ (maybe body))
+pub block_reported : (p : KnownDeclarations) (cs : Tree ℕ (maybe constants)) (ts : Tree ℕ (maybe type_names)) (vs : Tree ℕ (maybe variables)) (ps : Tree ℕ (items procedure)) (a : Tree ℕ (maybe body))
     → reported_block p (has_body (declares cs ts vs ps) a)
     ≡ (reported_constants p (section_constants cs) >>= (λ q. reported_types q (section_types ts) >>= (λ r. reported_variables r (section_variables vs) >>= (λ s. reported_procedures s ps >>= (λ t. reported_body t a)))))
 unfolding reported_block
 block_reported p cs ts vs ps a = refl
 
-procedures_ended : (p : SoFar) → reported_procedures p end ≡ right p
+procedures_ended : (p : KnownDeclarations) → reported_procedures p end ≡ without_fault p
 unfolding reported_block
 procedures_ended p = refl
 
-procedures_stepped : (p : SoFar) (t : Tree ℕ (item procedure)) (ts : Tree ℕ (items procedure)) → reported_procedures p (more t ts) ≡ (reported_procedure p t >>= (λ q. reported_procedures q ts))
+procedures_stepped : (p : KnownDeclarations) (t : Tree ℕ (item procedure)) (ts : Tree ℕ (items procedure)) → reported_procedures p (more t ts) ≡ (reported_procedure p t >>= (λ q. reported_procedures q ts))
 unfolding reported_block
 procedures_stepped p t ts = refl
 
 pub procedures_chain : IsChain reported_procedures reported_procedure
 procedures_chain = record { ended = procedures_ended; stepped = procedures_stepped }
 
-with_parts : (p : SoFar) (x : ℕ) (fs : Tree ℕ (maybe formals)) (b : Tree ℕ block) (closing : ℕ)
-    → reported_procedure p (declares_procedure x fs b closing) ≡ (reported_sections (record { formals = []; following = p }) (formal_sections fs) >>= (λ h. reported_block (after_heading x h) b))
+with_parts : (p : KnownDeclarations) (x : ℕ) (fs : Tree ℕ (maybe formals)) (b : Tree ℕ block) (closing : ℕ)
+    → reported_procedure p (declares_procedure x fs b closing) ≡ (reported_sections (record { formals = []; following = p }) (formal_sections fs) >>= (λ h. reported_block (state_after_heading x h) b))
 unfolding reported_block
 with_parts p x fs b closing = refl
 
-pub procedure_reported : (p : SoFar) (d : Procedure)
-    → reported_procedure p (procedure_of d) ≡ (reported_sections (record { formals = []; following = p }) (formal_sections (formals_of (out-Procedure d).formals)) >>= (λ h. reported_block (after_heading (out-Procedure d).name h) (block_of (out-Procedure d).block)))
+pub procedure_reported : (p : KnownDeclarations) (d : Procedure)
+    → reported_procedure p (procedure_of d) ≡ (reported_sections (record { formals = []; following = p }) (formal_sections (formals_of (out-Procedure d).formals)) >>= (λ h. reported_block (state_after_heading (out-Procedure d).name h) (block_of (out-Procedure d).block)))
 procedure_reported p d =
     let x = out-Procedure d in
     ap (reported_procedure p) (sym (ap procedure_of (roll-out-Procedure d)) ∙ procedure_made x) ∙ with_parts p x.name (formals_of x.formals) (block_of x.block) x.closing
 
-pub module_reported : (r : Resolution) → reported_module r ≡ filter is_of_occurrences r.faults ++ (reported_block (at_first r) (module_block (tree_of r.module_read))).faults
+pub module_reported : (r : Resolution) → reported_module r ≡ filter is_undeclared_fault r.faults ++ (reported_block (state_at_start r) (module_block (tree_of r.module_read))).faults
 unfolding reported_module
 module_reported r = refl

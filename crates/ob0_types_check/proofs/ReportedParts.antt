@@ -9,7 +9,7 @@ use Rattle.ob0_tree.specs.Tree.{Tree, addend, adds, compares, designator, end, e
 use Rattle.ob0_tree.specs.View.{items_of, selector_of}
 use Rattle.ob0_types_check.specs.Known.{Facts, Operand, Reported}
 use Rattle.ob0_types_check.specs.ExpressionFaults.{reported_addends, reported_expression, reported_factor, reported_multipliers, reported_selector, reported_selectors, reported_simple, reported_term}
-use Rattle.ob0_types_check.specs.Operations.{a_number, add_operands, complement_operand, element_selected, enclosed, field_selected, multiply_operands, name_operand, relate_operands, right, sign_operand, ◌>>=◌}
+use Rattle.ob0_types_check.specs.Operations.{number_operand, add_operands, complement_operand, element_operand, operand_in_parentheses, field_operand, multiply_operands, name_operand, relate_operands, without_fault, sign_operand, ◌>>=◌}
 use Rattle.ob0_types_check.specs.TypeFaults.{operand_value, reported_constant}
 use Rattle.ob0_types_check.proofs.Chains.{IsChain, reported_equal, then_assoc}
 
@@ -47,11 +47,11 @@ module _ {T : Type 0} (facts : Facts T) where
   unfolding reported_expression
   designator_reported x path = refl
 
-  pub integer_reported : (n : ℕ) → reported_factor facts (integer n) ≡ right (a_number facts n)
+  pub integer_reported : (n : ℕ) → reported_factor facts (integer n) ≡ without_fault (number_operand facts n)
   unfolding reported_expression
   integer_reported n = refl
 
-  pub parentheses_reported : (e : Tree ℕ expression) → reported_factor facts (parenthesised e) ≡ (reported_expression facts e >>= (λ x. right (enclosed facts x)))
+  pub parentheses_reported : (e : Tree ℕ expression) → reported_factor facts (parenthesised e) ≡ (reported_expression facts e >>= (λ x. without_fault (operand_in_parentheses facts x)))
   unfolding reported_expression
   parentheses_reported e = refl
 
@@ -59,15 +59,15 @@ module _ {T : Type 0} (facts : Facts T) where
   unfolding reported_expression
   negation_reported f = refl
 
-  pub field_reported : (x : Operand T) (n : ℕ) → reported_selector facts x (field n) ≡ field_selected facts x n
+  pub field_reported : (x : Operand T) (n : ℕ) → reported_selector facts x (field n) ≡ field_operand facts x n
   unfolding reported_selector
   field_reported x n = refl
 
-  pub index_reported : (x : Operand T) (e : Tree ℕ expression) → reported_selector facts x (index e) ≡ (reported_expression facts e >>= element_selected facts x)
+  pub index_reported : (x : Operand T) (e : Tree ℕ expression) → reported_selector facts x (index e) ≡ (reported_expression facts e >>= element_operand facts x)
   unfolding reported_selector
   index_reported x e = refl
 
-  added_ended : (x : Operand T) → reported_addends facts x end ≡ right x
+  added_ended : (x : Operand T) → reported_addends facts x end ≡ without_fault x
   unfolding reported_expression
   added_ended x = refl
 
@@ -78,7 +78,7 @@ module _ {T : Type 0} (facts : Facts T) where
   pub added_chain : IsChain (reported_addends facts) (reported_added facts)
   added_chain = record { ended = added_ended; stepped = added_stepped }
 
-  multiplied_ended : (x : Operand T) → reported_multipliers facts x end ≡ right x
+  multiplied_ended : (x : Operand T) → reported_multipliers facts x end ≡ without_fault x
   unfolding reported_expression
   multiplied_ended x = refl
 
@@ -89,20 +89,20 @@ module _ {T : Type 0} (facts : Facts T) where
   pub multiplied_chain : IsChain (reported_multipliers facts) (reported_multiplied facts)
   multiplied_chain = record { ended = multiplied_ended; stepped = multiplied_stepped }
 
-  selected_ended : (x : Operand T) → reported_selectors facts x end ≡ right x
+  selected_ended : (x : Operand T) → reported_selectors facts x end ≡ without_fault x
   unfolding reported_expression
   selected_ended x = refl
 
   selected_stepped : (x : Operand T) (t : Tree ℕ (item selector)) (ts : Tree ℕ (items selector)) → reported_selectors facts x (more t ts) ≡ (reported_selector facts x t >>= (λ y. reported_selectors facts y ts))
   unfolding reported_expression reported_selector
   selected_stepped x (field n) ts = refl
-  selected_stepped x (index e) ts = then_assoc (reported_expression facts e) (element_selected facts x) (λ y. reported_selectors facts y ts)
+  selected_stepped x (index e) ts = then_assoc (reported_expression facts e) (element_operand facts x) (λ y. reported_selectors facts y ts)
 
   pub selected_chain : IsChain (reported_selectors facts) (reported_selector facts)
   selected_chain = record { ended = selected_ended; stepped = selected_stepped }
 
   -- A name without selectors has the report of the name.
-  pub nothing_selected : (x : Operand T) (xs : List Selector) → length xs ≡ 0 → reported_selectors facts x (items_of selector_of xs) ≡ right x
+  pub nothing_selected : (x : Operand T) (xs : List Selector) → length xs ≡ 0 → reported_selectors facts x (items_of selector_of xs) ≡ without_fault x
   nothing_selected x [] e = selected_ended x
   nothing_selected x (s ∷ xs) e = absurd (omega arith)
 

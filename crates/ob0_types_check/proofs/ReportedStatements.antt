@@ -2,20 +2,20 @@
 use Rattle.std.proofs.Common.{◌≡◌, ◌≢◌, ℕ, List, [], ◌∷◌, ◌++◌, length, map, Some, if◌then◌else◌, ne_eqb, refl, sym, ap, ◌∙◌, append_assoc}
 use Rattle.std.proofs.lemmas.Bool.{eq-eqb}
 use Rattle.std.proofs.lemmas.List.{length-map}
-use Rattle.ob0_scan.specs.declared.fault.Code.TheVariants as code
-use Rattle.ob0_types_table.specs.declared.known.Formal as formal
+use Rattle.ob0_scan.specs.declared.fault.FaultCode.TheVariants as code
+use Rattle.ob0_types_table.specs.declared.known.FormalParameter as formal
 use Rattle.ob0_types_table.specs.declared.types.TypeId.{TypeId}
 use Rattle.ob0_tree.specs.Tree.{Tree, arguments, assigns, branches, calls, elsif_branch, elsif_part, else_branch, else_part, empty, end, expression, items, maybe, more, none, one, repeat_loop, selector, sequence, while_loop}
-use Rattle.ob0_tree.specs.View.{elsif_of, expression_of, further_argument_of, further_statement_of, items_of, sequence_listed, statement_of}
+use Rattle.ob0_tree.specs.View.{elsif_of, expression_of, further_argument_of, further_statement_of, items_of, sequence_of_list, statement_of}
 use Rattle.ob0_tree.specs.View as view
 use Rattle.ob0_tree.specs.declared.tree.Expression.{Expression}
 use Rattle.ob0_tree.specs.declared.tree.Statement.{Statement}
 use Rattle.ob0_language_types.specs.Arguments.{arguments_listed, further_arguments}
 use Rattle.ob0_types_check.specs.ExpressionFaults.{reported_expression, reported_selectors}
 use Rattle.ob0_types_check.specs.Known.{Facts, KnownFormal, a_procedure}
-use Rattle.ob0_types_check.specs.Operations.{a_name, required, at_token, ◌>>=◌}
-use Rattle.ob0_types_check.specs.StatementFaults.{target_meaning, call_by_meaning, passed, reported_argument, reported_arguments, reported_required, reported_assignment, reported_call, reported_condition, reported_else, reported_elsifs, reported_parts, reported_sequence, reported_statement, reported_statements, reported_target}
-use Rattle.ob0_types_check.specs.SupposedFacts.{formal_of}
+use Rattle.ob0_types_check.specs.Operations.{typed_name_operand, required_type, fault_at_token, ◌>>=◌}
+use Rattle.ob0_types_check.specs.StatementFaults.{target_name_type, reported_call_by_meaning, required_of_argument, reported_argument, reported_arguments, reported_required, reported_assignment, reported_call, reported_condition, reported_else, reported_elsifs, reported_untyped_arguments, reported_sequence, reported_statement, reported_statements, reported_target}
+use Rattle.ob0_types_check.specs.CheckerFacts.{formal_of}
 use Rattle.ob0_types_check.proofs.Listed.{IsEach, IsPairwise}
 
 further_listed : (es : List Expression) → further_arguments (items_of further_argument_of es) ≡ map expression_of es
@@ -27,15 +27,15 @@ all_listed [] = refl
 all_listed (e ∷ es) = ap (λ z. expression_of e ∷ z) (further_listed es)
 
 module _ {T : Type 0} (facts : Facts T) where
-  pub requested_reported : (wanted : T) (e : Tree ℕ expression) → reported_required facts wanted e ≡ (reported_expression facts e >>= required facts wanted).faults
+  pub requested_reported : (wanted : T) (e : Tree ℕ expression) → reported_required facts wanted e ≡ (reported_expression facts e >>= required_type facts wanted).faults
   unfolding reported_required
   requested_reported wanted e = refl
 
-  pub target_reported : (x : ℕ) (path : Tree ℕ (items selector)) → reported_target facts x path ≡ (target_meaning facts x >>= (λ t. reported_selectors facts (a_name t x) path))
+  pub target_reported : (x : ℕ) (path : Tree ℕ (items selector)) → reported_target facts x path ≡ (target_name_type facts x >>= (λ t. reported_selectors facts (typed_name_operand t x) path))
   unfolding reported_target
   target_reported x path = refl
 
-  pub argument_reported : (f : KnownFormal T) (e : Tree ℕ expression) → reported_argument facts f e ≡ (reported_expression facts e >>= passed facts f).faults
+  pub argument_reported : (f : KnownFormal T) (e : Tree ℕ expression) → reported_argument facts f e ≡ (reported_expression facts e >>= required_of_argument facts f).faults
   unfolding reported_argument
   argument_reported f e = refl
 
@@ -74,20 +74,20 @@ module _ {T : Type 0} (facts : Facts T) where
 
   -- The faults of a sequence or a branch are the faults of its first statement or branch, followed by the faults of the
   -- rest.
-  flat : (ss : List Statement) → reported_sequence facts (sequence_listed ss) ≡ reported_statements facts (items_of further_statement_of ss)
+  flat : (ss : List Statement) → reported_sequence facts (sequence_of_list ss) ≡ reported_statements facts (items_of further_statement_of ss)
   unfolding reported_statement
   flat [] = refl
   flat (s ∷ ss) = refl
 
-  none_in_sequence : reported_sequence facts (sequence_listed []) ≡ []
+  none_in_sequence : reported_sequence facts (sequence_of_list []) ≡ []
   unfolding reported_statement
   none_in_sequence = refl
 
-  some_in_sequence : (s : Statement) (ss : List Statement) → reported_sequence facts (sequence_listed (s ∷ ss)) ≡ reported_statement facts (statement_of s) ++ reported_statements facts (items_of further_statement_of ss)
+  some_in_sequence : (s : Statement) (ss : List Statement) → reported_sequence facts (sequence_of_list (s ∷ ss)) ≡ reported_statement facts (statement_of s) ++ reported_statements facts (items_of further_statement_of ss)
   unfolding reported_statement
   some_in_sequence s ss = refl
 
-  pub sequence_each : IsEach (λ ss. reported_sequence facts (sequence_listed ss)) (λ s. reported_statement facts (statement_of s))
+  pub sequence_each : IsEach (λ ss. reported_sequence facts (sequence_of_list ss)) (λ s. reported_statement facts (statement_of s))
   sequence_each = record {
     ended = none_in_sequence;
     stepped = λ s ss. some_in_sequence s ss ∙ ap (λ f. reported_statement facts (statement_of s) ++ f) (sym (flat ss));
@@ -101,29 +101,29 @@ module _ {T : Type 0} (facts : Facts T) where
   unfolding reported_statement
   some_elsifs e a rest = refl
 
-  pub elsifs_each : IsEach (λ es. reported_elsifs facts (items_of elsif_of es)) (λ e. reported_condition facts (expression_of e.condition) ++ reported_sequence facts (sequence_listed e.then.items))
+  pub elsifs_each : IsEach (λ es. reported_elsifs facts (items_of elsif_of es)) (λ e. reported_condition facts (expression_of e.condition) ++ reported_sequence facts (sequence_of_list e.then.items))
   elsifs_each = record {
     ended = no_elsifs;
-    stepped = λ e es. some_elsifs (expression_of e.condition) (sequence_listed e.then.items) (items_of elsif_of es)
-        ∙ sym (append_assoc (reported_condition facts (expression_of e.condition)) (reported_sequence facts (sequence_listed e.then.items)) (reported_elsifs facts (items_of elsif_of es)));
+    stepped = λ e es. some_elsifs (expression_of e.condition) (sequence_of_list e.then.items) (items_of elsif_of es)
+        ∙ sym (append_assoc (reported_condition facts (expression_of e.condition)) (reported_sequence facts (sequence_of_list e.then.items)) (reported_elsifs facts (items_of elsif_of es)));
   }
 
-  pub parts_each : IsEach (λ (es : List Expression). reported_parts facts (map expression_of es)) (λ e. (reported_expression facts (expression_of e)).faults)
+  pub parts_each : IsEach (λ (es : List Expression). reported_untyped_arguments facts (map expression_of es)) (λ e. (reported_expression facts (expression_of e)).faults)
   parts_each = record { ended = refl; stepped = λ e es. refl }
 
 module _ (facts : Facts TypeId) where
-  pub argument_pairs : IsPairwise (λ (fs : List formal.Formal) (es : List Expression). reported_arguments facts (map formal_of fs) (map expression_of es)) (λ f e. reported_argument facts (formal_of f) (expression_of e))
+  pub argument_pairs : IsPairwise (λ (fs : List formal.FormalParameter) (es : List Expression). reported_arguments facts (map formal_of fs) (map expression_of es)) (λ f e. reported_argument facts (formal_of f) (expression_of e))
   argument_pairs = record { ended = refl; stepped = λ f e fs es. refl }
 
   -- The faults of a call depend on whether there are as many arguments as parameters.
-  pub count_is_right : (p : ℕ) (fs : List formal.Formal) (es : List Expression) → length fs ≡ length es
-      → call_by_meaning facts p (Some (a_procedure (map formal_of fs))) (map expression_of es) ≡ reported_arguments facts (map formal_of fs) (map expression_of es)
+  pub count_is_right : (p : ℕ) (fs : List formal.FormalParameter) (es : List Expression) → length fs ≡ length es
+      → reported_call_by_meaning facts p (Some (a_procedure (map formal_of fs))) (map expression_of es) ≡ reported_arguments facts (map formal_of fs) (map expression_of es)
   count_is_right p fs es e =
-      ap (λ b. if b then reported_arguments facts (map formal_of fs) (map expression_of es) else at_token facts code.ArgumentCount p)
+      ap (λ b. if b then reported_arguments facts (map formal_of fs) (map expression_of es) else fault_at_token facts code.ArgumentCount p)
       (eq-eqb (length (map formal_of fs)) (length (map expression_of es)) (length-map fs formal_of ∙ e ∙ sym (length-map es expression_of)))
 
-  pub count_differs : (p : ℕ) (fs : List formal.Formal) (es : List Expression) → length fs ≢ length es
-      → call_by_meaning facts p (Some (a_procedure (map formal_of fs))) (map expression_of es) ≡ at_token facts code.ArgumentCount p
+  pub count_differs : (p : ℕ) (fs : List formal.FormalParameter) (es : List Expression) → length fs ≢ length es
+      → reported_call_by_meaning facts p (Some (a_procedure (map formal_of fs))) (map expression_of es) ≡ fault_at_token facts code.ArgumentCount p
   count_differs p fs es d =
-      ap (λ b. if b then reported_arguments facts (map formal_of fs) (map expression_of es) else at_token facts code.ArgumentCount p)
+      ap (λ b. if b then reported_arguments facts (map formal_of fs) (map expression_of es) else fault_at_token facts code.ArgumentCount p)
       (ne_eqb (length (map formal_of fs)) (length (map expression_of es)) (λ e. d (sym (length-map fs formal_of) ∙ e ∙ length-map es expression_of)))

@@ -12,43 +12,43 @@ use Rattle.ob0_types_table.specs.declared.known.TypeEntry.{TypeEntry}
 use Rattle.ob0_types_table.specs.declared.known.TypeEntry.TheVariants as made
 use Rattle.ob0_types_table.specs.declared.types.TypeId.{TypeId}
 use Rattle.ob0_types_table.specs.declared.types.TypeId.TheVariants as type
-use Rattle.ob0_types_check.specs.declared.reporting.supposed.Meaning.{Meaning}
-use Rattle.ob0_types_check.specs.declared.reporting.supposed.Supposed.{Supposed}
+use Rattle.ob0_types_check.specs.declared.reporting.checker_state.Meaning.{Meaning}
+use Rattle.ob0_types_check.specs.declared.reporting.checker_state.CheckerState.{CheckerState}
 use Rattle.ob0_types_check.specs.Known.{a_record, an_array}
-use Rattle.ob0_types_check.specs.SoFar.{elements_at, facts_at, made_field_type, first_field, form_at, same_type}
-use Rattle.ob0_types_check.specs.SupposedFacts.{elements_of, facts_in, field_of, fields_in, form_in, made_type_of, known_meaning, so_far_in}
+use Rattle.ob0_types_check.specs.KnownDeclarations.{made_element_type, facts_at, made_field_type, type_of_first_field, form_at, same_type}
+use Rattle.ob0_types_check.specs.CheckerFacts.{entry_element_type, facts_in, entry_field_type, fields_in, form_in, composite_type_of, known_meaning, declarations_in_state}
 
-elements_same : (o : Option TypeEntry) → elements_of o ≡ elements_at (option_map made_type_of o)
+elements_same : (o : Option TypeEntry) → entry_element_type o ≡ made_element_type (option_map composite_type_of o)
 elements_same None = refl
 elements_same (Some (made.Array a)) = refl
 elements_same (Some (made.Record r)) = refl
 
-field_alike : (fs : List Field) (x : Name) → first_field_type fs x ≡ first_field (fields_in fs) x
+field_alike : (fs : List Field) (x : Name) → first_field_type fs x ≡ type_of_first_field (fields_in fs) x
 field_alike [] x = refl
 field_alike (f ∷ fs) x = ap (λ o. if same_name x (string_bytes f.name) then Some f.of else o) (field_alike fs x)
 
-field_same : (o : Option TypeEntry) (x : Name) → field_of o x ≡ made_field_type (option_map made_type_of o) x
+field_same : (o : Option TypeEntry) (x : Name) → entry_field_type o x ≡ made_field_type (option_map composite_type_of o) x
 field_same None x = refl
 field_same (Some (made.Array a)) x = refl
 field_same (Some (made.Record r)) x = field_alike r.fields x
 
-form_same : (cs : List TypeEntry) (t : TypeId) → form_in cs t ≡ form_at (map made_type_of cs) t
+form_same : (cs : List TypeEntry) (t : TypeId) → form_in cs t ≡ form_at (map composite_type_of cs) t
 form_same cs type.Integer = refl
 form_same cs type.Boolean = refl
-form_same cs (type.Array i) = ap an_array (elements_same (slice_get cs i) ∙ sym (ap elements_at (slice_get-map made_type_of cs i)))
-form_same cs (type.Record i) = ap a_record ((λ j x. field_same (slice_get cs i) x j) ∙ sym (ap made_field_type (slice_get-map made_type_of cs i)))
+form_same cs (type.Array i) = ap an_array (elements_same (slice_get cs i) ∙ sym (ap made_element_type (slice_get-map composite_type_of cs i)))
+form_same cs (type.Record i) = ap a_record ((λ j x. field_same (slice_get cs i) x j) ∙ sym (ap made_field_type (slice_get-map composite_type_of cs i)))
 form_same cs type.Unknown = refl
 
-meant_at : (ms : List (Option Meaning)) (o : Option ℕ) → option_map known_meaning (option_and_then (λ k. slice_index_or ms k None) o) ≡ option_and_then (λ k. slice_index_or (map (option_map known_meaning) ms) k None) o
-meant_at ms None = refl
-meant_at ms (Some k) = sym (get_or-map (option_map known_meaning) ms k None)
+identifier_meaning_at : (ms : List (Option Meaning)) (o : Option ℕ) → option_map known_meaning (option_and_then (λ k. slice_index_or ms k None) o) ≡ option_and_then (λ k. slice_index_or (map (option_map known_meaning) ms) k None) o
+identifier_meaning_at ms None = refl
+identifier_meaning_at ms (Some k) = sym (get_or-map (option_map known_meaning) ms k None)
 
 -- The facts from the code's state are the facts from the definitions' state.
-pub facts_same : (s : Supposed) (only_constants : Bool) → facts_in s only_constants ≡ facts_at (so_far_in s) only_constants
+pub facts_same : (s : CheckerState) (only_constants : Bool) → facts_in s only_constants ≡ facts_at (declarations_in_state s) only_constants
 facts_same s only_constants = λ j. record {
   source = s.resolved.now.module_read.source;
   types = record { integer = type.Integer; boolean = type.Boolean; unknown = type.Unknown; same = same_type; form = λ t. form_same s.composites.items t j };
-  object_for = λ token. meant_at s.meanings.items (ordinal_in s.resolved.now.ordinals token) j;
+  object_for = λ token. identifier_meaning_at s.meanings.items (ordinal_in s.resolved.now.ordinals token) j;
   only_constants = only_constants;
 }
 

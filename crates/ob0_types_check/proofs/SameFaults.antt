@@ -3,10 +3,10 @@
 -- results are one value viewed over each of the texts.
 use Rattle.std.proofs.Common.{◌≡◌, ℕ, Bool, true, false, not, ◌&&◌, List, [], ◌∷◌, Option, Some, None, length, nat_eq, option_and_then, pos, ◌+◌, refl, sym, ap, subst, if◌then◌else◌}
 use Rattle.std.specs.Prelude.{nat_lt}
-use Rattle.ob0_scan.specs.declared.fault.Code.{Code}
-use Rattle.ob0_scan.specs.declared.fault.Code.TheVariants as code
+use Rattle.ob0_scan.specs.declared.fault.FaultCode.{FaultCode}
+use Rattle.ob0_scan.specs.declared.fault.FaultCode.TheVariants as code
 use Rattle.ob0_scan.specs.declared.fault.Fault.{Fault}
-use Rattle.ob0_scan.specs.Scanned.{Scanned}
+use Rattle.ob0_scan.specs.TextWithTokens.{TextWithTokens}
 use Rattle.ob0_tree.specs.declared.tree.AddOperator.{AddOperator}
 use Rattle.ob0_tree.specs.declared.tree.MultiplyOperator.{MultiplyOperator}
 use Rattle.ob0_tree.specs.declared.tree.Relation.{Relation}
@@ -14,35 +14,35 @@ use Rattle.ob0_tree.specs.declared.tree.Sign.{Sign}
 use Rattle.ob0_tree.specs.Places.{text_at, value_at}
 use Rattle.ob0_tree.specs.Tree.{Sort, Tree, addend, arguments, no_arguments, some_arguments, then_argument, further_argument, adds, assigns, branches, calls, compares, designator, else_branch, else_part, elsif_branch, elsif_part, empty, end, expression, factor, field, further_statement, index, integer, items, maybe, more, multiplier, multiplies, negation, none, one, parenthesised, product, relates, repeat_loop, runs, selector, sequence, simple, statement, sum, term, then_statement, while_loop}
 use Rattle.ob0_language_types.specs.Arguments.{arguments_listed, further_arguments}
-use Rattle.ob0_language_types.specs.Selected.{both}
-use Rattle.ob0_language_types.specs.Typing.{array_length, given_value}
+use Rattle.ob0_language_types.specs.Selected.{apply_to_both}
+use Rattle.ob0_language_types.specs.Typing.{array_length, outcome_value}
 use Rattle.ob0_language_values.specs.Values.{Value, negate, number, relate}
 use Rattle.ob0_language_values.specs.Values.{apply_sign as with_sign}
-use Rattle.ob0_scope_table.specs.BodyAlone.{EachToken}
+use Rattle.ob0_scope_table.specs.TokenProperty.{EachTokenHas}
 use Rattle.ob0_scope_table.specs.FaultTokens.{AreAtSameTokens}
 use Rattle.ob0_scope_table.specs.Resolution.{ordinal_in}
 use Rattle.ob0_scope_table.proofs.FaultTokens.{both_same, none_same, one_same}
 use Rattle.ob0_types_table.specs.Operators.{product_value, sum_value}
 use Rattle.ob0_types_check.specs.ExpressionFaults.{reported_addends, reported_expression, reported_factor, reported_multipliers, reported_selectors, reported_simple, reported_term}
 use Rattle.ob0_types_check.specs.Known.{Facts, Form, KnownFormal, Meaning, Operand, Reported, Types, a_constant, a_procedure, a_record, a_scalar, a_type, a_variable, an_array, unknown_form}
-use Rattle.ob0_types_check.specs.Operations.{a_constant_name, a_name, a_number, add_operands, after_sign, at_tokens, comparison_type, complement_operand, element_in, element_selected, enclosed, field_in, field_selected, fits, found_field, joint_operand, multiply_operands, name_operand, named_value, part_of, relate_operands, required, required_both, required_by_add, required_by_multiply, required_by_relation, right, sign_operand, token_after, token_before, ◌>>=◌}
-use Rattle.ob0_types_check.specs.StatementFaults.{call_by_meaning, passed, reported_argument, reported_arguments, reported_assignment, reported_call, reported_else, reported_elsifs, reported_parts, reported_required, reported_sequence, reported_statement, reported_statements, reported_target, target_by_meaning, target_meaning}
-use Rattle.ob0_types_check.specs.TypeFaults.{in_bounds, length_given, length_of, operand_value, reported_constant, type_meant, type_named, valued}
+use Rattle.ob0_types_check.specs.Operations.{constant_name_operand, typed_name_operand, number_operand, add_operands, signed_operand, fault_at_tokens, comparison_type, complement_operand, element_type_in_form, element_operand, operand_in_parentheses, field_type_in_form, field_operand, fits, found_field_type, joint_operand, multiply_operands, name_operand, operand_by_meaning, part_of, relate_operands, required_type, required_type_of_both, add_operand_type, multiply_operand_type, relation_operand_type, without_fault, sign_operand, token_after, token_before, ◌>>=◌}
+use Rattle.ob0_types_check.specs.StatementFaults.{reported_call_by_meaning, required_of_argument, reported_argument, reported_arguments, reported_assignment, reported_call, reported_else, reported_elsifs, reported_untyped_arguments, reported_required, reported_sequence, reported_statement, reported_statements, reported_target, target_type_by_meaning, target_name_type}
+use Rattle.ob0_types_check.specs.TypeFaults.{length_or_fault, length_by_value, length_of, operand_value, reported_constant, type_by_meaning, type_named_at, valued}
 
 -- returns the facts at a place, given the meaning of each declaration
-abbrev pub facts_over : {T : Type 0} → Scanned → List (Option ℕ) → Types T → (ℕ → Option (Meaning T)) → Bool → Facts T
+abbrev pub facts_over : {T : Type 0} → TextWithTokens → List (Option ℕ) → Types T → (ℕ → Option (Meaning T)) → Bool → Facts T
 facts_over source ordinals types declared only_constants =
     record { source = source; types = types; object_for = λ token. option_and_then declared (ordinal_in ordinals token); only_constants = only_constants }
 
 -- Holds if two texts have the same number of tokens, and each token with the property `P` has the same spelling, value
 -- and binding in both.
-pub record Alikeness (old new : Scanned) (os ns : List (Option ℕ)) (P : ℕ → Type 0) : Type 0 where
+pub record Alikeness (old new : TextWithTokens) (os ns : List (Option ℕ)) (P : ℕ → Type 0) : Type 0 where
   pub count : length new.tokens ≡ length old.tokens
   pub written : (k : ℕ) → P k → text_at new k ≡ text_at old k
   pub value : (k : ℕ) → P k → value_at new k ≡ value_at old k
   pub bound : (k : ℕ) → P k → ordinal_in ns k ≡ ordinal_in os k
 
-module _ (old new : Scanned) where
+module _ (old new : TextWithTokens) where
   abbrev pub Same : List Fault → List Fault → Type 0
   Same before after = AreAtSameTokens old new before after
 
@@ -56,10 +56,10 @@ module _ (old new : Scanned) where
   abbrev pub Equal : {A : Type 0} → Reported A → Reported A → Type 0
   Equal {A} r s = Alike (λ (x : A). x) (λ (x : A). x) r s
 
-  pub rightly : {Z A : Type 0} (f g : Z → A) (z : Z) → Alike f g (right (f z)) (right (g z))
+  pub rightly : {Z A : Type 0} (f g : Z → A) (z : Z) → Alike f g (without_fault (f z)) (without_fault (g z))
   rightly f g z = record { value = z; before = refl; after = refl; faults = none_same old new }
 
-  pub equal : {A : Type 0} (x : A) → Equal (right x) (right x)
+  pub equal : {A : Type 0} (x : A) → Equal (without_fault x) (without_fault x)
   equal x = record { value = x; before = refl; after = refl; faults = none_same old new }
 
   pub goes_on : {Z A Y B : Type 0} {f g : Z → A} {h k : Y → B} {t u : Reported A} (next other : A → Reported B) → Alike f g t u → ((z : Z) → Alike h k (next (f z)) (other (g z))) → Alike h k (t >>= next) (u >>= other)
@@ -68,14 +68,14 @@ module _ (old new : Scanned) where
       record { value = n.value; before = n.before; after = n.after; faults = both_same old new p.faults n.faults }
 
   -- Two equal reports are still equal after a following step that has no fault.
-  pub gives : {A B : Type 0} {t u : Reported A} (made : A → B) → Equal t u → Equal (t >>= (λ x. right (made x))) (u >>= (λ x. right (made x)))
-  gives made p = goes_on (λ x. right (made x)) (λ x. right (made x)) p (λ x. equal (made x))
+  pub gives : {A B : Type 0} {t u : Reported A} (made : A → B) → Equal t u → Equal (t >>= (λ x. without_fault (made x))) (u >>= (λ x. without_fault (made x)))
+  gives made p = goes_on (λ x. without_fault (made x)) (λ x. without_fault (made x)) p (λ x. equal (made x))
 
   pub either : {A : Type 0} {r s x y : Reported A} (b : Bool) → Equal r s → Equal x y → Equal (if b then r else x) (if b then s else y)
   either true p q = p
   either false p q = q
 
-module _ (old new : Scanned) (os ns : List (Option ℕ)) (P : ℕ → Type 0) (w : Alikeness old new os ns P) where
+module _ (old new : TextWithTokens) (os ns : List (Option ℕ)) (P : ℕ → Type 0) (w : Alikeness old new os ns P) where
   after_same : (token : ℕ) → token_after new token ≡ token_after old token
   after_same token = ap (λ n. if nat_lt token n then token + 1 else token) w.count
 
@@ -87,7 +87,7 @@ module _ (old new : Scanned) (os ns : List (Option ℕ)) (P : ℕ → Type 0) (w
     fn = facts_over new ns types declared only_constants
 
     abbrev Each : {s : Sort} → Tree ℕ s → Type 0
-    Each t = EachToken P t
+    Each t = EachTokenHas P t
 
     meant : (token : ℕ) → P token → fo.object_for token ≡ fn.object_for token
     meant token h = sym (ap (option_and_then declared) (w.bound token h))
@@ -95,91 +95,91 @@ module _ (old new : Scanned) (os ns : List (Option ℕ)) (P : ℕ → Type 0) (w
     abbrev Eq : {A : Type 0} → Reported A → Reported A → Type 0
     Eq r s = Equal old new r s
 
-    pub at_same : (c : Code) (first last : ℕ) → Same old new (at_tokens fo c first last) (at_tokens fn c first last)
+    pub at_same : (c : FaultCode) (first last : ℕ) → Same old new (fault_at_tokens fo c first last) (fault_at_tokens fn c first last)
     at_same c first last = one_same old new (record { code = c; first = first; last = last })
 
-    faulty : {A : Type 0} (x : A) (c : Code) (first last : ℕ) → Eq (record { known = x; faults = at_tokens fo c first last }) (record { known = x; faults = at_tokens fn c first last })
+    faulty : {A : Type 0} (x : A) (c : FaultCode) (first last : ℕ) → Eq (record { known = x; faults = fault_at_tokens fo c first last }) (record { known = x; faults = fault_at_tokens fn c first last })
     faulty x c first last = record { value = x; before = refl; after = refl; faults = at_same c first last }
 
-    unless_fits : (b : Bool) (c : Code) (first last : ℕ) → Same old new (if b then [] else at_tokens fo c first last) (if b then [] else at_tokens fn c first last)
+    unless_fits : (b : Bool) (c : FaultCode) (first last : ℕ) → Same old new (if b then [] else fault_at_tokens fo c first last) (if b then [] else fault_at_tokens fn c first last)
     unless_fits true c first last = none_same old new
     unless_fits false c first last = at_same c first last
 
     -- ---- operations
 
-    pub required_same : (wanted : T) (o : Operand T) → Eq (required fo wanted o) (required fn wanted o)
-    required_same wanted o = record { value = (required fo wanted o).known; before = refl; after = refl; faults = unless_fits (fits types o.of wanted) code.TypeMismatch o.first o.last }
+    pub required_same : (wanted : T) (o : Operand T) → Eq (required_type fo wanted o) (required_type fn wanted o)
+    required_same wanted o = record { value = (required_type fo wanted o).known; before = refl; after = refl; faults = unless_fits (fits types o.of wanted) code.TypeMismatch o.first o.last }
 
-    both_required : (wanted : T) (a b : Operand T) → Eq (required_both fo wanted a b) (required_both fn wanted a b)
+    both_required : (wanted : T) (a b : Operand T) → Eq (required_type_of_both fo wanted a b) (required_type_of_both fn wanted a b)
     both_required wanted a b =
         either old new (fits types a.of wanted)
-        (record { value = if types.same a.of wanted then (required fo wanted b).known else types.unknown; before = refl; after = refl; faults = (required_same wanted b).faults })
+        (record { value = if types.same a.of wanted then (required_type fo wanted b).known else types.unknown; before = refl; after = refl; faults = (required_same wanted b).faults })
         (faulty types.unknown code.TypeMismatch a.first a.last)
 
     added_same : (o : AddOperator) (a b : Operand T) → Eq (add_operands fo o a b) (add_operands fn o a b)
-    added_same o a b = gives old new (λ t. joint_operand t (option_and_then (sum_value o b.value) a.value) a b) (both_required (required_by_add types o) a b)
+    added_same o a b = gives old new (λ t. joint_operand t (option_and_then (sum_value o b.value) a.value) a b) (both_required (add_operand_type types o) a b)
 
     multiplied_same : (o : MultiplyOperator) (a b : Operand T) → Eq (multiply_operands fo o a b) (multiply_operands fn o a b)
-    multiplied_same o a b = gives old new (λ t. joint_operand t (option_and_then (product_value o b.value) a.value) a b) (both_required (required_by_multiply types o) a b)
+    multiplied_same o a b = gives old new (λ t. joint_operand t (option_and_then (product_value o b.value) a.value) a b) (both_required (multiply_operand_type types o) a b)
 
     related_same : (r : Relation) (a b : Operand T) → Eq (relate_operands fo r a b) (relate_operands fn r a b)
     related_same r a b =
-        gives old new (λ t. joint_operand (comparison_type types t) (both (λ x y. given_value (relate r x y)) a.value b.value) a b) (both_required (required_by_relation types r a.of) a b)
+        gives old new (λ t. joint_operand (comparison_type types t) (apply_to_both (λ x y. outcome_value (relate r x y)) a.value b.value) a b) (both_required (relation_operand_type types r a.of) a b)
 
     signed_same : (s : Option Sign) (o : Operand T) → Eq (sign_operand fo s o) (sign_operand fn s o)
     signed_same None o = equal old new o
-    signed_same (Some s) o = gives old new (λ t. after_sign t (option_and_then (λ x. given_value (with_sign (Some s) x)) o.value) o) (required_same types.integer o)
+    signed_same (Some s) o = gives old new (λ t. signed_operand t (option_and_then (λ x. outcome_value (with_sign (Some s) x)) o.value) o) (required_same types.integer o)
 
     complement_same : (o : Operand T) → Eq (complement_operand fo o) (complement_operand fn o)
-    complement_same o = gives old new (λ t. after_sign t (option_and_then (λ x. given_value (negate x)) o.value) o) (required_same types.boolean o)
+    complement_same o = gives old new (λ t. signed_operand t (option_and_then (λ x. outcome_value (negate x)) o.value) o) (required_same types.boolean o)
 
-    number_same : (n : ℕ) → P n → Eq (right (a_number fo n)) (right (a_number fn n))
-    number_same n h = record { value = a_number fo n; before = refl; after = ap a_number_of (w.value n h); faults = none_same old new } where
+    number_same : (n : ℕ) → P n → Eq (without_fault (number_operand fo n)) (without_fault (number_operand fn n))
+    number_same n h = record { value = number_operand fo n; before = refl; after = ap a_number_of (w.value n h); faults = none_same old new } where
       a_number_of : ℕ → Operand T
       a_number_of v = record { of = types.integer; value = Some (number (pos v)); is_place = false; first = n; last = n }
 
-    enclosed_same : (o : Operand T) → Eq (right (enclosed fo o)) (right (enclosed fn o))
+    enclosed_same : (o : Operand T) → Eq (without_fault (operand_in_parentheses fo o)) (without_fault (operand_in_parentheses fn o))
     enclosed_same o = record {
-      value = enclosed fo o;
+      value = operand_in_parentheses fo o;
       before = refl;
       after = ap (λ last. record { of = o.of; value = o.value; is_place = false; first = token_before o.first; last = last }) (after_same o.last);
       faults = none_same old new;
     }
 
-    value_named : (token : ℕ) (m : Option (Meaning T)) → Eq (named_value fo token m) (named_value fn token m)
-    value_named token None = equal old new (a_name types.unknown token)
-    value_named token (Some (a_constant v)) = equal old new (a_constant_name types v token)
-    value_named token (Some (a_variable t)) = either old new only_constants (faulty (a_name types.unknown token) code.NotConstant token token) (equal old new (a_name t token))
-    value_named token (Some (a_type t)) = faulty (a_name types.unknown token) code.WrongKind token token
-    value_named token (Some (a_procedure fs)) = faulty (a_name types.unknown token) code.WrongKind token token
+    operand_of_name : (token : ℕ) (m : Option (Meaning T)) → Eq (operand_by_meaning fo token m) (operand_by_meaning fn token m)
+    operand_of_name token None = equal old new (typed_name_operand types.unknown token)
+    operand_of_name token (Some (a_constant v)) = equal old new (constant_name_operand types v token)
+    operand_of_name token (Some (a_variable t)) = either old new only_constants (faulty (typed_name_operand types.unknown token) code.NotConstant token token) (equal old new (typed_name_operand t token))
+    operand_of_name token (Some (a_type t)) = faulty (typed_name_operand types.unknown token) code.WrongKind token token
+    operand_of_name token (Some (a_procedure fs)) = faulty (typed_name_operand types.unknown token) code.WrongKind token token
 
     named_same : (token : ℕ) → P token → Eq (name_operand fo token) (name_operand fn token)
-    named_same token h = subst (λ m. Eq (name_operand fo token) (named_value fn token m)) (meant token h) (value_named token (fo.object_for token))
+    named_same token h = subst (λ m. Eq (name_operand fo token) (operand_by_meaning fn token m)) (meant token h) (operand_of_name token (fo.object_for token))
 
-    found_same : (token : ℕ) (t : Option T) → Eq (found_field fo token t) (found_field fn token t)
+    found_same : (token : ℕ) (t : Option T) → Eq (found_field_type fo token t) (found_field_type fn token t)
     found_same token None = faulty types.unknown code.NoField token token
     found_same token (Some t) = equal old new t
 
-    field_same : (token : ℕ) → P token → (form : Form T) → Eq (field_in fo token form) (field_in fn token form)
-    field_same token h (a_record fields) = subst (λ x. Eq (field_in fo token (a_record fields)) (found_field fn token (fields x))) (sym (w.written token h)) (found_same token (fields (text_at old token)))
+    field_same : (token : ℕ) → P token → (form : Form T) → Eq (field_type_in_form fo token form) (field_type_in_form fn token form)
+    field_same token h (a_record fields) = subst (λ x. Eq (field_type_in_form fo token (a_record fields)) (found_field_type fn token (fields x))) (sym (w.written token h)) (found_same token (fields (text_at old token)))
     field_same token h unknown_form = equal old new types.unknown
     field_same token h a_scalar = faulty types.unknown code.NotRecord (token_before token) (token_before token)
     field_same token h (an_array t) = faulty types.unknown code.NotRecord (token_before token) (token_before token)
 
-    field_after : (o : Operand T) (token : ℕ) → P token → Eq (field_selected fo o token) (field_selected fn o token)
+    field_after : (o : Operand T) (token : ℕ) → P token → Eq (field_operand fo o token) (field_operand fn o token)
     field_after o token h = gives old new (λ t. part_of o t token) (field_same token h (types.form o.of))
 
-    element_same : (i : Operand T) (of : T) (form : Form T) → Eq (element_in fo i of form) (element_in fn i of form)
+    element_same : (i : Operand T) (of : T) (form : Form T) → Eq (element_type_in_form fo i of form) (element_type_in_form fn i of form)
     element_same i of (an_array t) = equal old new (if types.same of types.integer then t else types.unknown)
     element_same i of unknown_form = equal old new types.unknown
     element_same i of a_scalar = faulty types.unknown code.NotArray (token_before i.first) (token_before i.first)
     element_same i of (a_record fields) = faulty types.unknown code.NotArray (token_before i.first) (token_before i.first)
 
-    element_after : (o i : Operand T) → Eq (element_selected fo o i) (element_selected fn o i)
+    element_after : (o i : Operand T) → Eq (element_operand fo o i) (element_operand fn o i)
     element_after o i =
-        goes_on old new (λ n. element_in fo i n (types.form o.of) >>= (λ t. right (part_of o t (token_after old i.last)))) (λ n. element_in fn i n (types.form o.of) >>= (λ t. right (part_of o t (token_after new i.last)))) (required_same types.integer i)
+        goes_on old new (λ n. element_type_in_form fo i n (types.form o.of) >>= (λ t. without_fault (part_of o t (token_after old i.last)))) (λ n. element_type_in_form fn i n (types.form o.of) >>= (λ t. without_fault (part_of o t (token_after new i.last)))) (required_same types.integer i)
         (λ n.
-        goes_on old new (λ t. right (part_of o t (token_after old i.last))) (λ t. right (part_of o t (token_after new i.last))) (element_same i n (types.form o.of))
+        goes_on old new (λ t. without_fault (part_of o t (token_after old i.last))) (λ t. without_fault (part_of o t (token_after new i.last))) (element_same i n (types.form o.of))
         (λ t. record { value = part_of o t (token_after old i.last); before = refl; after = ap (part_of o t) (after_same i.last); faults = none_same old new }))
 
     -- ---- expressions
@@ -216,14 +216,14 @@ module _ (old new : Scanned) (os ns : List (Option ℕ)) (P : ℕ → Type 0) (w
       factor_same : (f : Tree ℕ factor) → Each f → Eq (reported_factor fo f) (reported_factor fn f)
       factor_same (designator x path) h = goes_on old new (λ base. reported_selectors fo base path) (λ base. reported_selectors fn base path) (named_same x h.0) (λ base. selectors_same base path h.1)
       factor_same (integer n) h = number_same n h
-      factor_same (parenthesised e) h = goes_on old new (λ x. right (enclosed fo x)) (λ x. right (enclosed fn x)) (expression_same e h) (λ x. enclosed_same x)
+      factor_same (parenthesised e) h = goes_on old new (λ x. without_fault (operand_in_parentheses fo x)) (λ x. without_fault (operand_in_parentheses fn x)) (expression_same e h) (λ x. enclosed_same x)
       factor_same (negation f) h = goes_on old new (complement_operand fo) (complement_operand fn) (factor_same f h) (λ x. complement_same x)
 
       pub selectors_same : (x : Operand T) (path : Tree ℕ (items selector)) → Each path → Eq (reported_selectors fo x path) (reported_selectors fn x path)
       selectors_same x end h = equal old new x
       selectors_same x (more (field n) rest) h = goes_on old new (λ y. reported_selectors fo y rest) (λ y. reported_selectors fn y rest) (field_after x n h.0) (λ y. selectors_same y rest h.1)
       selectors_same x (more (index e) rest) h =
-          goes_on old new (λ i. element_selected fo x i >>= (λ y. reported_selectors fo y rest)) (λ i. element_selected fn x i >>= (λ y. reported_selectors fn y rest)) (expression_same e h.0)
+          goes_on old new (λ i. element_operand fo x i >>= (λ y. reported_selectors fo y rest)) (λ i. element_operand fn x i >>= (λ y. reported_selectors fn y rest)) (expression_same e h.0)
           (λ i. goes_on old new (λ y. reported_selectors fo y rest) (λ y. reported_selectors fn y rest) (element_after x i) (λ y. selectors_same y rest h.1))
 
     -- ---- constants, lengths and names of types
@@ -236,28 +236,28 @@ module _ (old new : Scanned) (os ns : List (Option ℕ)) (P : ℕ → Type 0) (w
     unfolding reported_constant
     constant_same e h = goes_on old new (operand_value fo) (operand_value fn) (expression_same e h) (λ o. either old new (types.same o.of types.unknown) (equal old new None) (value_same o o.value))
 
-    bounds_same : (o : Operand T) (n : Option ℕ) → Eq (in_bounds fo o n) (in_bounds fn o n)
+    bounds_same : (o : Operand T) (n : Option ℕ) → Eq (length_or_fault fo o n) (length_or_fault fn o n)
     bounds_same o None = faulty None code.ArrayLength o.first o.last
     bounds_same o (Some n) = equal old new (Some n)
 
-    given_same : (o : Operand T) (v : Option Value) → Eq (length_given fo o v) (length_given fn o v)
+    given_same : (o : Operand T) (v : Option Value) → Eq (length_by_value fo o v) (length_by_value fn o v)
     given_same o None = faulty None code.ConstFault o.first o.last
     given_same o (Some v) = bounds_same o (array_length v)
 
     pub length_same : (o : Operand T) → Eq (length_of fo o) (length_of fn o)
     length_same o =
-        goes_on old new (λ t. if types.same t types.integer then length_given fo o o.value else right None) (λ t. if types.same t types.integer then length_given fn o o.value else right None) (required_same types.integer o)
+        goes_on old new (λ t. if types.same t types.integer then length_by_value fo o o.value else without_fault None) (λ t. if types.same t types.integer then length_by_value fn o o.value else without_fault None) (required_same types.integer o)
         (λ t. either old new (types.same t types.integer) (given_same o o.value) (equal old new None))
 
-    type_same : (token : ℕ) (m : Option (Meaning T)) → Eq (type_meant fo token m) (type_meant fn token m)
+    type_same : (token : ℕ) (m : Option (Meaning T)) → Eq (type_by_meaning fo token m) (type_by_meaning fn token m)
     type_same token (Some (a_type t)) = equal old new t
     type_same token (Some (a_constant v)) = faulty types.unknown code.WrongKind token token
     type_same token (Some (a_variable t)) = faulty types.unknown code.WrongKind token token
     type_same token (Some (a_procedure fs)) = faulty types.unknown code.WrongKind token token
     type_same token None = equal old new types.unknown
 
-    pub type_named_same : (token : ℕ) → P token → Eq (type_named fo token) (type_named fn token)
-    type_named_same token h = subst (λ m. Eq (type_named fo token) (type_meant fn token m)) (meant token h) (type_same token (fo.object_for token))
+    pub type_named_same : (token : ℕ) → P token → Eq (type_named_at fo token) (type_named_at fn token)
+    type_named_same token h = subst (λ m. Eq (type_named_at fo token) (type_by_meaning fn token m)) (meant token h) (type_same token (fo.object_for token))
 
     -- ---- statements
 
@@ -266,21 +266,21 @@ module _ (old new : Scanned) (os ns : List (Option ℕ)) (P : ℕ → Type 0) (w
 
     required_there : (wanted : T) (e : Tree ℕ expression) → Each e → Alright (reported_required fo wanted e) (reported_required fn wanted e)
     unfolding reported_required
-    required_there wanted e h = (goes_on old new (required fo wanted) (required fn wanted) (expression_same e h) (λ o. required_same wanted o)).faults
+    required_there wanted e h = (goes_on old new (required_type fo wanted) (required_type fn wanted) (expression_same e h) (λ o. required_same wanted o)).faults
 
-    target_meant : (token : ℕ) (m : Option (Meaning T)) → Eq (target_by_meaning fo token m) (target_by_meaning fn token m)
+    target_meant : (token : ℕ) (m : Option (Meaning T)) → Eq (target_type_by_meaning fo token m) (target_type_by_meaning fn token m)
     target_meant token (Some (a_variable t)) = equal old new t
     target_meant token (Some (a_constant v)) = faulty types.unknown code.NotVariable token token
     target_meant token (Some (a_type t)) = faulty types.unknown code.WrongKind token token
     target_meant token (Some (a_procedure fs)) = faulty types.unknown code.WrongKind token token
     target_meant token None = equal old new types.unknown
 
-    target_named : (x : ℕ) → P x → Eq (target_meaning fo x) (target_meaning fn x)
-    target_named x h = subst (λ m. Eq (target_meaning fo x) (target_by_meaning fn x m)) (meant x h) (target_meant x (fo.object_for x))
+    target_named : (x : ℕ) → P x → Eq (target_name_type fo x) (target_name_type fn x)
+    target_named x h = subst (λ m. Eq (target_name_type fo x) (target_type_by_meaning fn x m)) (meant x h) (target_meant x (fo.object_for x))
 
     target_same : (x : ℕ) (path : Tree ℕ (items selector)) → P x → Each path → Eq (reported_target fo x path) (reported_target fn x path)
     unfolding reported_target
-    target_same x path h each = goes_on old new (λ t. reported_selectors fo (a_name t x) path) (λ t. reported_selectors fn (a_name t x) path) (target_named x h) (λ t. selectors_same (a_name t x) path each)
+    target_same x path h each = goes_on old new (λ t. reported_selectors fo (typed_name_operand t x) path) (λ t. reported_selectors fn (typed_name_operand t x) path) (target_named x h) (λ t. selectors_same (typed_name_operand t x) path each)
 
     assigned_same : (a b : Reported (Operand T)) (e : Tree ℕ expression) → Each e → Eq a b → Alright (reported_assignment fo a e) (reported_assignment fn b e)
     assigned_same a b e h p =
@@ -288,12 +288,12 @@ module _ (old new : Scanned) (os ns : List (Option ℕ)) (P : ℕ → Type 0) (w
         (subst (λ (x : Operand T). Alright (reported_required fo x.of e) (reported_required fn b.known.of e)) (sym p.before)
         (subst (λ (x : Operand T). Alright (reported_required fo p.value.of e) (reported_required fn x.of e)) (sym p.after) (required_there p.value.of e h)))
 
-    passed_same : (f : KnownFormal T) (o : Operand T) → Eq (passed fo f o) (passed fn f o)
+    passed_same : (f : KnownFormal T) (o : Operand T) → Eq (required_of_argument fo f o) (required_of_argument fn f o)
     passed_same f o = either old new (f.by_place && not o.is_place) (faulty types.unknown code.NotVariable o.first o.last) (required_same f.of o)
 
     argument_same : (f : KnownFormal T) (e : Tree ℕ expression) → Each e → Alright (reported_argument fo f e) (reported_argument fn f e)
     unfolding reported_argument
-    argument_same f e h = (goes_on old new (passed fo f) (passed fn f) (expression_same e h) (λ o. passed_same f o)).faults
+    argument_same f e h = (goes_on old new (required_of_argument fo f) (required_of_argument fn f) (expression_same e h) (λ o. passed_same f o)).faults
 
     -- holds if each token of some expressions has the property
     abbrev EachOf : List (Tree ℕ expression) → Type 0
@@ -314,16 +314,16 @@ module _ (old new : Scanned) (os ns : List (Option ℕ)) (P : ℕ → Type 0) (w
     arguments_same (f ∷ fs) [] h = none_same old new
     arguments_same (f ∷ fs) (e ∷ es) h = both_same old new (argument_same f e h.0) (arguments_same fs es h.1)
 
-    parts_same : (es : List (Tree ℕ expression)) → EachOf es → Alright (reported_parts fo es) (reported_parts fn es)
+    parts_same : (es : List (Tree ℕ expression)) → EachOf es → Alright (reported_untyped_arguments fo es) (reported_untyped_arguments fn es)
     parts_same [] h = none_same old new
     parts_same (e ∷ es) h = both_same old new (expression_same e h.0).faults (parts_same es h.1)
 
     counted_same : (b : Bool) (p : ℕ) (fs : List (KnownFormal T)) (es : List (Tree ℕ expression)) → EachOf es
-        → Alright (if b then reported_arguments fo fs es else at_tokens fo code.ArgumentCount p p) (if b then reported_arguments fn fs es else at_tokens fn code.ArgumentCount p p)
+        → Alright (if b then reported_arguments fo fs es else fault_at_tokens fo code.ArgumentCount p p) (if b then reported_arguments fn fs es else fault_at_tokens fn code.ArgumentCount p p)
     counted_same true p fs es h = arguments_same fs es h
     counted_same false p fs es h = at_same code.ArgumentCount p p
 
-    call_meant : (p : ℕ) (m : Option (Meaning T)) (es : List (Tree ℕ expression)) → EachOf es → Alright (call_by_meaning fo p m es) (call_by_meaning fn p m es)
+    call_meant : (p : ℕ) (m : Option (Meaning T)) (es : List (Tree ℕ expression)) → EachOf es → Alright (reported_call_by_meaning fo p m es) (reported_call_by_meaning fn p m es)
     call_meant p (Some (a_procedure fs)) es h = counted_same (nat_eq (length fs) (length es)) p fs es h
     call_meant p (Some (a_type t)) es h = both_same old new (at_same code.WrongKind p p) (parts_same es h)
     call_meant p (Some (a_constant v)) es h = both_same old new (at_same code.WrongKind p p) (parts_same es h)
@@ -331,7 +331,7 @@ module _ (old new : Scanned) (os ns : List (Option ℕ)) (P : ℕ → Type 0) (w
     call_meant p None es h = parts_same es h
 
     call_same : (p : ℕ) (es : List (Tree ℕ expression)) → P p → EachOf es → Alright (reported_call fo p es) (reported_call fn p es)
-    call_same p es h each = subst (λ m. Alright (reported_call fo p es) (call_by_meaning fn p m es)) (meant p h) (call_meant p (fo.object_for p) es each)
+    call_same p es h each = subst (λ m. Alright (reported_call fo p es) (reported_call_by_meaning fn p m es)) (meant p h) (call_meant p (fo.object_for p) es each)
 
     mutual
       unfolding reported_statement

@@ -1,68 +1,68 @@
 -- If the tokens of a part are alike in two texts, its faults of types are at the same tokens in both. The parts are
 -- written types, declarations and bodies.
 use Rattle.std.proofs.Common.{◌≡◌, ℕ, suc, Bool, true, false, List, [], ◌∷◌, ◌++◌, Option, Some, None, length, map, slice_index_or, refl, sym, ap, ◌∙◌, subst, if◌then◌else◌}
-use Rattle.ob0_scan.specs.declared.fault.Code.TheVariants as code
+use Rattle.ob0_scan.specs.declared.fault.FaultCode.TheVariants as code
 use Rattle.ob0_scan.specs.declared.fault.Fault.{Fault}
-use Rattle.ob0_scan.specs.Scanned.{Scanned}
-use Rattle.ob0_language_names.specs.Parts.{formal_sections, further_names, module_block, names_listed, section_constants, section_types, section_variables}
-use Rattle.ob0_tree.specs.Parsed.{parsed_by, tree_of}
+use Rattle.ob0_scan.specs.TextWithTokens.{TextWithTokens}
+use Rattle.ob0_language_names.specs.Parts.{formal_sections, further_names, module_block, names_in_list, section_constants, section_types, section_variables}
+use Rattle.ob0_tree.specs.ParsedModule.{parsed_module, tree_of}
 use Rattle.ob0_tree.specs.Tree.{Sort, Tree, no_formals, some_formals, listed, then_name, further_name, constants, type_names, variables, formals, declares_constants, declares_types, declares_variables, array_type, begins, block, body, constant, declares, declares_constant, declares_procedure, declares_type, declares_variable, end, fields, further_fields, further_section, has_body, item, items, maybe, more, named_type, names, no_fields, none, one, procedure, record_type, some_fields, then_fields, then_section, type_name, value_section, variable, variable_section, written_type}
 use Rattle.ob0_tree.specs.declared.tree.ModuleTree.{ModuleTree}
 use Rattle.std.proofs.lemmas.List.{length-map}
-use Rattle.ob0_scan.specs.Scanned.{read_in}
-use Rattle.ob0_scope_table.specs.BodyAlone.{EachToken}
+use Rattle.ob0_scan.specs.TextWithTokens.{word_of_token}
+use Rattle.ob0_scope_table.specs.TokenProperty.{EachTokenHas}
 use Rattle.ob0_scope_table.specs.FaultTokens.{AreAtSameTokens, AreWrittenAlike}
-use Rattle.ob0_scope_table.specs.Resolution.{is_of_occurrences, ordinal_in}
+use Rattle.ob0_scope_table.specs.Resolution.{is_undeclared_fault, ordinal_in}
 use Rattle.ob0_scope_table.proofs.Placed.{each_token}
 use Rattle.ob0_scope_table.proofs.FaultTokens.{both_same, filter_same, none_same, texts_stay, values_stay}
 use Rattle.ob0_types_table.specs.declared.types.TypeId.{TypeId}
 use Rattle.ob0_types_table.specs.declared.types.TypeId.TheVariants as type
-use Rattle.ob0_types_check.specs.DeclarationFaults.{KnownHeading, after_heading, constant_declared, reported_block, reported_body, reported_constants, reported_module, reported_parameters, reported_procedure, reported_procedures, reported_section, reported_sections, reported_types, reported_variables, type_declared, variables_declared, with_parameters}
+use Rattle.ob0_types_check.specs.DeclarationFaults.{KnownHeading, state_after_heading, constant_declared, reported_block, reported_body, reported_constants, reported_module, reported_parameters, reported_procedure, reported_procedures, reported_section, reported_sections, reported_types, reported_variables, type_declared, variables_declared, with_parameters}
 use Rattle.ob0_types_check.specs.Known.{Meaning, Operand, Reported, a_constant, a_procedure, a_type, a_variable}
-use Rattle.ob0_types_check.specs.Operations.{right, token_before, ◌>>=◌}
-use Rattle.ob0_types_check.specs.SoFar.{PartTypes, Size, SoFar, TypedAfter, at_first, define, define_all, facts_at, is_within, made, make, of_elements, of_fields, size_at, too_large, types_at, with_declared}
+use Rattle.ob0_types_check.specs.Operations.{without_fault, token_before, ◌>>=◌}
+use Rattle.ob0_types_check.specs.KnownDeclarations.{PartTypes, Size, KnownDeclarations, TypeWithState, state_at_start, define, define_all, facts_at, is_within_limits, made, make_type, of_elements, of_fields, size_at, type_too_large, types_so_far, with_meaning}
 use Rattle.ob0_types_check.specs.TypeFaults.{length_of}
-use Rattle.ob0_types_check.specs.WrittenTypeFaults.{Gathered, array_made, array_size, gathered_after, nothing_gathered, ordinal_here, record_made, record_size, record_word, reported_fields, reported_groups, reported_type, with_field_names, with_name, word_before}
+use Rattle.ob0_types_check.specs.WrittenTypeFaults.{KnownFields, made_array_type, array_size, with_field_group, no_known_fields, next_type_ordinal, made_record_type, record_size, record_keyword, reported_fields, reported_groups, reported_type, with_known_fields, with_known_field, token_before_group}
 use Rattle.ob0_types_check.proofs.SameFaults.{Alike, Alikeness, at_same, constant_same, expression_same, goes_on, length_same, rightly, sequence_same, type_named_same}
 
 -- returns the state, or the type and the state after it, with another text
-abbrev pub so_over : Scanned → List (Option ℕ) → SoFar → SoFar
+abbrev pub so_over : TextWithTokens → List (Option ℕ) → KnownDeclarations → KnownDeclarations
 so_over source ordinals p = record { source = source; ordinals = ordinals; declared = p.declared; made = p.made }
 
-abbrev pub typed_over : Scanned → List (Option ℕ) → TypedAfter → TypedAfter
+abbrev pub typed_over : TextWithTokens → List (Option ℕ) → TypeWithState → TypeWithState
 typed_over source ordinals t = record { of = t.of; following = so_over source ordinals t.following }
 
-abbrev pub gathered_over : Scanned → List (Option ℕ) → Gathered → Gathered
+abbrev pub gathered_over : TextWithTokens → List (Option ℕ) → KnownFields → KnownFields
 gathered_over source ordinals g = record { fields = g.fields; size = g.size; following = so_over source ordinals g.following }
 
-abbrev pub heading_over : Scanned → List (Option ℕ) → KnownHeading → KnownHeading
+abbrev pub heading_over : TextWithTokens → List (Option ℕ) → KnownHeading → KnownHeading
 heading_over source ordinals h = record { formals = h.formals; following = so_over source ordinals h.following }
 
 -- returns the meaning of the declaration with this ordinal
-abbrev pub declared_at : SoFar → ℕ → Option (Meaning TypeId)
+abbrev pub declared_at : KnownDeclarations → ℕ → Option (Meaning TypeId)
 declared_at p k = slice_index_or p.declared k None
 
-declared_over : (source : Scanned) (ordinals : List (Option ℕ)) (p : SoFar) (m : Meaning TypeId) (o : Option ℕ) → with_declared (so_over source ordinals p) m o ≡ so_over source ordinals (with_declared p m o)
+declared_over : (source : TextWithTokens) (ordinals : List (Option ℕ)) (p : KnownDeclarations) (m : Meaning TypeId) (o : Option ℕ) → with_meaning (so_over source ordinals p) m o ≡ so_over source ordinals (with_meaning p m o)
 declared_over source ordinals p m None = refl
 declared_over source ordinals p m (Some k) = refl
 
-module _ (old new : Scanned) (os ns : List (Option ℕ)) (P : ℕ → Type 0) (w : Alikeness old new os ns P) where
-  abbrev pub so_old : SoFar → SoFar
+module _ (old new : TextWithTokens) (os ns : List (Option ℕ)) (P : ℕ → Type 0) (w : Alikeness old new os ns P) where
+  abbrev pub so_old : KnownDeclarations → KnownDeclarations
   so_old p = so_over old os p
 
-  abbrev pub so_new : SoFar → SoFar
+  abbrev pub so_new : KnownDeclarations → KnownDeclarations
   so_new p = so_over new ns p
 
-  abbrev typed_old : TypedAfter → TypedAfter
+  abbrev typed_old : TypeWithState → TypeWithState
   typed_old t = typed_over old os t
 
-  abbrev typed_new : TypedAfter → TypedAfter
+  abbrev typed_new : TypeWithState → TypeWithState
   typed_new t = typed_over new ns t
 
-  abbrev gathered_old : Gathered → Gathered
+  abbrev gathered_old : KnownFields → KnownFields
   gathered_old g = gathered_over old os g
 
-  abbrev gathered_new : Gathered → Gathered
+  abbrev gathered_new : KnownFields → KnownFields
   gathered_new g = gathered_over new ns g
 
   abbrev pub heading_old : KnownHeading → KnownHeading
@@ -71,122 +71,122 @@ module _ (old new : Scanned) (os ns : List (Option ℕ)) (P : ℕ → Type 0) (w
   abbrev pub heading_new : KnownHeading → KnownHeading
   heading_new h = heading_over new ns h
 
-  abbrev pub So : Reported SoFar → Reported SoFar → Type 0
+  abbrev pub So : Reported KnownDeclarations → Reported KnownDeclarations → Type 0
   So r s = Alike old new so_old so_new r s
 
-  abbrev Typed : Reported TypedAfter → Reported TypedAfter → Type 0
+  abbrev Typed : Reported TypeWithState → Reported TypeWithState → Type 0
   Typed r s = Alike old new typed_old typed_new r s
 
-  abbrev Gathers : Reported Gathered → Reported Gathered → Type 0
-  Gathers r s = Alike old new gathered_old gathered_new r s
+  abbrev AddsKnownFields : Reported KnownFields → Reported KnownFields → Type 0
+  AddsKnownFields r s = Alike old new gathered_old gathered_new r s
 
   abbrev pub Heads : Reported KnownHeading → Reported KnownHeading → Type 0
   Heads r s = Alike old new heading_old heading_new r s
 
   abbrev Each : {s : Sort} → Tree ℕ s → Type 0
-  Each t = EachToken P t
+  Each t = EachTokenHas P t
 
   -- holds if each token in the list has the property
   abbrev AllOf : List ℕ → Type 0
   AllOf [] = Unit {0}
   AllOf (x ∷ xs) = P x × AllOf xs
 
-  so : (z a b : SoFar) → a ≡ so_old z → b ≡ so_new z → So (right a) (right b)
+  so : (z a b : KnownDeclarations) → a ≡ so_old z → b ≡ so_new z → So (without_fault a) (without_fault b)
   so z a b e f = record { value = z; before = e; after = f; faults = none_same old new }
 
   -- Declaring a name in both texts sets the declaration with the same ordinal.
-  define_before : (p : SoFar) (m : Meaning TypeId) (x : ℕ) → define (so_old p) m x ≡ so_old (define (so_old p) m x)
+  define_before : (p : KnownDeclarations) (m : Meaning TypeId) (x : ℕ) → define (so_old p) m x ≡ so_old (define (so_old p) m x)
   define_before p m x = declared_over old os (so_old p) m (ordinal_in os x)
 
-  define_after : (p : SoFar) (m : Meaning TypeId) (x : ℕ) → P x → define (so_new p) m x ≡ so_new (define (so_old p) m x)
-  define_after p m x h = ap (with_declared (so_new p) m) (w.bound x h) ∙ declared_over new ns (so_old p) m (ordinal_in os x)
+  define_after : (p : KnownDeclarations) (m : Meaning TypeId) (x : ℕ) → P x → define (so_new p) m x ≡ so_new (define (so_old p) m x)
+  define_after p m x h = ap (with_meaning (so_new p) m) (w.bound x h) ∙ declared_over new ns (so_old p) m (ordinal_in os x)
 
-  all_before : (p : SoFar) (m : Meaning TypeId) (xs : List ℕ) → define_all (so_old p) m xs ≡ so_old (define_all (so_old p) m xs)
+  all_before : (p : KnownDeclarations) (m : Meaning TypeId) (xs : List ℕ) → define_all (so_old p) m xs ≡ so_old (define_all (so_old p) m xs)
   all_before p m [] = refl
   all_before p m (x ∷ xs) =
-      let q : SoFar = define (so_old p) m x in
+      let q : KnownDeclarations = define (so_old p) m x in
       ap (λ r. define_all r m xs) (define_before p m x) ∙ (all_before q m xs ∙ ap (λ r. so_old (define_all r m xs)) (sym (define_before p m x)))
 
-  all_after : (p : SoFar) (m : Meaning TypeId) (xs : List ℕ) → AllOf xs → define_all (so_new p) m xs ≡ so_new (define_all (so_old p) m xs)
+  all_after : (p : KnownDeclarations) (m : Meaning TypeId) (xs : List ℕ) → AllOf xs → define_all (so_new p) m xs ≡ so_new (define_all (so_old p) m xs)
   all_after p m [] h = refl
   all_after p m (x ∷ xs) h =
-      let q : SoFar = define (so_old p) m x in
+      let q : KnownDeclarations = define (so_old p) m x in
       ap (λ r. define_all r m xs) (define_after p m x h.0) ∙ (all_after q m xs h.1 ∙ ap (λ r. so_new (define_all r m xs)) (sym (define_before p m x)))
 
   further_each : (ns : Tree ℕ (items further_name)) → Each ns → AllOf (further_names ns)
   further_each end h = tt
   further_each (more (then_name x) ns) h = (h.0, further_each ns h.1)
 
-  names_each : (ns : Tree ℕ names) → Each ns → AllOf (names_listed ns)
+  names_each : (ns : Tree ℕ names) → Each ns → AllOf (names_in_list ns)
   names_each (listed x ns) h = (h.0, further_each ns h.1)
 
   -- ---- written types
 
-  made_within : (b : Bool) (p : SoFar) (word ordinal : ℕ) (parts : PartTypes) (size : Size)
-      → Typed (if b then right (made (so_old p) ordinal parts size) else too_large (so_old p) word) (if b then right (made (so_new p) ordinal parts size) else too_large (so_new p) word)
+  made_within : (b : Bool) (p : KnownDeclarations) (word ordinal : ℕ) (parts : PartTypes) (size : Size)
+      → Typed (if b then without_fault (made (so_old p) ordinal parts size) else type_too_large (so_old p) word) (if b then without_fault (made (so_new p) ordinal parts size) else type_too_large (so_new p) word)
   made_within true p word ordinal parts size = rightly old new typed_old typed_new (made p ordinal parts size)
   made_within false p word ordinal parts size = record {
     value = record { of = type.Unknown; following = p };
     before = refl;
     after = refl;
-    faults = at_same old new os ns P w (types_at p.made) (declared_at p) false code.TypeTooLarge word word;
+    faults = at_same old new os ns P w (types_so_far p.made) (declared_at p) false code.TypeTooLarge word word;
   }
 
-  made_same : (p : SoFar) (word ordinal : ℕ) (parts : PartTypes) (size : Size) → Typed (make (so_old p) word ordinal parts size) (make (so_new p) word ordinal parts size)
-  made_same p word ordinal parts size = made_within (is_within size) p word ordinal parts size
+  made_same : (p : KnownDeclarations) (word ordinal : ℕ) (parts : PartTypes) (size : Size) → Typed (make_type (so_old p) word ordinal parts size) (make_type (so_new p) word ordinal parts size)
+  made_same p word ordinal parts size = made_within (is_within_limits size) p word ordinal parts size
 
-  array_same : (ordinal : ℕ) (o : Operand TypeId) (n : Option ℕ) (t : TypedAfter) → Typed (array_made ordinal o n (typed_old t)) (array_made ordinal o n (typed_new t))
+  array_same : (ordinal : ℕ) (o : Operand TypeId) (n : Option ℕ) (t : TypeWithState) → Typed (made_array_type ordinal o n (typed_old t)) (made_array_type ordinal o n (typed_new t))
   array_same ordinal o None t = rightly old new typed_old typed_new (record { of = type.Unknown; following = t.following })
   array_same ordinal o (Some n) t = made_same t.following (token_before o.first) ordinal (of_elements n t.of) (array_size n (size_at t.following.made t.of))
 
-  name_over : (t : TypeId) (g : Gathered) (x : ℕ) → P x → with_name t (gathered_new g) x ≡ gathered_new (with_name t (gathered_old g) x)
+  name_over : (t : TypeId) (g : KnownFields) (x : ℕ) → P x → with_known_field t (gathered_new g) x ≡ gathered_new (with_known_field t (gathered_old g) x)
   name_over t g x h = ap (λ text. gathered_new (with_written text)) (w.written x h) where
-    with_written : List ℕ → Gathered
-    with_written text = record { fields = g.fields ++ record { name = text; of = t } ∷ []; size = (with_name t (gathered_old g) x).size; following = g.following }
+    with_written : List ℕ → KnownFields
+    with_written text = record { fields = g.fields ++ record { name = text; of = t } ∷ []; size = (with_known_field t (gathered_old g) x).size; following = g.following }
 
-  names_old : (t : TypeId) (g : Gathered) (xs : List ℕ) → with_field_names t (gathered_old g) xs ≡ gathered_old (with_field_names t (gathered_old g) xs)
+  names_old : (t : TypeId) (g : KnownFields) (xs : List ℕ) → with_known_fields t (gathered_old g) xs ≡ gathered_old (with_known_fields t (gathered_old g) xs)
   names_old t g [] = refl
-  names_old t g (x ∷ xs) = names_old t (with_name t (gathered_old g) x) xs
+  names_old t g (x ∷ xs) = names_old t (with_known_field t (gathered_old g) x) xs
 
-  names_new : (t : TypeId) (g : Gathered) (xs : List ℕ) → AllOf xs → with_field_names t (gathered_new g) xs ≡ gathered_new (with_field_names t (gathered_old g) xs)
+  names_new : (t : TypeId) (g : KnownFields) (xs : List ℕ) → AllOf xs → with_known_fields t (gathered_new g) xs ≡ gathered_new (with_known_fields t (gathered_old g) xs)
   names_new t g [] each = refl
-  names_new t g (x ∷ xs) each = ap (λ h. with_field_names t h xs) (name_over t g x each.0) ∙ names_new t (with_name t (gathered_old g) x) xs each.1
+  names_new t g (x ∷ xs) each = ap (λ h. with_known_fields t h xs) (name_over t g x each.0) ∙ names_new t (with_known_field t (gathered_old g) x) xs each.1
 
-  gathered_same : (g : Gathered) (xs : List ℕ) (t : TypedAfter) → AllOf xs → Gathers (right (gathered_after (gathered_old g) xs (typed_old t))) (right (gathered_after (gathered_new g) xs (typed_new t)))
+  gathered_same : (g : KnownFields) (xs : List ℕ) (t : TypeWithState) → AllOf xs → AddsKnownFields (without_fault (with_field_group (gathered_old g) xs (typed_old t))) (without_fault (with_field_group (gathered_new g) xs (typed_new t)))
   gathered_same g xs t each =
-      let h : Gathered = record { fields = g.fields; size = g.size; following = t.following } in
-      record { value = with_field_names t.of (gathered_old h) xs; before = names_old t.of h xs; after = names_new t.of h xs each; faults = none_same old new }
+      let h : KnownFields = record { fields = g.fields; size = g.size; following = t.following } in
+      record { value = with_known_fields t.of (gathered_old h) xs; before = names_old t.of h xs; after = names_new t.of h xs each; faults = none_same old new }
 
   mutual
     unfolding reported_type
 
-    written_same : (around : ℕ) (p : SoFar) (t : Tree ℕ written_type) → Each t → Typed (reported_type around (so_old p) t) (reported_type around (so_new p) t)
+    written_same : (around : ℕ) (p : KnownDeclarations) (t : Tree ℕ written_type) → Each t → Typed (reported_type around (so_old p) t) (reported_type around (so_new p) t)
     written_same around p (named_type x) h =
-        goes_on old new (λ t. right (record { of = t; following = so_old p })) (λ t. right (record { of = t; following = so_new p })) (type_named_same old new os ns P w (types_at p.made) (declared_at p) false x h)
+        goes_on old new (λ t. without_fault (record { of = t; following = so_old p })) (λ t. without_fault (record { of = t; following = so_new p })) (type_named_same old new os ns P w (types_so_far p.made) (declared_at p) false x h)
         (λ t. rightly old new typed_old typed_new (record { of = t; following = p }))
     written_same around p (array_type e u) h =
-        goes_on old new (λ o. length_of (facts_at (so_old p) false) o >>= (λ n. reported_type (suc around) (so_old p) u >>= array_made (ordinal_here around p) o n))
-        (λ o. length_of (facts_at (so_new p) false) o >>= (λ n. reported_type (suc around) (so_new p) u >>= array_made (ordinal_here around p) o n))
-        (expression_same old new os ns P w (types_at p.made) (declared_at p) true e h.0)
+        goes_on old new (λ o. length_of (facts_at (so_old p) false) o >>= (λ n. reported_type (suc around) (so_old p) u >>= made_array_type (next_type_ordinal around p) o n))
+        (λ o. length_of (facts_at (so_new p) false) o >>= (λ n. reported_type (suc around) (so_new p) u >>= made_array_type (next_type_ordinal around p) o n))
+        (expression_same old new os ns P w (types_so_far p.made) (declared_at p) true e h.0)
         (λ o.
-        goes_on old new (λ n. reported_type (suc around) (so_old p) u >>= array_made (ordinal_here around p) o n) (λ n. reported_type (suc around) (so_new p) u >>= array_made (ordinal_here around p) o n)
-        (length_same old new os ns P w (types_at p.made) (declared_at p) false o)
-        (λ n. goes_on old new (array_made (ordinal_here around p) o n) (array_made (ordinal_here around p) o n) (written_same (suc around) p u h.1) (λ t. array_same (ordinal_here around p) o n t)))
+        goes_on old new (λ n. reported_type (suc around) (so_old p) u >>= made_array_type (next_type_ordinal around p) o n) (λ n. reported_type (suc around) (so_new p) u >>= made_array_type (next_type_ordinal around p) o n)
+        (length_same old new os ns P w (types_so_far p.made) (declared_at p) false o)
+        (λ n. goes_on old new (made_array_type (next_type_ordinal around p) o n) (made_array_type (next_type_ordinal around p) o n) (written_same (suc around) p u h.1) (λ t. array_same (next_type_ordinal around p) o n t)))
     written_same around p (record_type g rest) h =
-        goes_on old new (λ first. reported_groups (suc around) first rest >>= record_made (word_before g (record_word rest)) (ordinal_here around p))
-        (λ first. reported_groups (suc around) first rest >>= record_made (word_before g (record_word rest)) (ordinal_here around p))
-        (group_same (suc around) (nothing_gathered p) g h.0)
+        goes_on old new (λ first. reported_groups (suc around) first rest >>= made_record_type (token_before_group g (record_keyword rest)) (next_type_ordinal around p))
+        (λ first. reported_groups (suc around) first rest >>= made_record_type (token_before_group g (record_keyword rest)) (next_type_ordinal around p))
+        (group_same (suc around) (no_known_fields p) g h.0)
         (λ first.
-        goes_on old new (record_made (word_before g (record_word rest)) (ordinal_here around p)) (record_made (word_before g (record_word rest)) (ordinal_here around p)) (groups_same (suc around) first rest h.1)
-        (λ all. made_same all.following (word_before g (record_word rest)) (ordinal_here around p) (of_fields all.fields) (record_size all.size)))
+        goes_on old new (made_record_type (token_before_group g (record_keyword rest)) (next_type_ordinal around p)) (made_record_type (token_before_group g (record_keyword rest)) (next_type_ordinal around p)) (groups_same (suc around) first rest h.1)
+        (λ all. made_same all.following (token_before_group g (record_keyword rest)) (next_type_ordinal around p) (of_fields all.fields) (record_size all.size)))
 
-    group_same : (around : ℕ) (so_far : Gathered) (g : Tree ℕ fields) → Each g → Gathers (reported_fields around (gathered_old so_far) g) (reported_fields around (gathered_new so_far) g)
+    group_same : (around : ℕ) (so_far : KnownFields) (g : Tree ℕ fields) → Each g → AddsKnownFields (reported_fields around (gathered_old so_far) g) (reported_fields around (gathered_new so_far) g)
     group_same around so_far no_fields h = rightly old new gathered_old gathered_new so_far
     group_same around so_far (some_fields ns t) h =
-        goes_on old new (λ u. right (gathered_after (gathered_old so_far) (names_listed ns) u)) (λ u. right (gathered_after (gathered_new so_far) (names_listed ns) u)) (written_same around so_far.following t h.1)
-        (λ u. gathered_same so_far (names_listed ns) u (names_each ns h.0))
+        goes_on old new (λ u. without_fault (with_field_group (gathered_old so_far) (names_in_list ns) u)) (λ u. without_fault (with_field_group (gathered_new so_far) (names_in_list ns) u)) (written_same around so_far.following t h.1)
+        (λ u. gathered_same so_far (names_in_list ns) u (names_each ns h.0))
 
-    groups_same : (around : ℕ) (so_far : Gathered) (gs : Tree ℕ (items further_fields)) → Each gs → Gathers (reported_groups around (gathered_old so_far) gs) (reported_groups around (gathered_new so_far) gs)
+    groups_same : (around : ℕ) (so_far : KnownFields) (gs : Tree ℕ (items further_fields)) → Each gs → AddsKnownFields (reported_groups around (gathered_old so_far) gs) (reported_groups around (gathered_new so_far) gs)
     groups_same around so_far end h = rightly old new gathered_old gathered_new so_far
     groups_same around so_far (more (then_fields g) rest) h =
         goes_on old new (λ next. reported_groups around next rest) (λ next. reported_groups around next rest) (group_same around so_far g h.0) (λ next. groups_same around next rest h.1)
@@ -194,50 +194,50 @@ module _ (old new : Scanned) (os ns : List (Option ℕ)) (P : ℕ → Type 0) (w
   -- ---- declarations
 
   -- Declaring one or several names keeps the states of both texts alike.
-  defined : (p : SoFar) (m : Meaning TypeId) (x : ℕ) → P x → So (right (define (so_old p) m x)) (right (define (so_new p) m x))
+  defined : (p : KnownDeclarations) (m : Meaning TypeId) (x : ℕ) → P x → So (without_fault (define (so_old p) m x)) (without_fault (define (so_new p) m x))
   defined p m x h = so (define (so_old p) m x) (define (so_old p) m x) (define (so_new p) m x) (define_before p m x) (define_after p m x h)
 
-  all_defined : (p : SoFar) (m : Meaning TypeId) (xs : List ℕ) → AllOf xs → So (right (define_all (so_old p) m xs)) (right (define_all (so_new p) m xs))
+  all_defined : (p : KnownDeclarations) (m : Meaning TypeId) (xs : List ℕ) → AllOf xs → So (without_fault (define_all (so_old p) m xs)) (without_fault (define_all (so_new p) m xs))
   all_defined p m xs h = so (define_all (so_old p) m xs) (define_all (so_old p) m xs) (define_all (so_new p) m xs) (all_before p m xs) (all_after p m xs h)
 
-  constant_after : (p : SoFar) (c : Tree ℕ (item constant)) → Each c → So (constant_declared (so_old p) c) (constant_declared (so_new p) c)
+  constant_after : (p : KnownDeclarations) (c : Tree ℕ (item constant)) → Each c → So (constant_declared (so_old p) c) (constant_declared (so_new p) c)
   unfolding constant_declared
   constant_after p (declares_constant x e) h =
-      goes_on old new (λ v. right (define (so_old p) (a_constant v) x)) (λ v. right (define (so_new p) (a_constant v) x)) (constant_same old new os ns P w (types_at p.made) (declared_at p) true e h.1)
+      goes_on old new (λ v. without_fault (define (so_old p) (a_constant v) x)) (λ v. without_fault (define (so_new p) (a_constant v) x)) (constant_same old new os ns P w (types_so_far p.made) (declared_at p) true e h.1)
       (λ v. defined p (a_constant v) x h.0)
 
-  pub constants_same : (p : SoFar) (cs : Tree ℕ (items constant)) → Each cs → So (reported_constants (so_old p) cs) (reported_constants (so_new p) cs)
+  pub constants_same : (p : KnownDeclarations) (cs : Tree ℕ (items constant)) → Each cs → So (reported_constants (so_old p) cs) (reported_constants (so_new p) cs)
   unfolding reported_constants
   constants_same p end h = rightly old new so_old so_new p
   constants_same p (more c rest) h = goes_on old new (λ q. reported_constants q rest) (λ q. reported_constants q rest) (constant_after p c h.0) (λ q. constants_same q rest h.1)
 
-  type_after : (p : SoFar) (d : Tree ℕ (item type_name)) → Each d → So (type_declared (so_old p) d) (type_declared (so_new p) d)
+  select_type : (p : KnownDeclarations) (d : Tree ℕ (item type_name)) → Each d → So (type_declared (so_old p) d) (type_declared (so_new p) d)
   unfolding type_declared
-  type_after p (declares_type x t) h =
-      goes_on old new (λ u. right (define u.following (a_type u.of) x)) (λ u. right (define u.following (a_type u.of) x)) (written_same 0 p t h.1)
+  select_type p (declares_type x t) h =
+      goes_on old new (λ u. without_fault (define u.following (a_type u.of) x)) (λ u. without_fault (define u.following (a_type u.of) x)) (written_same 0 p t h.1)
       (λ u. defined u.following (a_type u.of) x h.0)
 
-  pub types_same : (p : SoFar) (ds : Tree ℕ (items type_name)) → Each ds → So (reported_types (so_old p) ds) (reported_types (so_new p) ds)
+  pub types_same : (p : KnownDeclarations) (ds : Tree ℕ (items type_name)) → Each ds → So (reported_types (so_old p) ds) (reported_types (so_new p) ds)
   unfolding reported_types
   types_same p end h = rightly old new so_old so_new p
-  types_same p (more d rest) h = goes_on old new (λ q. reported_types q rest) (λ q. reported_types q rest) (type_after p d h.0) (λ q. types_same q rest h.1)
+  types_same p (more d rest) h = goes_on old new (λ q. reported_types q rest) (λ q. reported_types q rest) (select_type p d h.0) (λ q. types_same q rest h.1)
 
-  variables_after : (p : SoFar) (g : Tree ℕ (item variable)) → Each g → So (variables_declared (so_old p) g) (variables_declared (so_new p) g)
+  variables_after : (p : KnownDeclarations) (g : Tree ℕ (item variable)) → Each g → So (variables_declared (so_old p) g) (variables_declared (so_new p) g)
   unfolding variables_declared
   variables_after p (declares_variable ns t) h =
-      goes_on old new (λ u. right (define_all u.following (a_variable u.of) (names_listed ns))) (λ u. right (define_all u.following (a_variable u.of) (names_listed ns))) (written_same 0 p t h.1)
-      (λ u. all_defined u.following (a_variable u.of) (names_listed ns) (names_each ns h.0))
+      goes_on old new (λ u. without_fault (define_all u.following (a_variable u.of) (names_in_list ns))) (λ u. without_fault (define_all u.following (a_variable u.of) (names_in_list ns))) (written_same 0 p t h.1)
+      (λ u. all_defined u.following (a_variable u.of) (names_in_list ns) (names_each ns h.0))
 
-  pub variables_same : (p : SoFar) (gs : Tree ℕ (items variable)) → Each gs → So (reported_variables (so_old p) gs) (reported_variables (so_new p) gs)
+  pub variables_same : (p : KnownDeclarations) (gs : Tree ℕ (items variable)) → Each gs → So (reported_variables (so_old p) gs) (reported_variables (so_new p) gs)
   unfolding reported_variables
   variables_same p end h = rightly old new so_old so_new p
   variables_same p (more g rest) h = goes_on old new (λ q. reported_variables q rest) (λ q. reported_variables q rest) (variables_after p g h.0) (λ q. variables_same q rest h.1)
 
   -- ---- headings
 
-  parameters_after : (h : KnownHeading) (by_place : Bool) (xs : List ℕ) (t : TypedAfter) → AllOf xs → Heads (right (with_parameters (heading_old h) by_place xs (typed_old t))) (right (with_parameters (heading_new h) by_place xs (typed_new t)))
+  parameters_after : (h : KnownHeading) (by_place : Bool) (xs : List ℕ) (t : TypeWithState) → AllOf xs → Heads (without_fault (with_parameters (heading_old h) by_place xs (typed_old t))) (without_fault (with_parameters (heading_new h) by_place xs (typed_new t)))
   parameters_after h by_place xs t each =
-      let more_formals : SoFar → KnownHeading = λ p. record { formals = h.formals ++ map (λ x. record { by_place = by_place; of = t.of }) xs; following = p } in
+      let more_formals : KnownDeclarations → KnownHeading = λ p. record { formals = h.formals ++ map (λ x. record { by_place = by_place; of = t.of }) xs; following = p } in
       record {
         value = with_parameters (heading_old h) by_place xs (typed_old t);
         before = ap more_formals (all_before t.following (a_variable t.of) xs);
@@ -248,8 +248,8 @@ module _ (old new : Scanned) (os ns : List (Option ℕ)) (P : ℕ → Type 0) (w
   parameters_same : (h : KnownHeading) (by_place : Bool) (ns : Tree ℕ names) (t : Tree ℕ written_type) → Each ns → Each t → Heads (reported_parameters (heading_old h) by_place ns t) (reported_parameters (heading_new h) by_place ns t)
   unfolding reported_parameters
   parameters_same h by_place ns t of_names of_type =
-      goes_on old new (λ u. right (with_parameters (heading_old h) by_place (names_listed ns) u)) (λ u. right (with_parameters (heading_new h) by_place (names_listed ns) u)) (written_same 0 h.following t of_type)
-      (λ u. parameters_after h by_place (names_listed ns) u (names_each ns of_names))
+      goes_on old new (λ u. without_fault (with_parameters (heading_old h) by_place (names_in_list ns) u)) (λ u. without_fault (with_parameters (heading_new h) by_place (names_in_list ns) u)) (written_same 0 h.following t of_type)
+      (λ u. parameters_after h by_place (names_in_list ns) u (names_each ns of_names))
 
   section_same : (h : KnownHeading) (s : Tree ℕ (item further_section)) → Each s → Heads (reported_section (heading_old h) s) (reported_section (heading_new h) s)
   unfolding reported_section
@@ -262,7 +262,7 @@ module _ (old new : Scanned) (os ns : List (Option ℕ)) (P : ℕ → Type 0) (w
   sections_same h (more s rest) each = goes_on old new (λ g. reported_sections g rest) (λ g. reported_sections g rest) (section_same h s each.0) (λ g. sections_same g rest each.1)
 
   -- The states within a procedure, after its heading, are alike in both texts.
-  pub heading_after : (x : ℕ) (h : KnownHeading) → P x → So (right (after_heading x (heading_old h))) (right (after_heading x (heading_new h)))
+  pub heading_after : (x : ℕ) (h : KnownHeading) → P x → So (without_fault (state_after_heading x (heading_old h))) (without_fault (state_after_heading x (heading_new h)))
   heading_after x h each = defined h.following (a_procedure h.formals) x each
 
   -- ---- optional sections
@@ -286,23 +286,23 @@ module _ (old new : Scanned) (os ns : List (Option ℕ)) (P : ℕ → Type 0) (w
 
   -- ---- bodies
 
-  pub body_same : (p : SoFar) (b : Tree ℕ (maybe body)) → Each b → So (reported_body (so_old p) b) (reported_body (so_new p) b)
+  pub body_same : (p : KnownDeclarations) (b : Tree ℕ (maybe body)) → Each b → So (reported_body (so_old p) b) (reported_body (so_new p) b)
   unfolding reported_body
   body_same p none h = rightly old new so_old so_new p
-  body_same p (one (begins statements)) h = record { value = p; before = refl; after = refl; faults = sequence_same old new os ns P w (types_at p.made) (declared_at p) false statements h }
+  body_same p (one (begins statements)) h = record { value = p; before = refl; after = refl; faults = sequence_same old new os ns P w (types_so_far p.made) (declared_at p) false statements h }
 
   -- ---- blocks and procedures
 
   -- If a block has the same report in both texts from alike states, it also has after a heading.
-  block_after : (b : Tree ℕ block) → ((q : SoFar) → So (reported_block (so_old q) b) (reported_block (so_new q) b)) → (h : KnownHeading) (x : ℕ) → P x → So (reported_block (after_heading x (heading_old h)) b) (reported_block (after_heading x (heading_new h)) b)
+  block_after : (b : Tree ℕ block) → ((q : KnownDeclarations) → So (reported_block (so_old q) b) (reported_block (so_new q) b)) → (h : KnownHeading) (x : ℕ) → P x → So (reported_block (state_after_heading x (heading_old h)) b) (reported_block (state_after_heading x (heading_new h)) b)
   block_after b each h x at =
       let a = heading_after x h at in
-      subst (λ q. So (reported_block q b) (reported_block (after_heading x (heading_new h)) b)) (sym a.before) (subst (λ q. So (reported_block (so_old a.value) b) (reported_block q b)) (sym a.after) (each a.value))
+      subst (λ q. So (reported_block q b) (reported_block (state_after_heading x (heading_new h)) b)) (sym a.before) (subst (λ q. So (reported_block (so_old a.value) b) (reported_block q b)) (sym a.after) (each a.value))
 
   mutual
     unfolding reported_block
 
-    pub block_same : (p : SoFar) (b : Tree ℕ block) → Each b → So (reported_block (so_old p) b) (reported_block (so_new p) b)
+    pub block_same : (p : KnownDeclarations) (b : Tree ℕ block) → Each b → So (reported_block (so_old p) b) (reported_block (so_new p) b)
     block_same p (has_body (declares cs ts vs ps) statements) h =
         goes_on old new (λ q. reported_types q (section_types ts) >>= (λ r. reported_variables r (section_variables vs) >>= (λ s. reported_procedures s ps >>= (λ t. reported_body t statements))))
         (λ q. reported_types q (section_types ts) >>= (λ r. reported_variables r (section_variables vs) >>= (λ s. reported_procedures s ps >>= (λ t. reported_body t statements))))
@@ -316,29 +316,29 @@ module _ (old new : Scanned) (os ns : List (Option ℕ)) (P : ℕ → Type 0) (w
         (variables_same r (section_variables vs) (variables_each vs h.0.2))
         (λ s. goes_on old new (λ t. reported_body t statements) (λ t. reported_body t statements) (procedures_same s ps h.0.3) (λ t. body_same t statements h.1))))
 
-    procedures_same : (p : SoFar) (ps : Tree ℕ (items procedure)) → Each ps → So (reported_procedures (so_old p) ps) (reported_procedures (so_new p) ps)
+    procedures_same : (p : KnownDeclarations) (ps : Tree ℕ (items procedure)) → Each ps → So (reported_procedures (so_old p) ps) (reported_procedures (so_new p) ps)
     procedures_same p end h = rightly old new so_old so_new p
     procedures_same p (more d rest) h = goes_on old new (λ q. reported_procedures q rest) (λ q. reported_procedures q rest) (procedure_same p d h.0) (λ q. procedures_same q rest h.1)
 
-    procedure_same : (p : SoFar) (d : Tree ℕ (item procedure)) → Each d → So (reported_procedure (so_old p) d) (reported_procedure (so_new p) d)
+    procedure_same : (p : KnownDeclarations) (d : Tree ℕ (item procedure)) → Each d → So (reported_procedure (so_old p) d) (reported_procedure (so_new p) d)
     procedure_same p (declares_procedure x fs b closing) h =
-        goes_on old new (λ g. reported_block (after_heading x g) b) (λ g. reported_block (after_heading x g) b) (sections_same (record { formals = []; following = p }) (formal_sections fs) (formals_each fs h.1))
+        goes_on old new (λ g. reported_block (state_after_heading x g) b) (λ g. reported_block (state_after_heading x g) b) (sections_same (record { formals = []; following = p }) (formal_sections fs) (formals_each fs h.1))
         (λ g. block_after b (λ q. block_same q b h.2) g x h.0)
 
 -- ---- a module
 
-same_count : (old new : Scanned) → AreWrittenAlike old new → length new.tokens ≡ length old.tokens
-same_count old new w = sym (length-map new.tokens (read_in new.text)) ∙ (ap length w.same_words ∙ length-map old.tokens (read_in old.text))
+same_count : (old new : TextWithTokens) → AreWrittenAlike old new → length new.tokens ≡ length old.tokens
+same_count old new w = sym (length-map new.tokens (word_of_token new.text)) ∙ (ap length w.same_words ∙ length-map old.tokens (word_of_token old.text))
 
 -- If all tokens of two texts have the same spellings, the undeclared names and the faults of types are at the same
 -- tokens.
-pub module_same : (old new : Scanned) (w : AreWrittenAlike old new) (tree : ModuleTree) (ordinals : List (Option ℕ)) (declarations uses : List ℕ) (before after : List Fault) → AreAtSameTokens old new before after
-    → AreAtSameTokens old new (reported_module (record { module_read = parsed_by old tree; ordinals = ordinals; declarations = declarations; uses = uses; faults = before }))
-    (reported_module (record { module_read = parsed_by new tree; ordinals = ordinals; declarations = declarations; uses = uses; faults = after }))
+pub module_same : (old new : TextWithTokens) (w : AreWrittenAlike old new) (tree : ModuleTree) (ordinals : List (Option ℕ)) (declarations uses : List ℕ) (before after : List Fault) → AreAtSameTokens old new before after
+    → AreAtSameTokens old new (reported_module (record { module_read = parsed_module old tree; ordinals = ordinals; declarations = declarations; uses = uses; faults = before }))
+    (reported_module (record { module_read = parsed_module new tree; ordinals = ordinals; declarations = declarations; uses = uses; faults = after }))
 unfolding reported_module
 module_same old new w tree ordinals declarations uses before after h =
-    let first : SoFar = at_first (record { module_read = parsed_by old tree; ordinals = ordinals; declarations = declarations; uses = uses; faults = before }) in
+    let first : KnownDeclarations = state_at_start (record { module_read = parsed_module old tree; ordinals = ordinals; declarations = declarations; uses = uses; faults = before }) in
     let P : ℕ → Type 0 = λ k. Unit {0} in
     let likeness : Alikeness old new ordinals ordinals P = record { count = same_count old new w; written = λ k u. λ j. texts_stay old new w j k; value = λ k u. λ j. values_stay old new w j k; bound = λ k u. refl } in
-    let b : Tree ℕ block = module_block (tree_of (parsed_by old tree)) in
-    both_same old new (filter_same old new is_of_occurrences (λ f. refl) h) (block_same old new ordinals ordinals P likeness first b (each_token P (λ k. tt) b)).faults
+    let b : Tree ℕ block = module_block (tree_of (parsed_module old tree)) in
+    both_same old new (filter_same old new is_undeclared_fault (λ f. refl) h) (block_same old new ordinals ordinals P likeness first b (each_token P (λ k. tt) b)).faults

@@ -1,21 +1,21 @@
 -- A body that has no faults still has none after the tokens of the module changed in other bodies.
 use Rattle.std.proofs.Common.{◌≡◌, ℕ, Bool, true, false, List, [], ◌∷◌, ◌++◌, map, Option, None, length, refl, sym, ap, ◌∙◌, subst, arith, true≢false}
 use Rattle.std.proofs.lemmas.List.{length-map, nil_from_length}
-use Rattle.ob0_scan.specs.Scanned.{Scanned}
+use Rattle.ob0_scan.specs.TextWithTokens.{TextWithTokens}
 use Rattle.ob0_scan.specs.declared.fault.Fault.{Fault}
 use Rattle.ob0_tree.specs.declared.tree.Role.TheVariants as role
-use Rattle.ob0_tree.specs.Parsed.{tree_of}
+use Rattle.ob0_tree.specs.ParsedModule.{tree_of}
 use Rattle.ob0_tree.specs.Tree.{Tree, block, body, declares, declares_procedure, end, has_body, identifiers, is_module, item, items, maybe, module_text, more, procedure}
 use Rattle.ob0_language_names.specs.Parts.{formal_sections, module_block, section_constants, section_types, section_variables}
-use Rattle.ob0_scope_table.specs.BodyAlone.{EachToken}
+use Rattle.ob0_scope_table.specs.TokenProperty.{EachTokenHas}
 use Rattle.ob0_scope_table.specs.FaultTokens.{AreAtSameTokens, fault_at}
-use Rattle.ob0_scope_table.specs.Resolution.{IsResolution, Resolution, declaring_only}
-use Rattle.ob0_types_check.specs.AlikeBut.{BlockBut, IsAlikeAt, ProcedureBut, ProceduresBut, Unless}
-use Rattle.ob0_types_check.specs.DeclarationFaults.{KnownHeading, after_heading, reported_body, reported_constants, reported_sections, reported_types, reported_variables}
+use Rattle.ob0_scope_table.specs.Resolution.{IsResolution, Resolution, declaring_names}
+use Rattle.ob0_types_check.specs.EqualExceptBodies.{BlockExceptBodies, IsSameTokenAt, ProcedureExceptBodies, ProceduresExceptBodies, Unless}
+use Rattle.ob0_types_check.specs.DeclarationFaults.{KnownHeading, state_after_heading, reported_body, reported_constants, reported_sections, reported_types, reported_variables}
 use Rattle.ob0_types_check.specs.Known.{Reported}
 use Rattle.ob0_types_check.specs.Operations.{◌>>=◌}
-use Rattle.ob0_types_check.specs.SoFar.{SoFar, at_first, predeclared_meanings}
-use Rattle.ob0_types_check.specs.SomeBodies.{AllPass, SomeBodiesReported, Walked, WereFaulty, block_with, body_if, every, faulty_bodies, module_with, procedure_with, procedures_with, with_faulty}
+use Rattle.ob0_types_check.specs.KnownDeclarations.{KnownDeclarations, state_at_start, predeclared_meanings}
+use Rattle.ob0_types_check.specs.SomeBodies.{AllPass, SomeBodiesSuffice, WalkProgress, IncludesFaultyBodies, reported_block_with, report_body_if, every_body, faulty_bodies, reported_module_with, reported_procedure_with, reported_procedures_with, with_faulty_body}
 use Rattle.ob0_types_check.proofs.Chains.{reported_equal}
 use Rattle.ob0_types_check.proofs.ReportedWith.{further}
 use Rattle.ob0_types_check.proofs.SameFaults.{Alike, Alikeness}
@@ -37,64 +37,64 @@ module _ (test : ℕ → Bool) where
   all_and (x ∷ xs) y h q = (h.0, all_and xs y h.1 q)
 
   -- If all bodies in the list are wanted after one was added, they were wanted before.
-  faulty_before : (faults : List Fault) (own : ℕ) (xs : List ℕ) → AllPass test (with_faulty faults own xs) → AllPass test xs
+  faulty_before : (faults : List Fault) (own : ℕ) (xs : List ℕ) → AllPass test (with_faulty_body faults own xs) → AllPass test xs
   faulty_before [] own xs h = h
   faulty_before (fault ∷ faults) own xs h = all_before xs (own ∷ []) h
 
   mutual
-    unfolding block_with
+    unfolding reported_block_with
 
-    before_block : (own : ℕ) (w : Walked) (b : Tree ℕ block) → AllPass test (block_with every own w b).known.faulty → AllPass test w.faulty
+    before_block : (own : ℕ) (w : WalkProgress) (b : Tree ℕ block) → AllPass test (reported_block_with every_body own w b).known.faulty → AllPass test w.faulty
     before_block own w (has_body (declares cs ts vs ps) a) h =
         let q = (reported_constants w.so_far (section_constants cs)).known in
         let r = (reported_types q (section_types ts)).known in
         let s = (reported_variables r (section_variables vs)).known in
-        let v = (procedures_with every (further w s) ps).known in
+        let v = (reported_procedures_with every_body (further w s) ps).known in
         before_procedures (further w s) ps (faulty_before (reported_body v.so_far a).faults own v.faulty h)
 
-    before_procedures : (w : Walked) (ps : Tree ℕ (items procedure)) → AllPass test (procedures_with every w ps).known.faulty → AllPass test w.faulty
+    before_procedures : (w : WalkProgress) (ps : Tree ℕ (items procedure)) → AllPass test (reported_procedures_with every_body w ps).known.faulty → AllPass test w.faulty
     before_procedures w end h = h
-    before_procedures w (more d rest) h = before_procedure w d (before_procedures (procedure_with every w d).known rest h)
+    before_procedures w (more d rest) h = before_procedure w d (before_procedures (reported_procedure_with every_body w d).known rest h)
 
-    before_procedure : (w : Walked) (d : Tree ℕ (item procedure)) → AllPass test (procedure_with every w d).known.faulty → AllPass test w.faulty
+    before_procedure : (w : WalkProgress) (d : Tree ℕ (item procedure)) → AllPass test (reported_procedure_with every_body w d).known.faulty → AllPass test w.faulty
     before_procedure w (declares_procedure x fs b closing) h =
         let g = (reported_sections (record { formals = []; following = w.so_far }) (formal_sections fs)).known in
-        before_block closing (further w (after_heading x g)) b h
+        before_block closing (further w (state_after_heading x g)) b h
 
 -- If only wanted bodies are walked, all bodies found faulty are wanted.
 module _ (wanted : ℕ → Bool) where
   abbrev Wants : List ℕ → Type 0
   Wants bodies = AllPass wanted bodies
 
-  faulty_wanted : (w : Walked) (own : ℕ) (a : Tree ℕ (maybe body)) → Wants w.faulty → Wants (body_if (wanted own) own w a).known.faulty
+  faulty_wanted : (w : WalkProgress) (own : ℕ) (a : Tree ℕ (maybe body)) → Wants w.faulty → Wants (report_body_if (wanted own) own w a).known.faulty
   faulty_wanted w own a h = one (wanted own) refl
     where
-      added : (faults : List Fault) → wanted own ≡ true → Wants (with_faulty faults own w.faulty)
+      added : (faults : List Fault) → wanted own ≡ true → Wants (with_faulty_body faults own w.faulty)
       added [] e = h
       added (fault ∷ faults) e = all_and wanted w.faulty own h e
 
-      one : (b : Bool) → wanted own ≡ b → Wants (body_if b own w a).known.faulty
+      one : (b : Bool) → wanted own ≡ b → Wants (report_body_if b own w a).known.faulty
       one true e = added (reported_body w.so_far a).faults e
       one false e = h
 
   mutual
-    unfolding block_with
+    unfolding reported_block_with
 
-    block_wanted : (own : ℕ) (w : Walked) (b : Tree ℕ block) → Wants w.faulty → Wants (block_with wanted own w b).known.faulty
+    block_wanted : (own : ℕ) (w : WalkProgress) (b : Tree ℕ block) → Wants w.faulty → Wants (reported_block_with wanted own w b).known.faulty
     block_wanted own w (has_body (declares cs ts vs ps) a) h =
         let q = (reported_constants w.so_far (section_constants cs)).known in
         let r = (reported_types q (section_types ts)).known in
         let s = (reported_variables r (section_variables vs)).known in
-        faulty_wanted (procedures_with wanted (further w s) ps).known own a (procedures_wanted (further w s) ps h)
+        faulty_wanted (reported_procedures_with wanted (further w s) ps).known own a (procedures_wanted (further w s) ps h)
 
-    procedures_wanted : (w : Walked) (ps : Tree ℕ (items procedure)) → Wants w.faulty → Wants (procedures_with wanted w ps).known.faulty
+    procedures_wanted : (w : WalkProgress) (ps : Tree ℕ (items procedure)) → Wants w.faulty → Wants (reported_procedures_with wanted w ps).known.faulty
     procedures_wanted w end h = h
-    procedures_wanted w (more d rest) h = procedures_wanted (procedure_with wanted w d).known rest (procedure_wanted w d h)
+    procedures_wanted w (more d rest) h = procedures_wanted (reported_procedure_with wanted w d).known rest (procedure_wanted w d h)
 
-    procedure_wanted : (w : Walked) (d : Tree ℕ (item procedure)) → Wants w.faulty → Wants (procedure_with wanted w d).known.faulty
+    procedure_wanted : (w : WalkProgress) (d : Tree ℕ (item procedure)) → Wants w.faulty → Wants (reported_procedure_with wanted w d).known.faulty
     procedure_wanted w (declares_procedure x fs b closing) h =
         let g = (reported_sections (record { formals = []; following = w.so_far }) (formal_sections fs)).known in
-        block_wanted closing (further w (after_heading x g)) b h
+        block_wanted closing (further w (state_after_heading x g)) b h
 
 -- ---- two texts
 
@@ -105,7 +105,7 @@ pub record One {Z A : Type 0} (f g : Z → A) (r s d : Reported A) : Type 0 wher
   pub after : s.known ≡ g value
   pub same : s ≡ d
 
-of_alike : {Z A : Type 0} {old new : Scanned} {f g : Z → A} {r s : Reported A} → Alike old new f g r s → One f g r s s
+of_alike : {Z A : Type 0} {old new : TextWithTokens} {f g : Z → A} {r s : Reported A} → Alike old new f g r s → One f g r s s
 of_alike p = record { value = p.value; before = p.before; after = p.after; same = refl }
 
 -- Joins two steps. The final state in the old text has a property that then holds for each earlier state.
@@ -125,7 +125,7 @@ one_then {Z} {A} {Y} {B} {f} {g} {h} {k} {t} {u} {v} J K next other another down
     }
 
 -- If a list of faults is empty, the list of faults at the same tokens of another text is also empty.
-none_same_tokens : (old new : Scanned) (before after : List Fault) → AreAtSameTokens old new before after → before ≡ [] → after ≡ []
+none_same_tokens : (old new : TextWithTokens) (before after : List Fault) → AreAtSameTokens old new before after → before ≡ [] → after ≡ []
 none_same_tokens old new before after h none =
     let count : length before ≡ length h.tokens = ap length h.in_old ∙ length-map h.tokens (fault_at old) in
     let nothing : length before ≡ 0 = ap length none in
@@ -133,42 +133,42 @@ none_same_tokens old new before after h none =
 
 -- the state that both texts share, and the lists of bodies with faults in each of them
 record Both : Type 0 where
-  so : SoFar
+  so : KnownDeclarations
   in_old : List ℕ
   in_new : List ℕ
 
-module _ (old new : Scanned) (os ns : List (Option ℕ)) (P : ℕ → Type 0) (w : Alikeness old new os ns P) (wanted : ℕ → Bool) where
-  abbrev so_before : SoFar → SoFar
+module _ (old new : TextWithTokens) (os ns : List (Option ℕ)) (P : ℕ → Type 0) (w : Alikeness old new os ns P) (wanted : ℕ → Bool) where
+  abbrev so_before : KnownDeclarations → KnownDeclarations
   so_before p = so_over old os p
 
-  abbrev so_now : SoFar → SoFar
+  abbrev so_now : KnownDeclarations → KnownDeclarations
   so_now p = so_over new ns p
 
-  abbrev walked_before : Both → Walked
+  abbrev walked_before : Both → WalkProgress
   walked_before z = record { so_far = so_before z.so; faulty = z.in_old }
 
-  abbrev walked_now : Both → Walked
+  abbrev walked_now : Both → WalkProgress
   walked_now z = record { so_far = so_now z.so; faulty = z.in_new }
 
-  abbrev further_both : Both → SoFar → Both
+  abbrev further_both : Both → KnownDeclarations → Both
   further_both z p = record { so = p; in_old = z.in_old; in_new = z.in_new }
 
-  abbrev With : Reported Walked → Reported Walked → Reported Walked → Type 0
+  abbrev With : Reported WalkProgress → Reported WalkProgress → Reported WalkProgress → Type 0
   With r s d = One walked_before walked_now r s d
 
   -- holds if all bodies with faults in the old text are wanted
-  abbrev Were : Walked → Type 0
+  abbrev Were : WalkProgress → Type 0
   Were v = Wants wanted v.faulty
 
   abbrev nothing_of : {A : Type 0} → A → Type 0
   nothing_of x = Unit {0}
 
-  none_unless : (faults : List Fault) (own : ℕ) (xs : List ℕ) → wanted own ≡ false → Wants wanted (with_faulty faults own xs) → faults ≡ []
+  none_unless : (faults : List Fault) (own : ℕ) (xs : List ℕ) → wanted own ≡ false → Wants wanted (with_faulty_body faults own xs) → faults ≡ []
   none_unless [] own xs e h = refl
   none_unless (fault ∷ faults) own xs e h = absurd (true≢false (sym (all_last wanted xs own h) ∙ e))
 
-  body_with : (own : ℕ) (z : Both) (a : Tree ℕ (maybe body)) → Unless (wanted own) (EachToken P a) → Were (body_if true own (walked_before z) a).known
-      → With (body_if true own (walked_before z) a) (body_if true own (walked_now z) a) (body_if (wanted own) own (walked_now z) a)
+  body_with : (own : ℕ) (z : Both) (a : Tree ℕ (maybe body)) → Unless (wanted own) (EachTokenHas P a) → Were (report_body_if true own (walked_before z) a).known
+      → With (report_body_if true own (walked_before z) a) (report_body_if true own (walked_now z) a) (report_body_if (wanted own) own (walked_now z) a)
   body_with own z a each were = one (wanted own) refl each
     where
       before_faults : List Fault
@@ -178,9 +178,9 @@ module _ (old new : Scanned) (os ns : List (Option ℕ)) (P : ℕ → Type 0) (w
       now_faults = (reported_body (so_now z.so) a).faults
 
       at_end : Both
-      at_end = record { so = z.so; in_old = with_faulty before_faults own z.in_old; in_new = with_faulty now_faults own z.in_new }
+      at_end = record { so = z.so; in_old = with_faulty_body before_faults own z.in_old; in_new = with_faulty_body now_faults own z.in_new }
 
-      one : (b : Bool) → wanted own ≡ b → Unless b (EachToken P a) → With (body_if true own (walked_before z) a) (body_if true own (walked_now z) a) (body_if b own (walked_now z) a)
+      one : (b : Bool) → wanted own ≡ b → Unless b (EachTokenHas P a) → With (report_body_if true own (walked_before z) a) (report_body_if true own (walked_now z) a) (report_body_if b own (walked_now z) a)
       one true e each = record { value = at_end; before = refl; after = refl; same = refl }
       one false e each =
           let none : now_faults ≡ [] = none_same_tokens old new before_faults now_faults (body_same old new os ns P w z.so a each).faults (none_unless before_faults own z.in_old e were) in
@@ -188,59 +188,59 @@ module _ (old new : Scanned) (os ns : List (Option ℕ)) (P : ℕ → Type 0) (w
             value = at_end;
             before = refl;
             after = refl;
-            same = λ i. record { known = record { so_far = so_now z.so; faulty = with_faulty (none i) own z.in_new }; faults = none i };
+            same = λ i. record { known = record { so_far = so_now z.so; faulty = with_faulty_body (none i) own z.in_new }; faults = none i };
           }
 
   -- The report of a block after a heading is the same in both texts if the report of the block is.
   inside : (closing : ℕ) (z : Both) (b : Tree ℕ block) (x : ℕ) (g : KnownHeading) → P x
-      → ((y : Both) → Were (block_with every closing (walked_before y) b).known → With (block_with every closing (walked_before y) b) (block_with every closing (walked_now y) b) (block_with wanted closing (walked_now y) b))
-      → Were (block_with every closing (further (walked_before z) (after_heading x (heading_old old new os ns P w g))) b).known
-      → With (block_with every closing (further (walked_before z) (after_heading x (heading_old old new os ns P w g))) b) (block_with every closing (further (walked_now z) (after_heading x (heading_new old new os ns P w g))) b)
-      (block_with wanted closing (further (walked_now z) (after_heading x (heading_new old new os ns P w g))) b)
+      → ((y : Both) → Were (reported_block_with every_body closing (walked_before y) b).known → With (reported_block_with every_body closing (walked_before y) b) (reported_block_with every_body closing (walked_now y) b) (reported_block_with wanted closing (walked_now y) b))
+      → Were (reported_block_with every_body closing (further (walked_before z) (state_after_heading x (heading_old old new os ns P w g))) b).known
+      → With (reported_block_with every_body closing (further (walked_before z) (state_after_heading x (heading_old old new os ns P w g))) b) (reported_block_with every_body closing (further (walked_now z) (state_after_heading x (heading_new old new os ns P w g))) b)
+      (reported_block_with wanted closing (further (walked_now z) (state_after_heading x (heading_new old new os ns P w g))) b)
   inside closing z b x g each again were =
       let a = heading_after old new os ns P w x g each in
-      let last : SoFar = after_heading x (heading_new old new os ns P w g) in
-      let start : Were (block_with every closing (walked_before (further_both z a.value)) b).known = subst (λ q. Were (block_with every closing (further (walked_before z) q) b).known) a.before were in
-      subst (λ q. With (block_with every closing (further (walked_before z) q) b) (block_with every closing (further (walked_now z) last) b) (block_with wanted closing (further (walked_now z) last) b)) (sym a.before)
-      (subst (λ q. With (block_with every closing (walked_before (further_both z a.value)) b) (block_with every closing (further (walked_now z) q) b) (block_with wanted closing (further (walked_now z) q) b)) (sym a.after) (again (further_both z a.value) start))
+      let last : KnownDeclarations = state_after_heading x (heading_new old new os ns P w g) in
+      let start : Were (reported_block_with every_body closing (walked_before (further_both z a.value)) b).known = subst (λ q. Were (reported_block_with every_body closing (further (walked_before z) q) b).known) a.before were in
+      subst (λ q. With (reported_block_with every_body closing (further (walked_before z) q) b) (reported_block_with every_body closing (further (walked_now z) last) b) (reported_block_with wanted closing (further (walked_now z) last) b)) (sym a.before)
+      (subst (λ q. With (reported_block_with every_body closing (walked_before (further_both z a.value)) b) (reported_block_with every_body closing (further (walked_now z) q) b) (reported_block_with wanted closing (further (walked_now z) q) b)) (sym a.after) (again (further_both z a.value) start))
 
   mutual
-    unfolding block_with
+    unfolding reported_block_with
 
-    block_one : (own : ℕ) (z : Both) (b : Tree ℕ block) → BlockBut P wanted own b → Were (block_with every own (walked_before z) b).known
-        → With (block_with every own (walked_before z) b) (block_with every own (walked_now z) b) (block_with wanted own (walked_now z) b)
+    block_one : (own : ℕ) (z : Both) (b : Tree ℕ block) → BlockExceptBodies P wanted own b → Were (reported_block_with every_body own (walked_before z) b).known
+        → With (reported_block_with every_body own (walked_before z) b) (reported_block_with every_body own (walked_now z) b) (reported_block_with wanted own (walked_now z) b)
     block_one own z (has_body (declares cs ts vs ps) a) h =
-        one_then nothing_of Were (λ q. reported_types q (section_types ts) >>= (λ r. reported_variables r (section_variables vs) >>= (λ s. procedures_with every (further (walked_before z) s) ps >>= (λ t. body_if true own t a))))
-        (λ q. reported_types q (section_types ts) >>= (λ r. reported_variables r (section_variables vs) >>= (λ s. procedures_with every (further (walked_now z) s) ps >>= (λ t. body_if true own t a))))
-        (λ q. reported_types q (section_types ts) >>= (λ r. reported_variables r (section_variables vs) >>= (λ s. procedures_with wanted (further (walked_now z) s) ps >>= (λ t. body_if (wanted own) own t a))))
+        one_then nothing_of Were (λ q. reported_types q (section_types ts) >>= (λ r. reported_variables r (section_variables vs) >>= (λ s. reported_procedures_with every_body (further (walked_before z) s) ps >>= (λ t. report_body_if true own t a))))
+        (λ q. reported_types q (section_types ts) >>= (λ r. reported_variables r (section_variables vs) >>= (λ s. reported_procedures_with every_body (further (walked_now z) s) ps >>= (λ t. report_body_if true own t a))))
+        (λ q. reported_types q (section_types ts) >>= (λ r. reported_variables r (section_variables vs) >>= (λ s. reported_procedures_with wanted (further (walked_now z) s) ps >>= (λ t. report_body_if (wanted own) own t a))))
         (λ x k. tt) (λ k. of_alike (constants_same old new os ns P w z.so (section_constants cs) (constants_each old new os ns P w cs h.0)))
         (λ q.
-        one_then nothing_of Were (λ r. reported_variables r (section_variables vs) >>= (λ s. procedures_with every (further (walked_before z) s) ps >>= (λ t. body_if true own t a)))
-        (λ r. reported_variables r (section_variables vs) >>= (λ s. procedures_with every (further (walked_now z) s) ps >>= (λ t. body_if true own t a)))
-        (λ r. reported_variables r (section_variables vs) >>= (λ s. procedures_with wanted (further (walked_now z) s) ps >>= (λ t. body_if (wanted own) own t a)))
+        one_then nothing_of Were (λ r. reported_variables r (section_variables vs) >>= (λ s. reported_procedures_with every_body (further (walked_before z) s) ps >>= (λ t. report_body_if true own t a)))
+        (λ r. reported_variables r (section_variables vs) >>= (λ s. reported_procedures_with every_body (further (walked_now z) s) ps >>= (λ t. report_body_if true own t a)))
+        (λ r. reported_variables r (section_variables vs) >>= (λ s. reported_procedures_with wanted (further (walked_now z) s) ps >>= (λ t. report_body_if (wanted own) own t a)))
         (λ x k. tt) (λ k. of_alike (types_same old new os ns P w q (section_types ts) (types_each old new os ns P w ts h.1)))
         (λ r.
-        one_then nothing_of Were (λ s. procedures_with every (further (walked_before z) s) ps >>= (λ t. body_if true own t a)) (λ s. procedures_with every (further (walked_now z) s) ps >>= (λ t. body_if true own t a))
-        (λ s. procedures_with wanted (further (walked_now z) s) ps >>= (λ t. body_if (wanted own) own t a))
+        one_then nothing_of Were (λ s. reported_procedures_with every_body (further (walked_before z) s) ps >>= (λ t. report_body_if true own t a)) (λ s. reported_procedures_with every_body (further (walked_now z) s) ps >>= (λ t. report_body_if true own t a))
+        (λ s. reported_procedures_with wanted (further (walked_now z) s) ps >>= (λ t. report_body_if (wanted own) own t a))
         (λ x k. tt) (λ k. of_alike (variables_same old new os ns P w r (section_variables vs) (variables_each old new os ns P w vs h.2)))
         (λ s.
-        one_then Were Were (λ t. body_if true own t a) (λ t. body_if true own t a) (λ t. body_if (wanted own) own t a)
+        one_then Were Were (λ t. report_body_if true own t a) (λ t. report_body_if true own t a) (λ t. report_body_if (wanted own) own t a)
         (λ t k. faulty_before wanted (reported_body t.so_far a).faults own t.faulty k)
         (procedures_one (further_both z s) ps h.3) (λ y. body_with own y a h.4))))
 
-    procedures_one : (z : Both) (ps : Tree ℕ (items procedure)) → ProceduresBut P wanted ps → Were (procedures_with every (walked_before z) ps).known
-        → With (procedures_with every (walked_before z) ps) (procedures_with every (walked_now z) ps) (procedures_with wanted (walked_now z) ps)
+    procedures_one : (z : Both) (ps : Tree ℕ (items procedure)) → ProceduresExceptBodies P wanted ps → Were (reported_procedures_with every_body (walked_before z) ps).known
+        → With (reported_procedures_with every_body (walked_before z) ps) (reported_procedures_with every_body (walked_now z) ps) (reported_procedures_with wanted (walked_now z) ps)
     procedures_one z end h were = record { value = z; before = refl; after = refl; same = refl }
     procedures_one z (more d rest) h were =
-        one_then Were Were (λ v. procedures_with every v rest) (λ v. procedures_with every v rest) (λ v. procedures_with wanted v rest)
+        one_then Were Were (λ v. reported_procedures_with every_body v rest) (λ v. reported_procedures_with every_body v rest) (λ v. reported_procedures_with wanted v rest)
         (λ v k. before_procedures wanted v rest k)
         (procedure_one z d h.0) (λ y. procedures_one y rest h.1) were
 
-    procedure_one : (z : Both) (d : Tree ℕ (item procedure)) → ProcedureBut P wanted d → Were (procedure_with every (walked_before z) d).known
-        → With (procedure_with every (walked_before z) d) (procedure_with every (walked_now z) d) (procedure_with wanted (walked_now z) d)
+    procedure_one : (z : Both) (d : Tree ℕ (item procedure)) → ProcedureExceptBodies P wanted d → Were (reported_procedure_with every_body (walked_before z) d).known
+        → With (reported_procedure_with every_body (walked_before z) d) (reported_procedure_with every_body (walked_now z) d) (reported_procedure_with wanted (walked_now z) d)
     procedure_one z (declares_procedure x fs b closing) h =
-        one_then nothing_of Were (λ g. block_with every closing (further (walked_before z) (after_heading x g)) b) (λ g. block_with every closing (further (walked_now z) (after_heading x g)) b)
-        (λ g. block_with wanted closing (further (walked_now z) (after_heading x g)) b)
+        one_then nothing_of Were (λ g. reported_block_with every_body closing (further (walked_before z) (state_after_heading x g)) b) (λ g. reported_block_with every_body closing (further (walked_now z) (state_after_heading x g)) b)
+        (λ g. reported_block_with wanted closing (further (walked_now z) (state_after_heading x g)) b)
         (λ x k. tt) (λ k. of_alike (sections_same old new os ns P w (record { formals = []; following = z.so }) (formal_sections fs) (formals_each old new os ns P w fs h.1)))
         (λ g. inside closing z b x g h.0 (λ y. block_one closing y b h.2))
 
@@ -251,50 +251,50 @@ closing_of (is_module x b closing) = closing
 
 -- holds if the final states in both texts come from one value
 pub record IsKnownAlike (old new : Resolution) : Type 0 where
-  pub value : SoFar
-  pub before : (module_with every old).known.so_far ≡ so_over old.module_read.source old.ordinals value
-  pub after : (module_with every new).known.so_far ≡ so_over new.module_read.source new.ordinals value
+  pub value : KnownDeclarations
+  pub before : (reported_module_with every_body old).known.so_far ≡ so_over old.module_read.source old.ordinals value
+  pub after : (reported_module_with every_body new).known.so_far ≡ so_over new.module_read.source new.ordinals value
 
-module _ (wanted : ℕ → Bool) (r : Resolution) (is : IsResolution r) (w : WereFaulty wanted r) where
+module _ (wanted : ℕ → Bool) (r : Resolution) (is : IsResolution r) (w : IncludesFaultyBodies wanted r) where
   abbrev old : Resolution
   old = w.old
 
   abbrev old_block : Tree ℕ block
   old_block = module_block (tree_of old.module_read)
 
-  likeness : Alikeness old.module_read.source r.module_read.source old.ordinals r.ordinals (IsAlikeAt old r)
+  likeness : Alikeness old.module_read.source r.module_read.source old.ordinals r.ordinals (IsSameTokenAt old r)
   likeness = record { count = w.alike.count; written = λ k h. h.written; value = λ k h. h.value; bound = λ k h. h.bound }
 
   abbrev start : Both
-  start = record { so = at_first old; in_old = []; in_new = [] }
+  start = record { so = state_at_start old; in_old = []; in_new = [] }
 
-  abbrev at_start : Walked
-  at_start = record { so_far = so_over r.module_read.source r.ordinals (at_first old); faulty = [] }
+  abbrev at_start : WalkProgress
+  at_start = record { so_far = so_over r.module_read.source r.ordinals (state_at_start old); faulty = [] }
 
-  one : One (walked_before old.module_read.source r.module_read.source old.ordinals r.ordinals (IsAlikeAt old r) likeness wanted) (walked_now old.module_read.source r.module_read.source old.ordinals r.ordinals (IsAlikeAt old r) likeness wanted)
-      (module_with every old) (block_with every old.module_read.closing at_start old_block) (block_with wanted old.module_read.closing at_start old_block)
-  one = block_one old.module_read.source r.module_read.source old.ordinals r.ordinals (IsAlikeAt old r) likeness wanted old.module_read.closing start old_block w.alike.alike.1 w.faulty
+  one : One (walked_before old.module_read.source r.module_read.source old.ordinals r.ordinals (IsSameTokenAt old r) likeness wanted) (walked_now old.module_read.source r.module_read.source old.ordinals r.ordinals (IsSameTokenAt old r) likeness wanted)
+      (reported_module_with every_body old) (reported_block_with every_body old.module_read.closing at_start old_block) (reported_block_with wanted old.module_read.closing at_start old_block)
+  one = block_one old.module_read.source r.module_read.source old.ordinals r.ordinals (IsSameTokenAt old r) likeness wanted old.module_read.closing start old_block w.alike.alike.1 w.faulty
 
-  as_read : (test : ℕ → Bool) → module_with test r ≡ block_with test old.module_read.closing at_start old_block
+  as_read : (test : ℕ → Bool) → reported_module_with test r ≡ reported_block_with test old.module_read.closing at_start old_block
   as_read test =
       let tree = w.alike.tree in
-      let declared : r.declarations ≡ old.declarations = is.declaring ∙ (ap (λ t. declaring_only (identifiers role.Declaring t)) tree ∙ sym w.resolved.declaring) in
-      let first : at_first r ≡ so_over r.module_read.source r.ordinals (at_first old) = ap (λ (ds : List ℕ). record { source = r.module_read.source; ordinals = r.ordinals; declared = predeclared_meanings ++ map (λ token. None) ds; made = [] }) declared in
+      let declared : r.declarations ≡ old.declarations = is.declaring ∙ (ap (λ t. declaring_names (identifiers role.Declaring t)) tree ∙ sym w.resolved.declaring) in
+      let first : state_at_start r ≡ so_over r.module_read.source r.ordinals (state_at_start old) = ap (λ (ds : List ℕ). record { source = r.module_read.source; ordinals = r.ordinals; declared = predeclared_meanings ++ map (λ token. None) ds; made = [] }) declared in
       let own : r.module_read.closing ≡ old.module_read.closing = ap closing_of tree in
-      λ i. block_with test (own i) (record { so_far = first i; faulty = [] }) (module_block (tree i))
+      λ i. reported_block_with test (own i) (record { so_far = first i; faulty = [] }) (module_block (tree i))
 
   pub known_alike : IsKnownAlike old r
   known_alike = record {
     value = one.value.so;
-    before = ap (λ (v : Walked). v.so_far) one.before;
-    after = ap (λ (t : Reported Walked). t.known.so_far) (as_read every) ∙ ap (λ (v : Walked). v.so_far) one.after;
+    before = ap (λ (v : WalkProgress). v.so_far) one.before;
+    after = ap (λ (t : Reported WalkProgress). t.known.so_far) (as_read every_body) ∙ ap (λ (v : WalkProgress). v.so_far) one.after;
   }
 
-pub some_bodies_reported : SomeBodiesReported
-some_bodies_reported wanted r is w = as_read wanted r is w wanted ∙ (sym (one wanted r is w).same ∙ sym (as_read wanted r is w every))
+pub some_bodies_suffice : SomeBodiesSuffice
+some_bodies_suffice wanted r is w = as_read wanted r is w wanted ∙ (sym (one wanted r is w).same ∙ sym (as_read wanted r is w every_body))
 
 -- All faulty bodies of the new text are among the wanted bodies.
-pub faulty_stay : (wanted : ℕ → Bool) (r : Resolution) → IsResolution r → WereFaulty wanted r → AllPass wanted (faulty_bodies r)
+pub faulty_stay : (wanted : ℕ → Bool) (r : Resolution) → IsResolution r → IncludesFaultyBodies wanted r → AllPass wanted (faulty_bodies r)
 faulty_stay wanted r is w =
-    subst (λ (t : Reported Walked). Wants wanted t.known.faulty) (some_bodies_reported wanted r is w)
-    (block_wanted wanted r.module_read.closing (record { so_far = at_first r; faulty = [] }) (module_block (tree_of r.module_read)) tt)
+    subst (λ (t : Reported WalkProgress). Wants wanted t.known.faulty) (some_bodies_suffice wanted r is w)
+    (block_wanted wanted r.module_read.closing (record { so_far = state_at_start r; faulty = [] }) (module_block (tree_of r.module_read)) tt)

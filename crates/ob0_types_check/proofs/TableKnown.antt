@@ -11,40 +11,40 @@ use Rattle.ob0_language_types.specs.Bindings.{declared_object}
 use Rattle.ob0_language_types.specs.Expressions as meant
 use Rattle.ob0_language_types.specs.Typing.{depth, scalars}
 use Rattle.ob0_language_types.specs.WellTyped.{Signature, signature_of}
-use Rattle.ob0_types_table.specs.KnownTables.{declared_in, shapes_of}
-use Rattle.ob0_types_table.specs.Tables.{AreEntriesInOrder, IsEntry, IsTypeMade, fields_shape, formal_in, made_shape, no_shape, object_in, only_array, only_record, shapes_from, type_shape}
+use Rattle.ob0_types_table.specs.KnownTables.{declared_object_in, shapes_of}
+use Rattle.ob0_types_table.specs.Tables.{AreEntriesInOrder, IsEntry, IsTypeAmongEntries, field_shapes, formal_view, entry_shape, faulty_shape, object_view, array_or_faulty, record_or_faulty, extended_shapes, type_shape}
 use Rattle.ob0_types_table.specs.declared.known.Field.{Field}
-use Rattle.ob0_types_table.specs.declared.known.Formal as formal
+use Rattle.ob0_types_table.specs.declared.known.FormalParameter as formal
 use Rattle.ob0_types_table.specs.declared.known.Object as object
 use Rattle.ob0_types_table.specs.declared.known.Object.TheVariants as kind
-use Rattle.ob0_types_table.specs.declared.known.Standard.TheVariants as standards
+use Rattle.ob0_types_table.specs.declared.known.StandardProcedure.TheVariants as standards
 use Rattle.ob0_types_table.specs.declared.known.TypeEntry.{TypeEntry}
 use Rattle.ob0_types_table.specs.declared.known.TypeEntry.TheVariants as made
 use Rattle.ob0_types_table.specs.declared.types.TypeId.{TypeId}
 use Rattle.ob0_types_table.specs.declared.types.TypeId.TheVariants as type
 use Rattle.ob0_language_values.specs.Values.{FieldShapes, Shape, array_shape, boolean_shape, integer_shape, next_field_shape, no_field_shape, record_shape}
-use Rattle.ob0_types_check.specs.Agreement.{DeclarationAgrees, EachMade, FieldsAgree, FormalsAgree, MadeAgrees, MeaningAgrees, as_array, as_record, is_standard, shape_in}
+use Rattle.ob0_types_check.specs.Agreement.{DeclarationAgrees, EntriesAgree, FieldsAgree, FormalsAgree, CompositeAgrees, MeaningAgrees, as_array, as_record, is_standard_procedure, shape_in}
 use Rattle.ob0_types_check.specs.ModuleLaws.{KnowsDeclarations}
-use Rattle.ob0_types_check.specs.SupposedFacts.{fields_in, formal_of, made_type_of, known_meaning, table_object, so_far_in, table_in, with_standards}
-use Rattle.ob0_types_check.specs.declared.reporting.supposed.Meaning.{Meaning}
-use Rattle.ob0_types_check.specs.declared.reporting.supposed.Meaning.TheVariants as declared
-use Rattle.ob0_types_check.specs.declared.reporting.supposed.Supposed.{Supposed}
+use Rattle.ob0_types_check.specs.CheckerFacts.{fields_in, formal_of, composite_type_of, known_meaning, table_object, declarations_in_state, table_in, with_standard_procedures}
+use Rattle.ob0_types_check.specs.declared.reporting.checker_state.Meaning.{Meaning}
+use Rattle.ob0_types_check.specs.declared.reporting.checker_state.Meaning.TheVariants as declared
+use Rattle.ob0_types_check.specs.declared.reporting.checker_state.CheckerState.{CheckerState}
 use Rattle.ob0_types_check.proofs.Unreported.{some-same}
 
 -- A type that has a shape in the law has the same shape in the table.
-array_only : (x u : Shape) → as_array x ≡ Some u → only_array x ≡ u
+array_only : (x u : Shape) → as_array x ≡ Some u → array_or_faulty x ≡ u
 array_only integer_shape u e = absurd (cc)
 array_only boolean_shape u e = absurd (cc)
 array_only (array_shape k n s) u e = some-same (array_shape k n s) u e
 array_only (record_shape k fs) u e = absurd (cc)
 
-record_only : (x u : Shape) → as_record x ≡ Some u → only_record x ≡ u
+record_only : (x u : Shape) → as_record x ≡ Some u → record_or_faulty x ≡ u
 record_only integer_shape u e = absurd (cc)
 record_only boolean_shape u e = absurd (cc)
 record_only (array_shape k n s) u e = absurd (cc)
 record_only (record_shape k fs) u e = some-same (record_shape k fs) u e
 
-shape_there : (f : Shape → Option Shape) (g : Shape → Shape) → ((x u : Shape) → f x ≡ Some u → g x ≡ u) → (known : List Shape) (i : ℕ) (u : Shape) → option_and_then f (slice_get known i) ≡ Some u → g (slice_index_or known i no_shape) ≡ u
+shape_there : (f : Shape → Option Shape) (g : Shape → Shape) → ((x u : Shape) → f x ≡ Some u → g x ≡ u) → (known : List Shape) (i : ℕ) (u : Shape) → option_and_then f (slice_get known i) ≡ Some u → g (slice_index_or known i faulty_shape) ≡ u
 shape_there f g same [] i u e = absurd (cc)
 shape_there f g same (x ∷ known) zero u e = same x u e
 shape_there f g same (x ∷ known) (suc i) u e = shape_there f g same known i u e
@@ -57,38 +57,38 @@ place_there f (x ∷ known) (suc i) u e = omega (arith, place_there f known i u 
 type_there : (known : List Shape) (t : TypeId) (u : Shape) → shape_in known t ≡ Some u → type_shape known t ≡ u
 type_there known type.Integer u e = some-same integer_shape u e
 type_there known type.Boolean u e = some-same boolean_shape u e
-type_there known (type.Array i) u e = shape_there as_array only_array array_only known i u e
-type_there known (type.Record i) u e = shape_there as_record only_record record_only known i u e
+type_there known (type.Array i) u e = shape_there as_array array_or_faulty array_only known i u e
+type_there known (type.Record i) u e = shape_there as_record record_or_faulty record_only known i u e
 type_there known type.Unknown u e = absurd (cc)
 
-made_there : (known : List Shape) (t : TypeId) (u : Shape) → shape_in known t ≡ Some u → IsTypeMade (length known) t
+made_there : (known : List Shape) (t : TypeId) (u : Shape) → shape_in known t ≡ Some u → IsTypeAmongEntries (length known) t
 made_there known type.Integer u e = tt
 made_there known type.Boolean u e = tt
 made_there known (type.Array i) u e = place_there as_array known i u e
 made_there known (type.Record i) u e = place_there as_record known i u e
 made_there known type.Unknown u e = absurd (cc)
 
-fields_there : (known : List Shape) (fs : List Field) (gs : FieldShapes) → FieldsAgree (shape_in known) (fields_in fs) gs → (fields_shape known fs ≡ gs) × All (λ f. IsTypeMade (length known) f.of) fs
+fields_there : (known : List Shape) (fs : List Field) (gs : FieldShapes) → FieldsAgree (shape_in known) (fields_in fs) gs → (field_shapes known fs ≡ gs) × All (λ f. IsTypeAmongEntries (length known) f.of) fs
 fields_there known [] no_field_shape h = (refl, λ k d less. absurd (omega (arith, less)))
 fields_there known [] (next_field_shape x s gs) h = absurd h
 fields_there known (f ∷ fs) no_field_shape h = absurd h
 fields_there known (f ∷ fs) (next_field_shape x s gs) h =
     let rest = fields_there known fs gs h.2 in
-    ((λ i. next_field_shape (h.0 i) (type_there known f.of s h.1 i) (rest.0 i)), All-cons (λ f. IsTypeMade (length known) f.of) f fs (made_there known f.of s h.1) rest.1)
+    ((λ i. next_field_shape (h.0 i) (type_there known f.of s h.1 i) (rest.0 i)), All-cons (λ f. IsTypeAmongEntries (length known) f.of) f fs (made_there known f.of s h.1) rest.1)
 
 -- An entry of the table has the shape with which it agrees.
-entry_there : (known : List Shape) (m : TypeEntry) (s : Shape) → MadeAgrees (shape_in known) (made_type_of m) s → (made_shape known m ≡ s) × IsEntry known m
+entry_there : (known : List Shape) (m : TypeEntry) (s : Shape) → CompositeAgrees (shape_in known) (composite_type_of m) s → (entry_shape known m ≡ s) × IsEntry known m
 entry_there known (made.Array a) s h =
     let (u, e, there) = h.parts in
-    let same : made_shape known (made.Array a) ≡ s = ap (array_shape a.ordinal a.length) (type_there known a.element u there) ∙ sym e in
+    let same : entry_shape known (made.Array a) ≡ s = ap (array_shape a.ordinal a.length) (type_there known a.element u there) ∙ sym e in
     (same, record { parts = made_there known a.element u there; counted = (h.scalars ∙ ap scalars (sym same), h.depth ∙ ap depth (sym same)) })
 entry_there known (made.Record r) s h =
     let (gs, e, there) = h.parts in
     let all = fields_there known r.fields gs there in
-    let same : made_shape known (made.Record r) ≡ s = ap (record_shape r.ordinal) all.0 ∙ sym e in
+    let same : entry_shape known (made.Record r) ≡ s = ap (record_shape r.ordinal) all.0 ∙ sym e in
     (same, record { parts = all.1; counted = (h.scalars ∙ ap scalars (sym same), h.depth ∙ ap depth (sym same)) })
 
-entries_there : (known : List Shape) (ms : List TypeEntry) (ss : List Shape) → EachMade known (map made_type_of ms) ss → AreEntriesInOrder known ms × (shapes_from known ms ≡ known ++ ss)
+entries_there : (known : List Shape) (ms : List TypeEntry) (ss : List Shape) → EntriesAgree known (map composite_type_of ms) ss → AreEntriesInOrder known ms × (extended_shapes known ms ≡ known ++ ss)
 entries_there known [] [] h = (tt, sym (append-nil known))
 entries_there known [] (s ∷ ss) h = absurd h
 entries_there known (m ∷ ms) [] h = absurd h
@@ -96,17 +96,17 @@ entries_there known (m ∷ ms) (s ∷ ss) h =
     let one = entry_there known m s h.0 in
     let rest = entries_there (known ++ s ∷ []) ms ss h.1 in (
       (one.1, subst (λ z. AreEntriesInOrder (known ++ z ∷ []) ms) (sym one.0) rest.0),
-      ap (λ z. shapes_from (known ++ z ∷ []) ms) one.0 ∙ (rest.1 ∙ append_assoc known (s ∷ []) ss),
+      ap (λ z. extended_shapes (known ++ z ∷ []) ms) one.0 ∙ (rest.1 ∙ append_assoc known (s ∷ []) ss),
     )
 
 -- The object of a declaration in the table is the module's object if its meaning agrees with that object.
-formals_there : (shapes : List Shape) (fs : List formal.Formal) (signature : Signature) → FormalsAgree (shape_in shapes) (map formal_of fs) signature → map (formal_in shapes) fs ≡ signature
+formals_there : (shapes : List Shape) (fs : List formal.FormalParameter) (signature : Signature) → FormalsAgree (shape_in shapes) (map formal_of fs) signature → map (formal_view shapes) fs ≡ signature
 formals_there shapes [] [] h = refl
 formals_there shapes [] (g ∷ gs) h = absurd h
 formals_there shapes (f ∷ fs) [] h = absurd h
 formals_there shapes (f ∷ fs) (g ∷ gs) h = λ i. record { mode = sym h.0 i; shape = type_there shapes f.of g.shape h.1 i } ∷ formals_there shapes fs gs h.2 i
 
-pub procedure_there : (o : Option (meant.Object Shape Signature)) (signature : Signature) → is_standard o ≡ false → signature_of o ≡ Some signature → Some (meant.a_procedure signature) ≡ o
+pub procedure_there : (o : Option (meant.Object Shape Signature)) (signature : Signature) → is_standard_procedure o ≡ false → signature_of o ≡ Some signature → Some (meant.a_procedure signature) ≡ o
 procedure_there None signature own e = absurd (cc)
 procedure_there (Some (meant.a_type s)) signature own e = absurd (cc)
 procedure_there (Some (meant.a_constant v)) signature own e = absurd (cc)
@@ -114,30 +114,30 @@ procedure_there (Some (meant.a_variable s)) signature own e = absurd (cc)
 procedure_there (Some (meant.a_procedure g)) signature own e = ap (λ z. Some (meant.a_procedure z)) (sym (some-same g signature e))
 procedure_there (Some (meant.a_standard p)) signature own e = absurd (cc)
 
-object_there : (shapes : List Shape) (m : Meaning) (o : Option (meant.Object Shape Signature)) → MeaningAgrees (shape_in shapes) (known_meaning m) o → is_standard o ≡ false → object_in shapes (table_object m) ≡ o
+object_there : (shapes : List Shape) (m : Meaning) (o : Option (meant.Object Shape Signature)) → MeaningAgrees (shape_in shapes) (known_meaning m) o → is_standard_procedure o ≡ false → object_view shapes (table_object m) ≡ o
 object_there shapes (declared.Named t) o (s, there, is) own = ap (λ z. Some (meant.a_type z)) (type_there shapes t s there) ∙ sym is
 object_there shapes (declared.Constant (Some v)) o (w, there, is, scalar) own = ap (λ z. Some (meant.a_constant z)) (some-same _ w there) ∙ sym is
 object_there shapes (declared.Constant None) o (w, there, is, scalar) own = absurd (cc)
 object_there shapes (declared.Variable t) o (s, there, is) own = ap (λ z. Some (meant.a_variable z)) (type_there shapes t s there) ∙ sym is
 object_there shapes (declared.Procedure fs) o (signature, there, formals) own = ap (λ z. Some (meant.a_procedure z)) (formals_there shapes fs.items signature formals) ∙ procedure_there o signature own there
 
-declared_there : (shapes : List Shape) (m : Option Meaning) (o : Option (meant.Object Shape Signature)) → DeclarationAgrees (shape_in shapes) (option_map known_meaning m) o → is_standard o ≡ false → option_and_then (object_in shapes) (option_map table_object m) ≡ o
+declared_there : (shapes : List Shape) (m : Option Meaning) (o : Option (meant.Object Shape Signature)) → DeclarationAgrees (shape_in shapes) (option_map known_meaning m) o → is_standard_procedure o ≡ false → option_and_then (object_view shapes) (option_map table_object m) ≡ o
 declared_there shapes None o h own = sym h
 declared_there shapes (Some m) o h own = object_there shapes m o h own
 
 apart : (j k : ℕ) → (k ≡ j → ⊥) → (xs : List (Option object.Object)) (x : Option object.Object) → slice_index_or (set xs j x) k None ≡ slice_index_or xs k None
 apart j k other xs x = get_or-set_other xs j k x None other
 
-module _ (s : Supposed) (m : Tree Name module_text) (h : KnowsDeclarations (so_far_in s) m) where
+module _ (s : CheckerState) (m : Tree Name module_text) (h : KnowsDeclarations (declarations_in_state s) m) where
   abbrev objects : List (Option object.Object)
   objects = map (option_map table_object) s.meanings.items
 
   -- Setting the three standard procedures one after another gives their objects at their ordinals.
   abbrev first_set : List (Option object.Object)
-  first_set = set objects 4 (Some (kind.Standard standards.Read))
+  first_set = set objects 4 (Some (kind.StandardProcedure standards.Read))
 
   abbrev second_set : List (Option object.Object)
-  second_set = set first_set 5 (Some (kind.Standard standards.Write))
+  second_set = set first_set 5 (Some (kind.StandardProcedure standards.Write))
 
   in_order : AreEntriesInOrder [] s.composites.items
   in_order = (entries_there [] s.composites.items h.shapes h.table).0
@@ -146,38 +146,38 @@ module _ (s : Supposed) (m : Tree Name module_text) (h : KnowsDeclarations (so_f
   shapes_are = (entries_there [] s.composites.items h.shapes h.table).1
 
   -- An ordinal that isn't a standard procedure's keeps its object.
-  plain_there : (k : ℕ) → is_standard (declared_object m k) ≡ false → option_and_then (object_in h.shapes) (slice_index_or objects k None) ≡ declared_object m k
+  plain_there : (k : ℕ) → is_standard_procedure (declared_object m k) ≡ false → option_and_then (object_view h.shapes) (slice_index_or objects k None) ≡ declared_object m k
   plain_there k own =
-      ap (option_and_then (object_in h.shapes)) (get_or-map (option_map table_object) s.meanings.items k None)
+      ap (option_and_then (object_view h.shapes)) (get_or-map (option_map table_object) s.meanings.items k None)
       ∙ declared_there h.shapes (slice_index_or s.meanings.items k None) (declared_object m k)
       (subst (λ z. DeclarationAgrees (shape_in h.shapes) z (declared_object m k)) (get_or-map (option_map known_meaning) s.meanings.items k None) (h.declared k)) own
 
-  kept : (k : ℕ) → (k ≡ 4 → ⊥) → (k ≡ 5 → ⊥) → (k ≡ 6 → ⊥) → slice_index_or (with_standards objects) k None ≡ slice_index_or objects k None
+  kept : (k : ℕ) → (k ≡ 4 → ⊥) → (k ≡ 5 → ⊥) → (k ≡ 6 → ⊥) → slice_index_or (with_standard_procedures objects) k None ≡ slice_index_or objects k None
   kept k a b c = apart 6 k c _ _ ∙ (apart 5 k b _ _ ∙ apart 4 k a objects _)
 
-  other_there : (k : ℕ) → (k ≡ 4 → ⊥) → (k ≡ 5 → ⊥) → (k ≡ 6 → ⊥) → is_standard (declared_object m k) ≡ false → option_and_then (object_in h.shapes) (slice_index_or (with_standards objects) k None) ≡ declared_object m k
-  other_there k a b c own = ap (option_and_then (object_in h.shapes)) (kept k a b c) ∙ plain_there k own
+  other_there : (k : ℕ) → (k ≡ 4 → ⊥) → (k ≡ 5 → ⊥) → (k ≡ 6 → ⊥) → is_standard_procedure (declared_object m k) ≡ false → option_and_then (object_view h.shapes) (slice_index_or (with_standard_procedures objects) k None) ≡ declared_object m k
+  other_there k a b c own = ap (option_and_then (object_view h.shapes)) (kept k a b c) ∙ plain_there k own
 
   long : 7 ≤ length objects
   long = omega (arith, h.room, length-map {B = Option object.Object} s.meanings.items (option_map table_object), length-map s.meanings.items (option_map known_meaning))
 
-  each_there : (k : ℕ) → option_and_then (object_in h.shapes) (slice_index_or (with_standards objects) k None) ≡ declared_object m k
-  each_there zero = other_there 0 (λ e. absurd (cc)) (λ e. absurd (cc)) (λ e. absurd (cc)) (ap is_standard (h.predeclared 0 (omega arith)))
-  each_there (suc zero) = other_there 1 (λ e. absurd (omega (arith, e))) (λ e. absurd (omega (arith, e))) (λ e. absurd (omega (arith, e))) (ap is_standard (h.predeclared 1 (omega arith)))
-  each_there (suc (suc zero)) = other_there 2 (λ e. absurd (omega (arith, e))) (λ e. absurd (omega (arith, e))) (λ e. absurd (omega (arith, e))) (ap is_standard (h.predeclared 2 (omega arith)))
-  each_there (suc (suc (suc zero))) = other_there 3 (λ e. absurd (omega (arith, e))) (λ e. absurd (omega (arith, e))) (λ e. absurd (omega (arith, e))) (ap is_standard (h.predeclared 3 (omega arith)))
+  each_there : (k : ℕ) → option_and_then (object_view h.shapes) (slice_index_or (with_standard_procedures objects) k None) ≡ declared_object m k
+  each_there zero = other_there 0 (λ e. absurd (cc)) (λ e. absurd (cc)) (λ e. absurd (cc)) (ap is_standard_procedure (h.predeclared 0 (omega arith)))
+  each_there (suc zero) = other_there 1 (λ e. absurd (omega (arith, e))) (λ e. absurd (omega (arith, e))) (λ e. absurd (omega (arith, e))) (ap is_standard_procedure (h.predeclared 1 (omega arith)))
+  each_there (suc (suc zero)) = other_there 2 (λ e. absurd (omega (arith, e))) (λ e. absurd (omega (arith, e))) (λ e. absurd (omega (arith, e))) (ap is_standard_procedure (h.predeclared 2 (omega arith)))
+  each_there (suc (suc (suc zero))) = other_there 3 (λ e. absurd (omega (arith, e))) (λ e. absurd (omega (arith, e))) (λ e. absurd (omega (arith, e))) (ap is_standard_procedure (h.predeclared 3 (omega arith)))
   each_there (suc (suc (suc (suc zero)))) =
-      let there : slice_index_or (with_standards objects) 4 None ≡ Some (kind.Standard standards.Read) =
-      apart 6 4 (λ e. absurd (omega (arith, e))) second_set (Some (kind.Standard standards.WriteLn)) ∙ (apart 5 4 (λ e. absurd (omega (arith, e))) first_set (Some (kind.Standard standards.Write)) ∙ get_or-set_same objects 4 (Some (kind.Standard standards.Read)) None (omega (arith, long))) in
-      ap (option_and_then (object_in h.shapes)) there ∙ sym (h.predeclared 4 (omega arith))
+      let there : slice_index_or (with_standard_procedures objects) 4 None ≡ Some (kind.StandardProcedure standards.Read) =
+      apart 6 4 (λ e. absurd (omega (arith, e))) second_set (Some (kind.StandardProcedure standards.WriteLn)) ∙ (apart 5 4 (λ e. absurd (omega (arith, e))) first_set (Some (kind.StandardProcedure standards.Write)) ∙ get_or-set_same objects 4 (Some (kind.StandardProcedure standards.Read)) None (omega (arith, long))) in
+      ap (option_and_then (object_view h.shapes)) there ∙ sym (h.predeclared 4 (omega arith))
   each_there (suc (suc (suc (suc (suc zero))))) =
-      let there : slice_index_or (with_standards objects) 5 None ≡ Some (kind.Standard standards.Write) =
-      apart 6 5 (λ e. absurd (omega (arith, e))) second_set (Some (kind.Standard standards.WriteLn)) ∙ get_or-set_same first_set 5 (Some (kind.Standard standards.Write)) None (omega (arith, long, length-set objects 4 (Some (kind.Standard standards.Read)))) in
-      ap (option_and_then (object_in h.shapes)) there ∙ sym (h.predeclared 5 (omega arith))
+      let there : slice_index_or (with_standard_procedures objects) 5 None ≡ Some (kind.StandardProcedure standards.Write) =
+      apart 6 5 (λ e. absurd (omega (arith, e))) second_set (Some (kind.StandardProcedure standards.WriteLn)) ∙ get_or-set_same first_set 5 (Some (kind.StandardProcedure standards.Write)) None (omega (arith, long, length-set objects 4 (Some (kind.StandardProcedure standards.Read)))) in
+      ap (option_and_then (object_view h.shapes)) there ∙ sym (h.predeclared 5 (omega arith))
   each_there (suc (suc (suc (suc (suc (suc zero)))))) =
-      let there : slice_index_or (with_standards objects) 6 None ≡ Some (kind.Standard standards.WriteLn) =
-      get_or-set_same second_set 6 (Some (kind.Standard standards.WriteLn)) None (omega (arith, long, length-set objects 4 (Some (kind.Standard standards.Read)), length-set first_set 5 (Some (kind.Standard standards.Write)))) in
-      ap (option_and_then (object_in h.shapes)) there ∙ sym (h.predeclared 6 (omega arith))
+      let there : slice_index_or (with_standard_procedures objects) 6 None ≡ Some (kind.StandardProcedure standards.WriteLn) =
+      get_or-set_same second_set 6 (Some (kind.StandardProcedure standards.WriteLn)) None (omega (arith, long, length-set objects 4 (Some (kind.StandardProcedure standards.Read)), length-set first_set 5 (Some (kind.StandardProcedure standards.Write)))) in
+      ap (option_and_then (object_view h.shapes)) there ∙ sym (h.predeclared 6 (omega arith))
   each_there (suc (suc (suc (suc (suc (suc (suc k))))))) =
       let n : ℕ = suc (suc (suc (suc (suc (suc (suc k)))))) in
       other_there n (λ e. absurd (omega (arith, e))) (λ e. absurd (omega (arith, e))) (λ e. absurd (omega (arith, e))) (h.standards n (omega arith))
@@ -185,5 +185,5 @@ module _ (s : Supposed) (m : Tree Name module_text) (h : KnowsDeclarations (so_f
   pub table_in_order : AreEntriesInOrder [] s.composites.items
   table_in_order = in_order
 
-  pub table_declares : (k : ℕ) → declared_in (table_in s) k ≡ declared_object m k
-  table_declares k = ap (λ z. option_and_then (object_in z) (slice_index_or (with_standards objects) k None)) shapes_are ∙ each_there k
+  pub table_declares : (k : ℕ) → declared_object_in (table_in s) k ≡ declared_object m k
+  table_declares k = ap (λ z. option_and_then (object_view z) (slice_index_or (with_standard_procedures objects) k None)) shapes_are ∙ each_there k

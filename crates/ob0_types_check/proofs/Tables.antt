@@ -10,54 +10,54 @@ use Rattle.ob0_language_types.specs.Typing.{shape_of_field}
 use Rattle.ob0_language_values.specs.Values.{FieldShapes, Shape, array_shape, next_field_shape, no_field_shape, record_shape}
 use Rattle.ob0_types_check.proofs.DeclaredShapes.{longer_more, made_kept}
 use Rattle.ob0_types_check.specs.Known.{a_record, an_array}
-use Rattle.ob0_types_check.specs.SoFar.{MadeType, PartTypes, FieldSoFar, elements_at, elements_in, made_field_type, field_type_in, first_field, form_at, of_elements, of_fields, same_type}
-use Rattle.ob0_types_check.specs.Agreement.{EachMade, FieldsAgree, FormAgrees, MadeAgrees, PartsAgree, TableAgrees, as_array, as_record, shape_in}
-use Rattle.ob0_types_check.specs.ReportLaws.{TypesOfTables}
+use Rattle.ob0_types_check.specs.KnownDeclarations.{CompositeType, PartTypes, KnownField, made_element_type, element_type_in, made_field_type, field_type_in, type_of_first_field, form_at, of_elements, of_fields, same_type}
+use Rattle.ob0_types_check.specs.Agreement.{EntriesAgree, FieldsAgree, FormAgrees, CompositeAgrees, PartsAgree, TableAgrees, as_array, as_record, shape_in}
+use Rattle.ob0_types_check.specs.ReportLaws.{TableTypesAgree}
 use Rattle.ob0_types_check.proofs.Unreported.{some-none, some-same}
 
 -- holds if the table has an entry at this index that agrees with the shape
-pub record Found (shape : TypeId → Option Shape) (made : List MadeType) (i : ℕ) (s : Shape) : Type 0 where
-  pub entry : MadeType
+pub record Found (shape : TypeId → Option Shape) (made : List CompositeType) (i : ℕ) (s : Shape) : Type 0 where
+  pub entry : CompositeType
   pub there : slice_get made i ≡ Some entry
-  pub agrees : MadeAgrees shape entry s
+  pub agrees : CompositeAgrees shape entry s
 
-entry-found : (known : List Shape) (made : List MadeType) (shapes : List Shape) (i : ℕ) (s : Shape) → EachMade known made shapes → slice_get shapes i ≡ Some s → Found (shape_in (known ++ shapes)) made i s
+entry-found : (known : List Shape) (made : List CompositeType) (shapes : List Shape) (i : ℕ) (s : Shape) → EntriesAgree known made shapes → slice_get shapes i ≡ Some s → Found (shape_in (known ++ shapes)) made i s
 entry-found known [] [] i s each h = absurd (cc)
 entry-found known [] (u ∷ us) i s each h = absurd each
 entry-found known (m ∷ ms) [] i s each h = absurd each
-entry-found known (m ∷ ms) (u ∷ us) zero s each h = record { entry = m; there = refl; agrees = made_kept known (known ++ u ∷ us) (longer_more known (u ∷ us)) m s (subst (λ u. MadeAgrees (shape_in known) m u) (some-same u s h) each.0) }
+entry-found known (m ∷ ms) (u ∷ us) zero s each h = record { entry = m; there = refl; agrees = made_kept known (known ++ u ∷ us) (longer_more known (u ∷ us)) m s (subst (λ u. CompositeAgrees (shape_in known) m u) (some-same u s h) each.0) }
 entry-found known (m ∷ ms) (u ∷ us) (suc i) s each h =
     let f = entry-found (known ++ u ∷ []) ms us i s each.1 h in
-    record { entry = f.entry; there = f.there; agrees = subst (λ z. MadeAgrees (shape_in z) f.entry s) (append_assoc known (u ∷ []) us) f.agrees }
+    record { entry = f.entry; there = f.there; agrees = subst (λ z. CompositeAgrees (shape_in z) f.entry s) (append_assoc known (u ∷ []) us) f.agrees }
 
-pub found : (made : List MadeType) (shapes : List Shape) (i : ℕ) (s : Shape) → TableAgrees made shapes → slice_get shapes i ≡ Some s → Found (shape_in shapes) made i s
+pub found : (made : List CompositeType) (shapes : List Shape) (i : ℕ) (s : Shape) → TableAgrees made shapes → slice_get shapes i ≡ Some s → Found (shape_in shapes) made i s
 found made shapes i s each h = entry-found [] made shapes i s each h
 
-array-formed : (shape : TypeId → Option Shape) (k : ℕ) (p : PartTypes) (r s : Shape) → PartsAgree shape k p r → as_array r ≡ Some s → FormAgrees shape (an_array (elements_in p)) s
+array-formed : (shape : TypeId → Option Shape) (k : ℕ) (p : PartTypes) (r s : Shape) → PartsAgree shape k p r → as_array r ≡ Some s → FormAgrees shape (an_array (element_type_in p)) s
 array-formed shape k (of_elements n t) r s (u, e, known) h = (k, n, u, some-same s (array_shape k n u) (sym h ∙ ap as_array e), known)
 array-formed shape k (of_fields fields) r s (fs, e, each) h = absurd (some-none s (sym h ∙ ap as_array e))
 
 -- If fields agree with a record's shape, looking up a field by name gives the type of the shape's field.
-field-there : (shape : TypeId → Option Shape) (fields : List FieldSoFar) (fs : FieldShapes) → FieldsAgree shape fields fs → (x : Name) → option_map shape (first_field fields x) ≡ option_map Some (shape_of_field fs x)
+field-there : (shape : TypeId → Option Shape) (fields : List KnownField) (fs : FieldShapes) → FieldsAgree shape fields fs → (x : Name) → option_map shape (type_of_first_field fields x) ≡ option_map Some (shape_of_field fs x)
 field-there shape [] no_field_shape h x = refl
 field-there shape [] (next_field_shape y s fs) h x = absurd h
 field-there shape (f ∷ fields) no_field_shape h x = absurd h
 field-there shape (f ∷ fields) (next_field_shape y s fs) h x =
-    ap (λ z. option_map shape (if same_name x z then Some f.of else first_field fields x)) h.0
-    ∙ (elim (same_name x y) as (λ b. option_map shape (if b then Some f.of else first_field fields x) ≡ option_map Some (if b then Some s else shape_of_field fs x)) [ true ↦ ap Some h.1 | false ↦ field-there shape fields fs h.2 x ])
+    ap (λ z. option_map shape (if same_name x z then Some f.of else type_of_first_field fields x)) h.0
+    ∙ (elim (same_name x y) as (λ b. option_map shape (if b then Some f.of else type_of_first_field fields x) ≡ option_map Some (if b then Some s else shape_of_field fs x)) [ true ↦ ap Some h.1 | false ↦ field-there shape fields fs h.2 x ])
 
 record-formed : (shape : TypeId → Option Shape) (k : ℕ) (p : PartTypes) (r s : Shape) → PartsAgree shape k p r → as_record r ≡ Some s → FormAgrees shape (a_record (field_type_in p)) s
 record-formed shape k (of_elements n t) r s (u, e, known) h = absurd (some-none s (sym h ∙ ap as_record e))
 record-formed shape k (of_fields fields) r s (fs, e, each) h = (k, fs, some-same s (record_shape k fs) (sym h ∙ ap as_record e), field-there shape fields fs each)
 
-formed-there : (made : List MadeType) (shapes : List Shape) → TableAgrees made shapes → (t : TypeId) (s : Shape) → shape_in shapes t ≡ Some s → FormAgrees (shape_in shapes) (form_at made t) s
+formed-there : (made : List CompositeType) (shapes : List Shape) → TableAgrees made shapes → (t : TypeId) (s : Shape) → shape_in shapes t ≡ Some s → FormAgrees (shape_in shapes) (form_at made t) s
 formed-there made shapes each type.Integer s h = tt
 formed-there made shapes each type.Boolean s h = tt
 formed-there made shapes each type.Unknown s h = absurd (cc)
 formed-there made shapes each (type.Array i) s h =
     option_and_then_some as_array (slice_get shapes i) s h
     (λ r at is. let f = found made shapes i r each at in
-    subst (λ o. FormAgrees (shape_in shapes) (an_array (elements_at o)) s) (sym f.there) (array-formed (shape_in shapes) f.entry.ordinal f.entry.parts r s f.agrees.parts is))
+    subst (λ o. FormAgrees (shape_in shapes) (an_array (made_element_type o)) s) (sym f.there) (array-formed (shape_in shapes) f.entry.ordinal f.entry.parts r s f.agrees.parts is))
 formed-there made shapes each (type.Record i) s h =
     option_and_then_some as_record (slice_get shapes i) s h
     (λ r at is. let f = found made shapes i r each at in
@@ -71,5 +71,5 @@ same-there shapes (type.Array i) (type.Array j) h = ap (λ k. option_and_then as
 same-there shapes (type.Record i) (type.Record j) h = ap (λ k. option_and_then as_record (slice_get shapes k)) (eqb-true i j h)
 same-there shapes _ _ h = absurd (cc)
 
-pub types_of_tables-holds : TypesOfTables
-types_of_tables-holds made shapes each = record { integer = refl; boolean = refl; unknown = refl; alone = refl; same = same-there shapes; formed = formed-there made shapes each }
+pub table_types_agree-holds : TableTypesAgree
+table_types_agree-holds made shapes each = record { integer = refl; boolean = refl; unknown = refl; alone = refl; same = same-there shapes; formed = formed-there made shapes each }

@@ -4,14 +4,14 @@ use Rattle.ob0_tree.specs.declared.tree.Role.TheVariants as role
 use Rattle.ob0_tree.specs.Places.{value_at}
 use Rattle.ob0_tree.specs.Tree.{Tree, expression, identifiers, mapped}
 use Rattle.ob0_language_types.specs.Expressions.{Meanings, evaluate}
-use Rattle.ob0_language_types.specs.Typing.{array_length, constant_value, constants_only, given_value, type_of, value_type}
-use Rattle.ob0_language_types.specs.WellTyped.{Signature, Typed}
+use Rattle.ob0_language_types.specs.Typing.{array_length, constant_value, constant_meanings, outcome_value, type_of, value_type}
+use Rattle.ob0_language_types.specs.WellTyped.{Signature, TypeMeanings}
 use Rattle.ob0_language_values.specs.Values.{Shape, Value, elements, integer_shape, members, number, truth}
 use Rattle.ob0_types_check.specs.ExpressionFaults.{reported_expression}
 use Rattle.ob0_types_check.specs.Known.{Facts, Operand}
-use Rattle.ob0_types_check.specs.Operations.{required, right}
-use Rattle.ob0_types_check.specs.SoFar.{facts_at}
-use Rattle.ob0_types_check.specs.TypeFaults.{operand_value, in_bounds, length_given, length_of, reported_constant, valued}
+use Rattle.ob0_types_check.specs.Operations.{required_type, without_fault}
+use Rattle.ob0_types_check.specs.KnownDeclarations.{facts_at}
+use Rattle.ob0_types_check.specs.TypeFaults.{operand_value, length_or_fault, length_by_value, length_of, reported_constant, valued}
 use Rattle.ob0_types_check.specs.Agreement.{Agrees, shape_in}
 use Rattle.ob0_types_check.specs.WellTypedLaws.{NoFaultInConstants, NoFaultInExpressions, NoFaultInLengths}
 use Rattle.ob0_types_check.proofs.FittingExpressions.{FitsExpression, expression-fits}
@@ -19,14 +19,14 @@ use Rattle.ob0_types_check.proofs.FittingNames.{only-tokens, tokens-fit}
 use Rattle.ob0_types_check.proofs.Proved.{constants-again}
 use Rattle.ob0_types_check.proofs.TypedExpressions.{expression-right}
 use Rattle.ob0_types_check.proofs.TypedNames.{constants-typed, names-typed, types-apart}
-use Rattle.ob0_types_check.proofs.TypedOperands.{TypesApart, and-then, required-right, none-of-both}
+use Rattle.ob0_types_check.proofs.TypedOperands.{TypesApart, and-then, required_type-right, none-of-both}
 use Rattle.ob0_types_check.proofs.Unreported.{some-same}
 
 pub is-there : {A : Type 0} (o : Option A) → is_some o ≡ true → (a : A) × (o ≡ Some a)
 is-there None h = absurd (cc)
 is-there (Some a) h = (a, refl)
 
-module _ {T N : Type 0} (facts : Facts T) (shape : T → Option Shape) (apart : TypesApart facts.types shape) (label : ℕ → N) (meaning : Typed N) (e : Tree ℕ expression) (agrees : Agrees facts shape label meaning e) where
+module _ {T N : Type 0} (facts : Facts T) (shape : T → Option Shape) (apart : TypesApart facts.types shape) (label : ℕ → N) (meaning : TypeMeanings N) (e : Tree ℕ expression) (agrees : Agrees facts shape label meaning e) where
   abbrev here : Tree N expression
   here = mapped label (value_at facts.source) e
 
@@ -35,9 +35,9 @@ module _ {T N : Type 0} (facts : Facts T) (shape : T → Option Shape) (apart : 
       expression-right facts shape agrees.types apart label meaning e
       (tokens-fit facts shape agrees.types label meaning (identifiers role.Declaring e) agrees.tokens, names-typed facts shape label meaning only (identifiers role.Declaring e) agrees.tokens) s h
 
-  pub constant-right : (Q : Type 0) → facts.only_constants ≡ true → (s : Shape) → type_of {P = Q} (constants_only meaning) here ≡ Some s → (reported_expression facts e).faults ≡ []
+  pub constant-right : (Q : Type 0) → facts.only_constants ≡ true → (s : Shape) → type_of {P = Q} (constant_meanings meaning) here ≡ Some s → (reported_expression facts e).faults ≡ []
   constant-right Q only s h =
-      expression-right facts shape agrees.types apart label (constants_only {Q = Q} meaning) e
+      expression-right facts shape agrees.types apart label (constant_meanings {Q = Q} meaning) e
       (only-tokens facts shape agrees.types label meaning Q only (identifiers role.Declaring e) agrees.tokens, constants-typed facts shape label meaning Q (identifiers role.Declaring e) agrees.tokens) s h
 
   -- holds if no fault is reported for a constant expression, and its operand has this value and its type
@@ -51,20 +51,20 @@ module _ {T N : Type 0} (facts : Facts T) (shape : T → Option Shape) (apart : 
   pub value-known : facts.only_constants ≡ true → (v : Value) → constant_value meaning here ≡ Some v → HasValue v
   unfolding constant_value
   value-known only v h =
-      let among : Meanings N Shape (Unit {0}) = constants_only {W = Shape} {Q = Unit {0}} meaning in
-      let (s, hs, given) = and-then (λ s. given_value (evaluate {P = Unit {0}} (constants_only meaning) [] here)) (type_of {P = Unit {0}} (constants_only meaning) here) v h in
+      let among : Meanings N Shape (Unit {0}) = constant_meanings {W = Shape} {Q = Unit {0}} meaning in
+      let (s, hs, given) = and-then (λ s. outcome_value (evaluate {P = Unit {0}} (constant_meanings meaning) [] here)) (type_of {P = Unit {0}} (constant_meanings meaning) here) v h in
       let none = constant-right (Unit {0}) only s hs in
       let fe : FitsExpression facts shape agrees.types label among e
       = expression-fits facts shape agrees.types label among e (only-tokens facts shape agrees.types label meaning _ only (identifiers role.Declaring e) agrees.tokens) none in
-      let value : (reported_expression facts e).known.value ≡ Some v = fe.valued ∙ (ap (λ m. given_value (evaluate {P = Unit {0}} m [] here)) (constants-again meaning) ∙ given) in
+      let value : (reported_expression facts e).known.value ≡ Some v = fe.valued ∙ (ap (λ m. outcome_value (evaluate {P = Unit {0}} m [] here)) (constants-again meaning) ∙ given) in
       record { none = none; of = fe.of; known = fe.known; value = value; scalar = fe.scalar v value }
 
-operand_value-right : {T : Type 0} (facts : Facts T) (o : Operand T) (b : Bool) (c : Option Value) (v : Value) → c ≡ Some v → (if b then right None else valued facts o c).faults ≡ []
+operand_value-right : {T : Type 0} (facts : Facts T) (o : Operand T) (b : Bool) (c : Option Value) (v : Value) → c ≡ Some v → (if b then without_fault None else valued facts o c).faults ≡ []
 operand_value-right facts o true c v h = refl
 operand_value-right facts o false c v h = ap (λ c. (valued facts o c).faults) h
 
-bounds-right : {T : Type 0} (facts : Facts T) (o : Operand T) (b : Bool) (c : Option Value) (v : Value) (n : ℕ) → c ≡ Some v → array_length v ≡ Some n → (if b then length_given facts o c else right None).faults ≡ []
-bounds-right facts o true c v n h k = ap (λ c. (length_given facts o c).faults) h ∙ ap (λ m. (in_bounds facts o m).faults) k
+bounds-right : {T : Type 0} (facts : Facts T) (o : Operand T) (b : Bool) (c : Option Value) (v : Value) (n : ℕ) → c ≡ Some v → array_length v ≡ Some n → (if b then length_by_value facts o c else without_fault None).faults ≡ []
+bounds-right facts o true c v n h k = ap (λ c. (length_by_value facts o c).faults) h ∙ ap (λ m. (length_or_fault facts o m).faults) k
 bounds-right facts o false c v n h k = refl
 
 length-integer : (v : Value) (n : ℕ) (s : Shape) → array_length v ≡ Some n → value_type v ≡ Some s → s ≡ integer_shape
@@ -77,7 +77,7 @@ length-integer (members j ms) n s h k = absurd (cc)
 
 pub no_fault_in_expressions-holds : {N : Type 0} → NoFaultInExpressions N
 no_fault_in_expressions-holds p true shapes label meaning e agrees h =
-    let (s, hs) = is-there (type_of (constants_only meaning) (mapped label (value_at p.source) e)) h in
+    let (s, hs) = is-there (type_of (constant_meanings meaning) (mapped label (value_at p.source) e)) h in
     constant-right (facts_at p true) (shape_in shapes) (types-apart p.made shapes) label meaning e agrees Signature refl s hs
 no_fault_in_expressions-holds p false shapes label meaning e agrees h =
     let (s, hs) = is-there (type_of meaning (mapped label (value_at p.source) e)) h in
@@ -102,7 +102,7 @@ no_fault_in_lengths-holds p shapes label meaning e agrees h =
     let c = value-known facts (shape_in shapes) apart label meaning e agrees refl v hv in
     let o : Operand _ = (reported_expression facts e).known in
     let integer = apart.integer o.of (c.known ∙ ap Some (length-integer v n c.of counted c.scalar)) in
-    let t = (required after after.types.integer o).known in
+    let t = (required_type after after.types.integer o).known in
     none-of-both (reported_expression facts e).faults (length_of after o).faults c.none
-    (none-of-both (required after after.types.integer o).faults _ (required-right after (shape_in shapes) agrees.types apart after.types.integer o integer)
+    (none-of-both (required_type after after.types.integer o).faults _ (required_type-right after (shape_in shapes) agrees.types apart after.types.integer o integer)
     (bounds-right after o (after.types.same t after.types.integer) o.value v n c.value counted))

@@ -7,11 +7,11 @@ use Rattle.ob0_tree.specs.declared.tree.Role.TheVariants as role
 use Rattle.ob0_tree.specs.Places.{text_at, value_at}
 use Rattle.ob0_tree.specs.Tree.{Sort, Tree, addend, adds, compares, designator, end, expression, factor, field, identifiers, index, integer, items, mapped, more, multiplier, multiplies, negation, none, one, parenthesised, product, relates, selector, simple, sum, term}
 use Rattle.ob0_language_types.specs.Expressions.{Meanings}
-use Rattle.ob0_language_types.specs.Typing.{add_type, complement_type, element_type, field_type, multiply_type, object_type, relation_type, sign_type, type_at, type_of, type_of_addends, type_of_factor, type_of_multipliers, type_of_simple, type_of_term}
+use Rattle.ob0_language_types.specs.Typing.{addition_type, negation_type, element_type, field_type, multiplication_type, object_type, relation_type, sign_type, type_at, type_of, type_of_addends, type_of_factor, type_of_multipliers, type_of_simple, type_of_term}
 use Rattle.ob0_language_values.specs.Values.{Shape, Value}
 use Rattle.ob0_types_check.specs.ExpressionFaults.{reported_addends, reported_expression, reported_factor, reported_multipliers, reported_selectors, reported_simple, reported_term}
 use Rattle.ob0_types_check.specs.Known.{Facts, Operand}
-use Rattle.ob0_types_check.specs.Operations.{add_operands, element_selected, field_selected, multiply_operands, name_operand, sign_operand}
+use Rattle.ob0_types_check.specs.Operations.{add_operands, element_operand, field_operand, multiply_operands, name_operand, sign_operand}
 use Rattle.ob0_types_check.specs.Agreement.{TypesAgree}
 use Rattle.ob0_types_check.proofs.FittingExpressions.{Fits, FitsExpression, FitsFactor, FitsSimple, FitsTerm, NameFits, TokensFit, expression-fits, factor-fits, simple-fits, split-tokens, term-fits}
 use Rattle.ob0_types_check.proofs.Operands.{added-fits, element-fits, field-fits, multiplied-fits, apply_sign-fits}
@@ -89,8 +89,8 @@ module _ {T N P : Type 0} (facts : Facts T) (shape : T → Option Shape) (types 
     addends-right x s end hx k r h = refl
     addends-right x s (more (adds o t) rest) hx k r h =
         let parts = split (ids t) (ids rest) k in
-        let (v, hv, later) = and-then (λ y. option_and_then (λ z. type_of_addends meaning z (tree rest)) (add_type o s y)) (type_of_term meaning (tree t)) r h in
-        let (z, hz, last) = and-then (λ z. type_of_addends meaning z (tree rest)) (add_type o s v) r later in
+        let (v, hv, later) = and-then (λ y. option_and_then (λ z. type_of_addends meaning z (tree rest)) (addition_type o s y)) (type_of_term meaning (tree t)) r h in
+        let (z, hz, last) = and-then (λ z. type_of_addends meaning z (tree rest)) (addition_type o s v) r later in
         let left = term-right t parts.0 v hv in
         let ft : FitsTerm facts shape types label meaning t = term-fits facts shape types label meaning t parts.0.0 left in
         let ht = known-as v ft hv in
@@ -111,8 +111,8 @@ module _ {T N P : Type 0} (facts : Facts T) (shape : T → Option Shape) (types 
     multipliers-right x s end hx k r h = refl
     multipliers-right x s (more (multiplies o f) rest) hx k r h =
         let parts = split (ids f) (ids rest) k in
-        let (v, hv, later) = and-then (λ y. option_and_then (λ z. type_of_multipliers meaning z (tree rest)) (multiply_type o s y)) (type_of_factor meaning (tree f)) r h in
-        let (z, hz, last) = and-then (λ z. type_of_multipliers meaning z (tree rest)) (multiply_type o s v) r later in
+        let (v, hv, later) = and-then (λ y. option_and_then (λ z. type_of_multipliers meaning z (tree rest)) (multiplication_type o s y)) (type_of_factor meaning (tree f)) r h in
+        let (z, hz, last) = and-then (λ z. type_of_multipliers meaning z (tree rest)) (multiplication_type o s v) r later in
         let left = factor-right f parts.0 v hv in
         let ff : FitsFactor facts shape types label meaning f = factor-fits facts shape types label meaning f parts.0.0 left in
         let hf = known-as v ff hv in
@@ -130,7 +130,7 @@ module _ {T N P : Type 0} (facts : Facts T) (shape : T → Option Shape) (types 
     factor-right (integer n) k s h = refl
     factor-right (parenthesised e) k s h = none-of-both (reported_expression facts e).faults [] (expression-right e k s h) refl
     factor-right (negation f) k s h =
-        let (u, hu, typed) = and-then complement_type (type_of_factor meaning (tree f)) s h in
+        let (u, hu, typed) = and-then negation_type (type_of_factor meaning (tree f)) s h in
         let left = factor-right f k u hu in
         let ff : FitsFactor facts shape types label meaning f = factor-fits facts shape types label meaning f k.0 left in
         none-of-both (reported_factor facts f).faults _ left (complemented-right facts shape types apart (reported_factor facts f).known u s typed (known-as u ff hu))
@@ -142,7 +142,7 @@ module _ {T N P : Type 0} (facts : Facts T) (shape : T → Option Shape) (types 
         let here : field_type s (text_at facts.source n) ≡ Some u = sym (ap (field_type s) k.0) ∙ hu in
         let left = field-right facts shape types apart x s hx n u here in
         let (v, known, typed) = field-fits facts shape types x s hx n left in
-        none-of-both (field_selected facts x n).faults _ left (selectors-right (field_selected facts x n).known u rest (known ∙ (sym typed ∙ here)) (k.1, m.1) r last)
+        none-of-both (field_operand facts x n).faults _ left (selectors-right (field_operand facts x n).known u rest (known ∙ (sym typed ∙ here)) (k.1, m.1) r last)
     selectors-right x s (more (index e) rest) hx k r h =
         let parts = split (ids e) (ids rest) k in
         let (v, hv, later) = and-then (λ i. option_and_then (λ t. type_at meaning t (tree rest)) (element_type s i)) (type_of meaning (tree e)) r h in
@@ -153,4 +153,4 @@ module _ {T N P : Type 0} (facts : Facts T) (shape : T → Option Shape) (types 
         let mid = element-right facts shape types apart x (reported_expression facts e).known s v u hx he hu in
         let (w, known, typed) = element-fits facts shape types x (reported_expression facts e).known s v hx he mid in
         none-of-both (reported_expression facts e).faults _ left
-        (none-of-both (element_selected facts x (reported_expression facts e).known).faults _ mid (selectors-right (element_selected facts x (reported_expression facts e).known).known u rest (known ∙ (sym typed ∙ hu)) parts.1 r last))
+        (none-of-both (element_operand facts x (reported_expression facts e).known).faults _ mid (selectors-right (element_operand facts x (reported_expression facts e).known).known u rest (known ∙ (sym typed ∙ hu)) parts.1 r last))

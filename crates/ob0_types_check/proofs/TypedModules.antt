@@ -1,20 +1,20 @@
 -- No fault is reported for well-typed blocks, procedures and modules.
 use Rattle.std.proofs.Common.{◌≡◌, ℕ, suc, ◌+◌, Bool, true, ◌&&◌, List, [], ◌∷◌, ◌++◌, Option, Some, option_and_then, refl, sym, ap, ◌∙◌, subst, le_refl, arith}
 use Rattle.std.proofs.lemmas.Bool.{and_parts}
-use Rattle.ob0_tree.specs.Parsed.{tree_of}
-use Rattle.ob0_tree.specs.Places.{named, text_at, value_at}
+use Rattle.ob0_tree.specs.ParsedModule.{tree_of}
+use Rattle.ob0_tree.specs.Places.{tree_with_names, text_at, value_at}
 use Rattle.ob0_tree.specs.Tree.{Tree, block, body, declares, declares_procedure, end, has_body, item, items, maybe, more, procedure}
-use Rattle.ob0_language_names.specs.Names.{Name, as_names}
+use Rattle.ob0_language_names.specs.Names.{Name, naming_by_spelling}
 use Rattle.ob0_language_names.specs.Parts.{formal_names, formal_sections, module_block, procedure_formals, procedure_name, section_constants, section_types, section_variables}
-use Rattle.ob0_language_names.specs.Scopes.{Scope, after_names, after_procedure, first_procedure, first_type, first_variable, predeclared_scope}
-use Rattle.ob0_language_types.specs.Declarations.{after_types, after_variables, declare_constants, declare_first, declare_types, formals_constructors, procedure_constructors, types_constructors}
+use Rattle.ob0_language_names.specs.Scopes.{Scope, ordinal_after_names, ordinal_after_procedure, first_procedure_ordinal, first_type_ordinal, first_variable_ordinal, predeclared_scope}
+use Rattle.ob0_language_types.specs.Declarations.{constructor_after_types, constructor_after_variables, declare_constants, declare_first, declare_types, formals_constructor_count, procedure_constructor_count, types_constructor_count}
 use Rattle.ob0_language_types.specs.Environments.{outermost}
-use Rattle.ob0_language_types.specs.WellTyped.{TypeEnvironment, TypedParameter, bind_typed, block_fits, declare_typed, fits_over, heading, some_and, procedure_fits, procedures_fit, typed_parameters}
+use Rattle.ob0_language_types.specs.WellTyped.{TypeEnvironment, TypedParameter, bind_typed_parameters, block_fits, declare_typed, fits_over, bind_procedure, some_satisfies, procedure_fits, procedures_fit, typed_parameters}
 use Rattle.ob0_language_types.proofs.Conditions.{hold-true}
 use Rattle.ob0_language_values.specs.Values.{Shape}
 use Rattle.ob0_types_check.specs.DeclarationFaults.{reported_constants, reported_module, reported_block, reported_body, reported_procedure, reported_procedures, reported_sections, reported_types, reported_variables}
 use Rattle.ob0_types_check.specs.Known.{Reported}
-use Rattle.ob0_types_check.specs.SoFar.{SoFar, at_first}
+use Rattle.ob0_types_check.specs.KnownDeclarations.{KnownDeclarations, state_at_start}
 use Rattle.ob0_types_check.specs.WellTypedLaws.{NoFaultInModules}
 use Rattle.ob0_types_check.proofs.BlocksDeclared.{constants_declare, next_le, types_declare}
 use Rattle.ob0_types_check.proofs.BlocksFit.{declarations_reported, first_holds, heading_known, heading_reported, procedure_reported}
@@ -30,80 +30,80 @@ use Rattle.ob0_types_check.proofs.TypedTypes.{PartsRight, given-again, parts_rig
 use Rattle.ob0_types_check.proofs.Unreported.{some-same}
 
 -- If a test holds for a value that is present, it holds for the value itself.
-held-again : {A : Type 0} (o : Option A) (test : A → Bool) (a : A) → o ≡ Some a → some_and o test ≡ true → test a ≡ true
-held-again o test a e h = sym (ap (λ o. some_and o test) e) ∙ h
+held-again : {A : Type 0} (o : Option A) (test : A → Bool) (a : A) → o ≡ Some a → some_satisfies o test ≡ true → test a ≡ true
+held-again o test a e h = sym (ap (λ o. some_satisfies o test) e) ∙ h
 
 module _ (w : Numbering) (fit : PartsFit) (fine : PartsRight) where
   mutual
     unfolding reported_block block_fits declare_first
 
-    pub block_right : (b : Tree ℕ block) (k n : ℕ) (p : SoFar) (before : List Shape) (scope : Scope Name) (env : TypeEnvironment Name) → IsKnownAt w p before n scope env → Fresh k before → BlockPlaced w scope n b
-        → block_fits as_names env k (named w.source b) ≡ true → (reported_block p b).faults ≡ []
+    pub block_right : (b : Tree ℕ block) (k n : ℕ) (p : KnownDeclarations) (before : List Shape) (scope : Scope Name) (env : TypeEnvironment Name) → IsKnownAt w p before n scope env → Fresh k before → BlockPlaced w scope n b
+        → block_fits naming_by_spelling env k (tree_with_names w.source b) ≡ true → (reported_block p b).faults ≡ []
     block_right (has_body (declares cs ts vs ps) statements) k n p before scope env st fresh placed h =
         let text : ℕ → Name = text_at w.source in
         let value : ℕ → ℕ = value_at w.source in
         let b : Tree ℕ block = has_body (declares cs ts vs ps) statements in
-        let nb : Tree Name block = named w.source b in
-        let t₁ : Reported SoFar = reported_constants p (section_constants cs) in
-        let t₂ : Reported SoFar = reported_types t₁.known (section_types ts) in
-        let t₃ : Reported SoFar = reported_variables t₂.known (section_variables vs) in
-        let t₄ : Reported SoFar = reported_procedures t₃.known ps in
-        let variables : TypeEnvironment Name → Option (TypeEnvironment Name) = declare_typed as_names (after_types k nb) (section_variables (named w.source vs)) in
-        let types : TypeEnvironment Name → Option (TypeEnvironment Name) = λ e. declare_types as_names e k (section_types (named w.source ts)) in
-        let test : TypeEnvironment Name → Bool = λ inner. procedures_fit as_names inner (after_variables k nb) (named w.source statements) (named w.source ps) in
-        let (inner, whole, fitting) = hold-true (option_and_then variables (declare_first as_names env k nb)) test h in
-        let (first, hf, hv) = and-then variables (declare_first as_names env k nb) inner whole in
-        let (constant, hc, ht) = and-then types (declare_constants as_names env (section_constants (named w.source cs))) first hf in
-        let none₁ = constants_right w fit fine (section_constants cs) n p before scope env st placed.0 constant (sym (ap (declare_constants as_names env) (constants-mapped text value cs)) ∙ hc) in
+        let nb : Tree Name block = tree_with_names w.source b in
+        let t₁ : Reported KnownDeclarations = reported_constants p (section_constants cs) in
+        let t₂ : Reported KnownDeclarations = reported_types t₁.known (section_types ts) in
+        let t₃ : Reported KnownDeclarations = reported_variables t₂.known (section_variables vs) in
+        let t₄ : Reported KnownDeclarations = reported_procedures t₃.known ps in
+        let variables : TypeEnvironment Name → Option (TypeEnvironment Name) = declare_typed naming_by_spelling (constructor_after_types k nb) (section_variables (tree_with_names w.source vs)) in
+        let types : TypeEnvironment Name → Option (TypeEnvironment Name) = λ e. declare_types naming_by_spelling e k (section_types (tree_with_names w.source ts)) in
+        let test : TypeEnvironment Name → Bool = λ inner. procedures_fit naming_by_spelling inner (constructor_after_variables k nb) (tree_with_names w.source statements) (tree_with_names w.source ps) in
+        let (inner, whole, fitting) = hold-true (option_and_then variables (declare_first naming_by_spelling env k nb)) test h in
+        let (first, hf, hv) = and-then variables (declare_first naming_by_spelling env k nb) inner whole in
+        let (constant, hc, ht) = and-then types (declare_constants naming_by_spelling env (section_constants (tree_with_names w.source cs))) first hf in
+        let none₁ = constants_right w fit fine (section_constants cs) n p before scope env st placed.0 constant (sym (ap (declare_constants naming_by_spelling env) (constants-mapped text value cs)) ∙ hc) in
         let dc = constants_declare w fit (section_constants cs) k n p before scope env st placed.0 none₁ in
-        let c_is : declare_constants as_names env (section_constants (named w.source cs)) ≡ Some dc.env = ap (declare_constants as_names env) (constants-mapped text value cs) ∙ dc.given_is in
-        let t_is : types dc.env ≡ Some first = given-again types (declare_constants as_names env (section_constants (named w.source cs))) dc.env (Some first) c_is hf in
-        let none₂ = types_right w fit fine (section_types ts) k (first_type n b) t₁.known dc.after (following_constants w scope n b) dc.env (omega (arith, fresh.counted, dc.apart.counted)) dc.holds placed.1 first (sym (ap (declare_types as_names dc.env k) (types-mapped text value ts)) ∙ t_is) in
-        let dt = types_declare w fit (section_types ts) k (first_type n b) t₁.known dc.after (following_constants w scope n b) dc.env (omega (arith, fresh.counted, dc.apart.counted)) dc.holds placed.1 none₂ in
-        let first_is : first ≡ dt.env = some-same first dt.env (sym t_is ∙ (ap (declare_types as_names dc.env k) (types-mapped text value ts) ∙ dt.given_is)) in
-        let v_is : declare_typed as_names (after_types k nb) (named w.source (section_variables vs)) dt.env ≡ Some inner =
-        (λ i. declare_typed as_names (after_types k nb) (sym (variables-mapped text value vs) i) (sym first_is i)) ∙ hv in
-        let t_same : types_constructors (section_types (named w.source ts)) ≡ types_constructors (named w.source (section_types ts)) = ap types_constructors (types-mapped text value ts) in
-        let none₃ = variables_right w fit fine (section_variables vs) (after_types k nb) (first_variable n b) t₂.known dt.after (following_types w scope n b) dt.env (omega (arith, fresh.counted, dc.apart.counted, dt.apart.counted, t_same)) dt.holds placed.2 inner v_is in
+        let c_is : declare_constants naming_by_spelling env (section_constants (tree_with_names w.source cs)) ≡ Some dc.env = ap (declare_constants naming_by_spelling env) (constants-mapped text value cs) ∙ dc.given_is in
+        let t_is : types dc.env ≡ Some first = given-again types (declare_constants naming_by_spelling env (section_constants (tree_with_names w.source cs))) dc.env (Some first) c_is hf in
+        let none₂ = types_right w fit fine (section_types ts) k (first_type_ordinal n b) t₁.known dc.after (following_constants w scope n b) dc.env (omega (arith, fresh.counted, dc.apart.counted)) dc.holds placed.1 first (sym (ap (declare_types naming_by_spelling dc.env k) (types-mapped text value ts)) ∙ t_is) in
+        let dt = types_declare w fit (section_types ts) k (first_type_ordinal n b) t₁.known dc.after (following_constants w scope n b) dc.env (omega (arith, fresh.counted, dc.apart.counted)) dc.holds placed.1 none₂ in
+        let first_is : first ≡ dt.env = some-same first dt.env (sym t_is ∙ (ap (declare_types naming_by_spelling dc.env k) (types-mapped text value ts) ∙ dt.given_is)) in
+        let v_is : declare_typed naming_by_spelling (constructor_after_types k nb) (tree_with_names w.source (section_variables vs)) dt.env ≡ Some inner =
+        (λ i. declare_typed naming_by_spelling (constructor_after_types k nb) (sym (variables-mapped text value vs) i) (sym first_is i)) ∙ hv in
+        let t_same : types_constructor_count (section_types (tree_with_names w.source ts)) ≡ types_constructor_count (tree_with_names w.source (section_types ts)) = ap types_constructor_count (types-mapped text value ts) in
+        let none₃ = variables_right w fit fine (section_variables vs) (constructor_after_types k nb) (first_variable_ordinal n b) t₂.known dt.after (following_types w scope n b) dt.env (omega (arith, fresh.counted, dc.apart.counted, dt.apart.counted, t_same)) dt.holds placed.2 inner v_is in
         let d = declarations_reported w fit cs ts vs ps statements k n p before scope env fresh.counted st placed.0 placed.1 placed.2 none₁ none₂ none₃ in
-        let rest = procedures_right ps statements (after_variables k nb) (first_procedure n b) t₃.known d.after (following_variables w scope n b) d.env d.holds (fresh_after k (after_variables k nb) before d.after d.apart fresh) placed.3
-        (held-again (option_and_then variables (declare_first as_names env k nb)) test d.env d.given_is h) in
+        let rest = procedures_right ps statements (constructor_after_variables k nb) (first_procedure_ordinal n b) t₃.known d.after (following_variables w scope n b) d.env d.holds (fresh_after k (constructor_after_variables k nb) before d.after d.apart fresh) placed.3
+        (held-again (option_and_then variables (declare_first naming_by_spelling env k nb)) test d.env d.given_is h) in
         none-of-both t₁.faults (t₂.faults ++ (t₃.faults ++ (t₄.faults ++ (reported_body t₄.known statements).faults))) none₁
         (none-of-both t₂.faults (t₃.faults ++ (t₄.faults ++ (reported_body t₄.known statements).faults)) none₂
         (none-of-both t₃.faults (t₄.faults ++ (reported_body t₄.known statements).faults) none₃ (none-of-both t₄.faults (reported_body t₄.known statements).faults rest.0 rest.1)))
 
-    procedures_right : (ps : Tree ℕ (items procedure)) (statements : Tree ℕ (maybe body)) (k n : ℕ) (p : SoFar) (before : List Shape) (scope : Scope Name) (env : TypeEnvironment Name) → IsKnownAt w p before n scope env → Fresh k before → ProceduresPlaced w scope n statements ps
-        → procedures_fit as_names env k (named w.source statements) (named w.source ps) ≡ true → ((reported_procedures p ps).faults ≡ []) × ((reported_body (reported_procedures p ps).known statements).faults ≡ [])
+    procedures_right : (ps : Tree ℕ (items procedure)) (statements : Tree ℕ (maybe body)) (k n : ℕ) (p : KnownDeclarations) (before : List Shape) (scope : Scope Name) (env : TypeEnvironment Name) → IsKnownAt w p before n scope env → Fresh k before → ProceduresPlaced w scope n statements ps
+        → procedures_fit naming_by_spelling env k (tree_with_names w.source statements) (tree_with_names w.source ps) ≡ true → ((reported_procedures p ps).faults ≡ []) × ((reported_body (reported_procedures p ps).known statements).faults ≡ [])
     procedures_right end statements k n p before scope env st fresh placed h = (refl, body_right w fit fine statements n p before scope env st fresh.once placed h)
     procedures_right (more d rest) statements k n p before scope env st fresh placed h =
-        let nd : Tree Name (item procedure) = named w.source d in
-        let q : SoFar = (reported_procedure p d).known in
-        let own : List (TypedParameter Name) → Bool = λ ps. procedure_fits as_names (bind_typed ps (heading (procedure_name nd) ps env)) k nd in
-        let others : List (TypedParameter Name) → Bool = λ ps. procedures_fit as_names (heading (procedure_name nd) ps env) (k + procedure_constructors nd) (named w.source statements) (named w.source rest) in
-        let given : Option (List (TypedParameter Name)) = typed_parameters as_names env k (procedure_formals nd) in
+        let nd : Tree Name (item procedure) = tree_with_names w.source d in
+        let q : KnownDeclarations = (reported_procedure p d).known in
+        let own : List (TypedParameter Name) → Bool = λ ps. procedure_fits naming_by_spelling (bind_typed_parameters ps (bind_procedure (procedure_name nd) ps env)) k nd in
+        let others : List (TypedParameter Name) → Bool = λ ps. procedures_fit naming_by_spelling (bind_procedure (procedure_name nd) ps env) (k + procedure_constructor_count nd) (tree_with_names w.source statements) (tree_with_names w.source rest) in
+        let given : Option (List (TypedParameter Name)) = typed_parameters naming_by_spelling env k (procedure_formals nd) in
         let (ps, hp, fitting) = hold-true given (λ ps. own ps && others ps) h in
         let none = procedure_right d k n p before scope env st fresh placed.0 ps hp (and_parts (own ps) (others ps) fitting).0 in
         let f = procedure_reported w fit d k n p before scope env fresh.counted st placed.0 none in
         let both = and_parts (own f.parameters) (others f.parameters) (held-again given (λ ps. own ps && others ps) f.parameters f.typed h) in
-        let last = procedures_right rest statements (k + procedure_constructors nd) (after_procedure (suc n) d) q f.after (following_procedure w scope n d) (heading (procedure_name nd) f.parameters env) f.holds
-        (fresh_after k (k + procedure_constructors nd) before f.after f.apart fresh) placed.1 both.1 in
+        let last = procedures_right rest statements (k + procedure_constructor_count nd) (ordinal_after_procedure (suc n) d) q f.after (following_procedure w scope n d) (bind_procedure (procedure_name nd) f.parameters env) f.holds
+        (fresh_after k (k + procedure_constructor_count nd) before f.after f.apart fresh) placed.1 both.1 in
         (none-of-both (reported_procedure p d).faults (reported_procedures q rest).faults none last.0, last.1)
 
-    procedure_right : (d : Tree ℕ (item procedure)) (k n : ℕ) (p : SoFar) (before : List Shape) (scope : Scope Name) (env : TypeEnvironment Name) → IsKnownAt w p before n scope env → Fresh k before → ProcedurePlaced w scope n d
-        → (ps : List (TypedParameter Name)) → typed_parameters as_names env k (procedure_formals (named w.source d)) ≡ Some ps
-        → procedure_fits as_names (bind_typed ps (heading (procedure_name (named w.source d)) ps env)) k (named w.source d) ≡ true → (reported_procedure p d).faults ≡ []
+    procedure_right : (d : Tree ℕ (item procedure)) (k n : ℕ) (p : KnownDeclarations) (before : List Shape) (scope : Scope Name) (env : TypeEnvironment Name) → IsKnownAt w p before n scope env → Fresh k before → ProcedurePlaced w scope n d
+        → (ps : List (TypedParameter Name)) → typed_parameters naming_by_spelling env k (procedure_formals (tree_with_names w.source d)) ≡ Some ps
+        → procedure_fits naming_by_spelling (bind_typed_parameters ps (bind_procedure (procedure_name (tree_with_names w.source d)) ps env)) k (tree_with_names w.source d) ≡ true → (reported_procedure p d).faults ≡ []
     procedure_right (declares_procedure x fs b closing) k n p before scope env st fresh placed ps hp h =
         let text : ℕ → Name = text_at w.source in
         let weak = holds_later w n n (suc n) p p before before scope env (le_refl n) (next_le n) st (later_same n p before st.table) in
-        let none = sections_right w fit fine (formal_sections fs) k (suc n) (record { formals = []; following = p }) before scope env fresh.counted weak placed.1 ps (sym (ap (typed_parameters as_names env k) (formals-mapped text (value_at w.source) fs)) ∙ hp) in
+        let none = sections_right w fit fine (formal_sections fs) k (suc n) (record { formals = []; following = p }) before scope env fresh.counted weak placed.1 ps (sym (ap (typed_parameters naming_by_spelling env k) (formals-mapped text (value_at w.source) fs)) ∙ hp) in
         let e = heading_reported w fit x fs k n p before scope env fresh.counted st placed.0 placed.1 none in
         let same : ps ≡ e.parameters = some-same ps e.parameters (sym hp ∙ e.typed) in
-        let first : ℕ = k + formals_constructors (formal_sections (named w.source fs)) in
-        let m : ℕ = after_names (suc n) (formal_names (formal_sections fs)) in
-        let inner : block_fits as_names (bind_typed e.parameters (heading (text x) e.parameters env)) first (named w.source b) ≡ true =
-        subst (λ qs. block_fits as_names (bind_typed qs (heading (text x) qs env)) first (named w.source b) ≡ true) same h in
+        let first : ℕ = k + formals_constructor_count (formal_sections (tree_with_names w.source fs)) in
+        let m : ℕ = ordinal_after_names (suc n) (formal_names (formal_sections fs)) in
+        let inner : block_fits naming_by_spelling (bind_typed_parameters e.parameters (bind_procedure (text x) e.parameters env)) first (tree_with_names w.source b) ≡ true =
+        subst (λ qs. block_fits naming_by_spelling (bind_typed_parameters qs (bind_procedure (text x) qs env)) first (tree_with_names w.source b) ≡ true) same h in
         none-of-both (reported_sections (record { formals = []; following = p }) (formal_sections fs)).faults (reported_block (heading_known p x fs) b).faults none
-        (block_right b first m (heading_known p x fs) e.after (scope_following w (suc n) (formal_names (formal_sections fs)) ((text x, n) ∷ scope)) (bind_typed e.parameters (heading (text x) e.parameters env)) e.inside
+        (block_right b first m (heading_known p x fs) e.after (scope_following w (suc n) (formal_names (formal_sections fs)) ((text x, n) ∷ scope)) (bind_typed_parameters e.parameters (bind_procedure (text x) e.parameters env)) e.inside
         (fresh_after k first before e.after e.apart fresh) placed.2 inner)
 
 pub no_fault_in_modules-holds : NoFaultInModules
@@ -111,5 +111,5 @@ unfolding reported_module fits_over
 no_fault_in_modules-holds r is h =
     let m = r.module_read in
     let names = names_bound-holds r is h in
-    none-of-both _ (reported_block (at_first r) (module_block (tree_of m))).faults names
-    (block_right (numbering_of r) parts_fit parts_right (module_block (tree_of m)) 0 7 (at_first r) [] (predeclared_scope as_names) (outermost as_names) (first_holds r) fresh_first (module_placed r is names) h)
+    none-of-both _ (reported_block (state_at_start r) (module_block (tree_of m))).faults names
+    (block_right (numbering_of r) parts_fit parts_right (module_block (tree_of m)) 0 7 (state_at_start r) [] (predeclared_scope naming_by_spelling) (outermost naming_by_spelling) (first_holds r) fresh_first (module_placed r is names) h)

@@ -1,19 +1,19 @@
 -- No fault is reported for names that have a type. The types of a table are distinguished by their shapes.
 use Rattle.std.proofs.Common.{◌≡◌, ℕ, Bool, true, false, true≢false, List, [], ◌∷◌, slice_get, Option, Some, None, option_map, option_and_then, if◌then◌else◌, refl, sym, ap, ◌∙◌}
-use Rattle.ob0_scan.specs.declared.fault.Code.TheVariants as code
+use Rattle.ob0_scan.specs.declared.fault.FaultCode.TheVariants as code
 use Rattle.ob0_tree.specs.declared.tree.Role.{Role}
 use Rattle.ob0_tree.specs.declared.tree.Role.TheVariants as role
 use Rattle.ob0_language_types.specs.Expressions as meant
 use Rattle.ob0_language_types.specs.Expressions.{Object}
-use Rattle.ob0_language_types.specs.Typing.{constant_of, constants_only, object_type}
-use Rattle.ob0_language_types.specs.WellTyped.{Signature, Typed, signature_of}
+use Rattle.ob0_language_types.specs.Typing.{constant_of, constant_meanings, object_type}
+use Rattle.ob0_language_types.specs.WellTyped.{Signature, TypeMeanings, signature_of}
 use Rattle.ob0_types_table.specs.declared.types.TypeId.{TypeId}
 use Rattle.ob0_types_table.specs.declared.types.TypeId.TheVariants as type
 use Rattle.ob0_language_values.specs.Values.{Shape, array_shape, boolean_shape, integer_shape, record_shape}
 use Rattle.ob0_types_check.specs.Known.{Facts, Meaning, a_constant, a_procedure, a_scalar, a_type, a_variable}
-use Rattle.ob0_types_check.specs.Operations.{a_name, at_token, named_value, right}
-use Rattle.ob0_types_check.specs.Agreement.{MeansAlike, TokenAgrees, TokensAgree, as_array, as_record, shape_in}
-use Rattle.ob0_types_check.specs.SoFar.{MadeType, form_at, types_at}
+use Rattle.ob0_types_check.specs.Operations.{typed_name_operand, fault_at_token, operand_by_meaning, without_fault}
+use Rattle.ob0_types_check.specs.Agreement.{KnownMeaningAgrees, TokenAgrees, TokensAgree, as_array, as_record, shape_in}
+use Rattle.ob0_types_check.specs.KnownDeclarations.{CompositeType, form_at, types_so_far}
 use Rattle.ob0_types_check.proofs.TypedExpressions.{NameTyped, NamesTyped}
 use Rattle.ob0_types_check.proofs.TypedOperands.{TypesApart, and-then}
 use Rattle.ob0_types_check.proofs.Unreported.{some-none, some-same}
@@ -38,28 +38,28 @@ no-record-of shapes i s h = let (r, at, is) = and-then as_record (slice_get shap
     of-record boolean_shape s e = absurd (cc)
     of-record (array_shape k n u) s e = absurd (cc)
 
-integer-alone : (made : List MadeType) (shapes : List Shape) (t : TypeId) → shape_in shapes t ≡ Some integer_shape → (types_at made).same t type.Integer ≡ true
+integer-alone : (made : List CompositeType) (shapes : List Shape) (t : TypeId) → shape_in shapes t ≡ Some integer_shape → (types_so_far made).same t type.Integer ≡ true
 integer-alone made shapes type.Integer h = refl
 integer-alone made shapes type.Boolean h = absurd (cc)
 integer-alone made shapes type.Unknown h = absurd (cc)
 integer-alone made shapes (type.Array i) h = absurd (some-none integer_shape (sym (no-array-of shapes i integer_shape h)))
 integer-alone made shapes (type.Record i) h = absurd (some-none integer_shape (sym (no-record-of shapes i integer_shape h)))
 
-boolean-alone : (made : List MadeType) (shapes : List Shape) (t : TypeId) → shape_in shapes t ≡ Some boolean_shape → (types_at made).same t type.Boolean ≡ true
+boolean-alone : (made : List CompositeType) (shapes : List Shape) (t : TypeId) → shape_in shapes t ≡ Some boolean_shape → (types_so_far made).same t type.Boolean ≡ true
 boolean-alone made shapes type.Boolean h = refl
 boolean-alone made shapes type.Integer h = absurd (cc)
 boolean-alone made shapes type.Unknown h = absurd (cc)
 boolean-alone made shapes (type.Array i) h = absurd (some-none boolean_shape (sym (no-array-of shapes i boolean_shape h)))
 boolean-alone made shapes (type.Record i) h = absurd (some-none boolean_shape (sym (no-record-of shapes i boolean_shape h)))
 
-scalar-alone : (made : List MadeType) (shapes : List Shape) (t : TypeId) (s : Shape) → shape_in shapes t ≡ Some s → form_at made t ≡ a_scalar → (as_array s ≡ None) × (as_record s ≡ None)
+scalar-alone : (made : List CompositeType) (shapes : List Shape) (t : TypeId) (s : Shape) → shape_in shapes t ≡ Some s → form_at made t ≡ a_scalar → (as_array s ≡ None) × (as_record s ≡ None)
 scalar-alone made shapes type.Integer s h e = let is = some-same integer_shape s h in (sym (ap as_array is), sym (ap as_record is))
 scalar-alone made shapes type.Boolean s h e = let is = some-same boolean_shape s h in (sym (ap as_array is), sym (ap as_record is))
 scalar-alone made shapes type.Unknown s h e = absurd (cc)
 scalar-alone made shapes (type.Array i) s h e = absurd (cc)
 scalar-alone made shapes (type.Record i) s h e = absurd (cc)
 
-pub types-apart : (made : List MadeType) (shapes : List Shape) → TypesApart (types_at made) (shape_in shapes)
+pub types-apart : (made : List CompositeType) (shapes : List Shape) → TypesApart (types_so_far made) (shape_in shapes)
 types-apart made shapes = record { integer = integer-alone made shapes; boolean = boolean-alone made shapes; scalar = scalar-alone made shapes }
 
 -- No fault is reported for a name that has a type.
@@ -73,11 +73,11 @@ module _ {T : Type 0} (facts : Facts T) (shape : T → Option Shape) where
   no-procedure (Some (meant.a_procedure p)) signature s e h = some-none s (sym h)
   no-procedure (Some (meant.a_standard p)) signature s e h = some-none s (sym h)
 
-  variable-named : (x : ℕ) (t : T) (b : Bool) → b ≡ false → (if b then record { known = a_name facts.types.unknown x; faults = at_token facts code.NotConstant x } else right (a_name t x)).faults ≡ []
+  variable-named : (x : ℕ) (t : T) (b : Bool) → b ≡ false → (if b then record { known = typed_name_operand facts.types.unknown x; faults = fault_at_token facts code.NotConstant x } else without_fault (typed_name_operand t x)).faults ≡ []
   variable-named x t true e = absurd (true≢false e)
   variable-named x t false e = refl
 
-  holds-right : (x : ℕ) (m : Option (Meaning T)) (o : Option (Object Shape Signature)) → facts.only_constants ≡ false → MeansAlike shape m o → (s : Shape) → object_type o ≡ Some s → (named_value facts x m).faults ≡ []
+  holds-right : (x : ℕ) (m : Option (Meaning T)) (o : Option (Object Shape Signature)) → facts.only_constants ≡ false → KnownMeaningAgrees shape m o → (s : Shape) → object_type o ≡ Some s → (operand_by_meaning facts x m).faults ≡ []
   holds-right x None o only a s h = absurd a
   holds-right x (Some (a_type t)) o only (u, known, holds) s h = absurd (some-none s (sym h ∙ ap object_type holds))
   holds-right x (Some (a_procedure fs)) o only (signature, holds, formals) s h = absurd (no-procedure o signature s holds h)
@@ -89,7 +89,7 @@ module _ {T : Type 0} (facts : Facts T) (shape : T → Option Shape) where
   abbrev only : Option (Object Shape Signature) → Option (Object Shape (Unit {0}))
   only o = option_map meant.a_constant (constant_of o)
 
-  only-right : (Q : Type 0) (x : ℕ) (m : Option (Meaning T)) (o : Option (Object Shape Signature)) → MeansAlike shape m o → (s : Shape) → object_type (option_map {U = Object Shape Q} meant.a_constant (constant_of o)) ≡ Some s → (named_value facts x m).faults ≡ []
+  only-right : (Q : Type 0) (x : ℕ) (m : Option (Meaning T)) (o : Option (Object Shape Signature)) → KnownMeaningAgrees shape m o → (s : Shape) → object_type (option_map {U = Object Shape Q} meant.a_constant (constant_of o)) ≡ Some s → (operand_by_meaning facts x m).faults ≡ []
   only-right Q x None o a s h = absurd a
   only-right Q x (Some (a_type t)) o (u, known, holds) s h = absurd (some-none s (sym h ∙ ap (λ z. object_type (option_map {U = Object Shape Q} meant.a_constant (constant_of z))) holds))
   only-right Q x (Some (a_procedure fs)) o (signature, holds, formals) s h = absurd (no-constant o signature s holds h)
@@ -104,7 +104,7 @@ module _ {T : Type 0} (facts : Facts T) (shape : T → Option Shape) where
   only-right Q x (Some (a_constant c)) o a s h = refl
   only-right Q x (Some (a_variable t)) o (u, known, holds) s h = absurd (some-none s (sym h ∙ ap (λ z. object_type (option_map {U = Object Shape Q} meant.a_constant (constant_of z))) holds))
 
-module _ {T N : Type 0} (facts : Facts T) (shape : T → Option Shape) (label : ℕ → N) (meaning : Typed N) where
+module _ {T N : Type 0} (facts : Facts T) (shape : T → Option Shape) (label : ℕ → N) (meaning : TypeMeanings N) where
   name-typed : facts.only_constants ≡ false → (r : Role) (x : ℕ) → TokenAgrees facts shape label meaning r x → NameTyped facts label meaning r x
   name-typed only role.LookedUp x a = λ s h. holds-right facts shape x (facts.object_for x) (meaning.object_for (label x)) only a s h
   name-typed only role.FieldName x a = tt
@@ -116,13 +116,13 @@ module _ {T N : Type 0} (facts : Facts T) (shape : T → Option Shape) (label : 
   names-typed only [] a = tt
   names-typed only (x ∷ xs) a = (name-typed only x.0 x.1 a.0, names-typed only xs a.1)
 
-  constant-typed : (Q : Type 0) (r : Role) (x : ℕ) → TokenAgrees facts shape label meaning r x → NameTyped {P = Q} facts label (constants_only meaning) r x
+  constant-typed : (Q : Type 0) (r : Role) (x : ℕ) → TokenAgrees facts shape label meaning r x → NameTyped {P = Q} facts label (constant_meanings meaning) r x
   constant-typed Q role.LookedUp x a = λ s h. only-right facts shape Q x (facts.object_for x) (meaning.object_for (label x)) a s h
   constant-typed Q role.FieldName x a = tt
   constant-typed Q role.Declaring x a = tt
   constant-typed Q role.ClosingName x a = tt
   constant-typed Q role.ModuleName x a = tt
 
-  pub constants-typed : (Q : Type 0) (xs : List (Role × ℕ)) → TokensAgree facts shape label meaning xs → NamesTyped {P = Q} facts label (constants_only meaning) xs
+  pub constants-typed : (Q : Type 0) (xs : List (Role × ℕ)) → TokensAgree facts shape label meaning xs → NamesTyped {P = Q} facts label (constant_meanings meaning) xs
   constants-typed Q [] a = tt
   constants-typed Q (x ∷ xs) a = (constant-typed Q x.0 x.1 a.0, constants-typed Q xs a.1)

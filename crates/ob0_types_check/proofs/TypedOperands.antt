@@ -2,7 +2,7 @@
 -- (`TypesApart`). INTEGER and BOOLEAN differ from all others, and a type with the form of a scalar is one of them. If
 -- two steps give a result, each of them does (`and-then`).
 use Rattle.std.proofs.Common.{◌≡◌, ℕ, true, ◌||◌, List, [], ◌++◌, if◌then◌else◌, Option, Some, None, option_map, option_and_then, refl, sym, ap, ◌∙◌}
-use Rattle.ob0_scan.specs.declared.fault.Code.TheVariants as code
+use Rattle.ob0_scan.specs.declared.fault.FaultCode.TheVariants as code
 use Rattle.ob0_scan.specs.declared.fault.Fault.{Fault}
 use Rattle.ob0_tree.specs.declared.tree.AddOperator.{AddOperator}
 use Rattle.ob0_tree.specs.declared.tree.AddOperator.TheVariants as add_operator
@@ -13,10 +13,10 @@ use Rattle.ob0_tree.specs.declared.tree.Relation.TheVariants as relation
 use Rattle.ob0_tree.specs.declared.tree.Sign.{Sign}
 use Rattle.ob0_tree.specs.declared.tree.Sign.TheVariants as sign
 use Rattle.ob0_tree.specs.Places.{text_at}
-use Rattle.ob0_language_types.specs.Typing.{add_type, complement_type, element_type, field_type, multiply_type, relation_type, shape_of_field, sign_type}
+use Rattle.ob0_language_types.specs.Typing.{addition_type, negation_type, element_type, field_type, multiplication_type, relation_type, shape_of_field, sign_type}
 use Rattle.ob0_language_values.specs.Values.{Shape, array_shape, boolean_shape, integer_shape, record_shape}
 use Rattle.ob0_types_check.specs.Known.{Facts, Form, Operand, Reported, Types, a_record, a_scalar, an_array, unknown_form}
-use Rattle.ob0_types_check.specs.Operations.{add_operands, required, required_both, at_operand, complement_operand, element_in, element_selected, field_in, field_selected, fits, found_field, multiply_operands, relate_operands, sign_operand, required_by_add, required_by_equality, required_by_multiply, required_by_relation}
+use Rattle.ob0_types_check.specs.Operations.{add_operands, required_type, required_type_of_both, fault_at_operand, complement_operand, element_type_in_form, element_operand, field_type_in_form, field_operand, fits, found_field_type, multiply_operands, relate_operands, sign_operand, add_operand_type, equality_operand_type, multiply_operand_type, relation_operand_type}
 use Rattle.ob0_types_check.specs.Agreement.{FormAgrees, TypesAgree, as_array, as_record}
 use Rattle.ob0_types_check.proofs.Unreported.{not-true, some-none}
 
@@ -39,37 +39,37 @@ module _ {T : Type 0} (facts : Facts T) (shape : T → Option Shape) (types : Ty
   same-fits : (t u : T) → facts.types.same t u ≡ true → fits facts.types t u ≡ true
   same-fits t u e = ap (λ b. b || (facts.types.same t facts.types.unknown || facts.types.same u facts.types.unknown)) e
 
-  pub required-right : (wanted : T) (o : Operand T) → facts.types.same o.of wanted ≡ true → (required facts wanted o).faults ≡ []
-  required-right wanted o e = ap (λ b. if b then [] else at_operand facts code.TypeMismatch o) (same-fits o.of wanted e)
+  pub required_type-right : (wanted : T) (o : Operand T) → facts.types.same o.of wanted ≡ true → (required_type facts wanted o).faults ≡ []
+  required_type-right wanted o e = ap (λ b. if b then [] else fault_at_operand facts code.TypeMismatch o) (same-fits o.of wanted e)
 
-  both-right : (wanted : T) (a b : Operand T) → facts.types.same a.of wanted ≡ true → facts.types.same b.of wanted ≡ true → (required_both facts wanted a b).faults ≡ []
+  both-right : (wanted : T) (a b : Operand T) → facts.types.same a.of wanted ≡ true → facts.types.same b.of wanted ≡ true → (required_type_of_both facts wanted a b).faults ≡ []
   both-right wanted a b p q =
-      let left : Reported T = record { known = if facts.types.same a.of wanted then (required facts wanted b).known else facts.types.unknown; faults = (required facts wanted b).faults } in
-      let wrong : Reported T = record { known = facts.types.unknown; faults = at_operand facts code.TypeMismatch a } in
-      ap (λ c. (if c then left else wrong).faults) (same-fits a.of wanted p) ∙ required-right wanted b q
+      let left : Reported T = record { known = if facts.types.same a.of wanted then (required_type facts wanted b).known else facts.types.unknown; faults = (required_type facts wanted b).faults } in
+      let wrong : Reported T = record { known = facts.types.unknown; faults = fault_at_operand facts code.TypeMismatch a } in
+      ap (λ c. (if c then left else wrong).faults) (same-fits a.of wanted p) ∙ required_type-right wanted b q
 
   -- holds if both operands have the required type
   abbrev AreRequired : T → T → T → Type 0
   AreRequired wanted a b = (facts.types.same a wanted ≡ true) × (facts.types.same b wanted ≡ true)
 
-  add-required : (o : AddOperator) (s t w : Shape) → add_type o s t ≡ Some w → (a b : T) → shape a ≡ Some s → shape b ≡ Some t → AreRequired (required_by_add facts.types o) a b
-  add-required add_operator.Add integer_shape integer_shape w e a b p q = (apart.integer a p, apart.integer b q)
-  add-required add_operator.Subtract integer_shape integer_shape w e a b p q = (apart.integer a p, apart.integer b q)
-  add-required add_operator.Or boolean_shape boolean_shape w e a b p q = (apart.boolean a p, apart.boolean b q)
-  add-required _ _ _ w e a b p q = absurd (cc)
+  add-required_type : (o : AddOperator) (s t w : Shape) → addition_type o s t ≡ Some w → (a b : T) → shape a ≡ Some s → shape b ≡ Some t → AreRequired (add_operand_type facts.types o) a b
+  add-required_type add_operator.Add integer_shape integer_shape w e a b p q = (apart.integer a p, apart.integer b q)
+  add-required_type add_operator.Subtract integer_shape integer_shape w e a b p q = (apart.integer a p, apart.integer b q)
+  add-required_type add_operator.Or boolean_shape boolean_shape w e a b p q = (apart.boolean a p, apart.boolean b q)
+  add-required_type _ _ _ w e a b p q = absurd (cc)
 
-  multiply-required : (o : MultiplyOperator) (s t w : Shape) → multiply_type o s t ≡ Some w → (a b : T) → shape a ≡ Some s → shape b ≡ Some t → AreRequired (required_by_multiply facts.types o) a b
-  multiply-required multiply_operator.Multiply integer_shape integer_shape w e a b p q = (apart.integer a p, apart.integer b q)
-  multiply-required multiply_operator.Divide integer_shape integer_shape w e a b p q = (apart.integer a p, apart.integer b q)
-  multiply-required multiply_operator.Modulo integer_shape integer_shape w e a b p q = (apart.integer a p, apart.integer b q)
-  multiply-required multiply_operator.And boolean_shape boolean_shape w e a b p q = (apart.boolean a p, apart.boolean b q)
-  multiply-required _ _ _ w e a b p q = absurd (cc)
+  multiply-required_type : (o : MultiplyOperator) (s t w : Shape) → multiplication_type o s t ≡ Some w → (a b : T) → shape a ≡ Some s → shape b ≡ Some t → AreRequired (multiply_operand_type facts.types o) a b
+  multiply-required_type multiply_operator.Multiply integer_shape integer_shape w e a b p q = (apart.integer a p, apart.integer b q)
+  multiply-required_type multiply_operator.Divide integer_shape integer_shape w e a b p q = (apart.integer a p, apart.integer b q)
+  multiply-required_type multiply_operator.Modulo integer_shape integer_shape w e a b p q = (apart.integer a p, apart.integer b q)
+  multiply-required_type multiply_operator.And boolean_shape boolean_shape w e a b p q = (apart.boolean a p, apart.boolean b q)
+  multiply-required_type _ _ _ w e a b p q = absurd (cc)
 
   -- The type that a comparison requires follows from the type of its left side.
-  integers-equal : (a : T) → facts.types.same a facts.types.integer ≡ true → required_by_equality facts.types a ≡ facts.types.integer
+  integers-equal : (a : T) → facts.types.same a facts.types.integer ≡ true → equality_operand_type facts.types a ≡ facts.types.integer
   integers-equal a e = ap (λ b. if b then facts.types.integer else (if facts.types.same a facts.types.unknown then facts.types.unknown else facts.types.boolean)) e
 
-  integers-related : (r : Relation) (a : T) → facts.types.same a facts.types.integer ≡ true → required_by_relation facts.types r a ≡ facts.types.integer
+  integers-related : (r : Relation) (a : T) → facts.types.same a facts.types.integer ≡ true → relation_operand_type facts.types r a ≡ facts.types.integer
   integers-related relation.Equal a e = integers-equal a e
   integers-related relation.NotEqual a e = integers-equal a e
   integers-related relation.Less a e = refl
@@ -83,63 +83,63 @@ module _ {T : Type 0} (facts : Facts T) (shape : T → Option Shape) (types : Ty
   no-unknown : (a : T) → shape a ≡ Some boolean_shape → facts.types.same a facts.types.unknown ≡ true → ⊥
   no-unknown a h e = some-none boolean_shape (sym h ∙ (types.same a facts.types.unknown e ∙ types.unknown))
 
-  truths-equal : (a : T) → shape a ≡ Some boolean_shape → required_by_equality facts.types a ≡ facts.types.boolean
+  truths-equal : (a : T) → shape a ≡ Some boolean_shape → equality_operand_type facts.types a ≡ facts.types.boolean
   truths-equal a h =
       ap (λ b. if b then facts.types.integer else (if facts.types.same a facts.types.unknown then facts.types.unknown else facts.types.boolean)) (not-true (facts.types.same a facts.types.integer) (no-integer a h))
       ∙ ap (λ b. if b then facts.types.unknown else facts.types.boolean) (not-true (facts.types.same a facts.types.unknown) (no-unknown a h))
 
-  of-integers : (r : Relation) (a b : T) → shape a ≡ Some integer_shape → shape b ≡ Some integer_shape → AreRequired (required_by_relation facts.types r a) a b
+  of-integers : (r : Relation) (a b : T) → shape a ≡ Some integer_shape → shape b ≡ Some integer_shape → AreRequired (relation_operand_type facts.types r a) a b
   of-integers r a b p q =
       let wanted = integers-related r a (apart.integer a p) in
       (ap (facts.types.same a) wanted ∙ apart.integer a p, ap (facts.types.same b) wanted ∙ apart.integer b q)
 
-  of-truths : (a b : T) → shape a ≡ Some boolean_shape → shape b ≡ Some boolean_shape → AreRequired (required_by_equality facts.types a) a b
+  of-truths : (a b : T) → shape a ≡ Some boolean_shape → shape b ≡ Some boolean_shape → AreRequired (equality_operand_type facts.types a) a b
   of-truths a b p q =
       let wanted = truths-equal a p in
       (ap (facts.types.same a) wanted ∙ apart.boolean a p, ap (facts.types.same b) wanted ∙ apart.boolean b q)
 
-  relation-required : (r : Relation) (s t w : Shape) → relation_type r s t ≡ Some w → (a b : T) → shape a ≡ Some s → shape b ≡ Some t → AreRequired (required_by_relation facts.types r a) a b
-  relation-required r integer_shape integer_shape w e a b p q = of-integers r a b p q
-  relation-required relation.Equal boolean_shape boolean_shape w e a b p q = of-truths a b p q
-  relation-required relation.NotEqual boolean_shape boolean_shape w e a b p q = of-truths a b p q
-  relation-required _ _ _ w e a b p q = absurd (cc)
+  relation-required_type : (r : Relation) (s t w : Shape) → relation_type r s t ≡ Some w → (a b : T) → shape a ≡ Some s → shape b ≡ Some t → AreRequired (relation_operand_type facts.types r a) a b
+  relation-required_type r integer_shape integer_shape w e a b p q = of-integers r a b p q
+  relation-required_type relation.Equal boolean_shape boolean_shape w e a b p q = of-truths a b p q
+  relation-required_type relation.NotEqual boolean_shape boolean_shape w e a b p q = of-truths a b p q
+  relation-required_type _ _ _ w e a b p q = absurd (cc)
 
-  pub added-right : (o : AddOperator) (a b : Operand T) (s t w : Shape) → add_type o s t ≡ Some w → shape a.of ≡ Some s → shape b.of ≡ Some t → (add_operands facts o a b).faults ≡ []
+  pub added-right : (o : AddOperator) (a b : Operand T) (s t w : Shape) → addition_type o s t ≡ Some w → shape a.of ≡ Some s → shape b.of ≡ Some t → (add_operands facts o a b).faults ≡ []
   added-right o a b s t w e p q =
-      let both = add-required o s t w e a.of b.of p q in
-      none-of-both (required_both facts (required_by_add facts.types o) a b).faults [] (both-right (required_by_add facts.types o) a b both.0 both.1) refl
+      let both = add-required_type o s t w e a.of b.of p q in
+      none-of-both (required_type_of_both facts (add_operand_type facts.types o) a b).faults [] (both-right (add_operand_type facts.types o) a b both.0 both.1) refl
 
-  pub multiplied-right : (o : MultiplyOperator) (a b : Operand T) (s t w : Shape) → multiply_type o s t ≡ Some w → shape a.of ≡ Some s → shape b.of ≡ Some t → (multiply_operands facts o a b).faults ≡ []
+  pub multiplied-right : (o : MultiplyOperator) (a b : Operand T) (s t w : Shape) → multiplication_type o s t ≡ Some w → shape a.of ≡ Some s → shape b.of ≡ Some t → (multiply_operands facts o a b).faults ≡ []
   multiplied-right o a b s t w e p q =
-      let both = multiply-required o s t w e a.of b.of p q in
-      none-of-both (required_both facts (required_by_multiply facts.types o) a b).faults [] (both-right (required_by_multiply facts.types o) a b both.0 both.1) refl
+      let both = multiply-required_type o s t w e a.of b.of p q in
+      none-of-both (required_type_of_both facts (multiply_operand_type facts.types o) a b).faults [] (both-right (multiply_operand_type facts.types o) a b both.0 both.1) refl
 
   pub related-right : (r : Relation) (a b : Operand T) (s t w : Shape) → relation_type r s t ≡ Some w → shape a.of ≡ Some s → shape b.of ≡ Some t → (relate_operands facts r a b).faults ≡ []
   related-right r a b s t w e p q =
-      let both = relation-required r s t w e a.of b.of p q in
-      none-of-both (required_both facts (required_by_relation facts.types r a.of) a b).faults [] (both-right (required_by_relation facts.types r a.of) a b both.0 both.1) refl
+      let both = relation-required_type r s t w e a.of b.of p q in
+      none-of-both (required_type_of_both facts (relation_operand_type facts.types r a.of) a b).faults [] (both-right (relation_operand_type facts.types r a.of) a b both.0 both.1) refl
 
-  sign-required : (g : Sign) (s w : Shape) → sign_type (Some g) s ≡ Some w → s ≡ integer_shape
-  sign-required sign.Plus integer_shape w e = refl
-  sign-required sign.Minus integer_shape w e = refl
-  sign-required _ _ w e = absurd (cc)
+  sign-required_type : (g : Sign) (s w : Shape) → sign_type (Some g) s ≡ Some w → s ≡ integer_shape
+  sign-required_type sign.Plus integer_shape w e = refl
+  sign-required_type sign.Minus integer_shape w e = refl
+  sign-required_type _ _ w e = absurd (cc)
 
   pub apply_sign-right : (g : Option Sign) (o : Operand T) (s w : Shape) → sign_type g s ≡ Some w → shape o.of ≡ Some s → (sign_operand facts g o).faults ≡ []
   apply_sign-right None o s w e h = refl
   apply_sign-right (Some g) o s w e h =
-      none-of-both (required facts facts.types.integer o).faults [] (required-right facts.types.integer o (apart.integer o.of (h ∙ ap Some (sign-required g s w e)))) refl
+      none-of-both (required_type facts facts.types.integer o).faults [] (required_type-right facts.types.integer o (apart.integer o.of (h ∙ ap Some (sign-required_type g s w e)))) refl
 
-  complement-required : (s w : Shape) → complement_type s ≡ Some w → s ≡ boolean_shape
-  complement-required boolean_shape w e = refl
-  complement-required _ w e = absurd (cc)
+  complement-required_type : (s w : Shape) → negation_type s ≡ Some w → s ≡ boolean_shape
+  complement-required_type boolean_shape w e = refl
+  complement-required_type _ w e = absurd (cc)
 
-  pub complemented-right : (o : Operand T) (s w : Shape) → complement_type s ≡ Some w → shape o.of ≡ Some s → (complement_operand facts o).faults ≡ []
+  pub complemented-right : (o : Operand T) (s w : Shape) → negation_type s ≡ Some w → shape o.of ≡ Some s → (complement_operand facts o).faults ≡ []
   complemented-right o s w e h =
-      none-of-both (required facts facts.types.boolean o).faults [] (required-right facts.types.boolean o (apart.boolean o.of (h ∙ ap Some (complement-required s w e)))) refl
+      none-of-both (required_type facts facts.types.boolean o).faults [] (required_type-right facts.types.boolean o (apart.boolean o.of (h ∙ ap Some (complement-required_type s w e)))) refl
 
   -- No fault is reported for a selection that has a type.
 
-  found-right : (x : ℕ) (m : Option T) (o : Option Shape) (u : Shape) → option_map shape m ≡ option_map Some o → o ≡ Some u → (found_field facts x m).faults ≡ []
+  found-right : (x : ℕ) (m : Option T) (o : Option Shape) (u : Shape) → option_map shape m ≡ option_map Some o → o ≡ Some u → (found_field_type facts x m).faults ≡ []
   found-right x None None u e h = absurd (cc)
   found-right x None (Some v) u e h = absurd (cc)
   found-right x (Some t) o u e h = refl
@@ -159,7 +159,7 @@ module _ {T : Type 0} (facts : Facts T) (shape : T → Option Shape) (types : Ty
   abbrev IsApart : Form T → Shape → Type 0
   IsApart f s = f ≡ a_scalar → (as_array s ≡ None) × (as_record s ≡ None)
 
-  field-found : (f : Form T) (s : Shape) → FormAgrees shape f s → IsApart f s → (x : ℕ) (u : Shape) → field_type s (text_at facts.source x) ≡ Some u → (field_in facts x f).faults ≡ []
+  field-found : (f : Form T) (s : Shape) → FormAgrees shape f s → IsApart f s → (x : ℕ) (u : Shape) → field_type s (text_at facts.source x) ≡ Some u → (field_type_in_form facts x f).faults ≡ []
   field-found a_scalar s a far x u h = absurd (no-record s (far refl).1 (text_at facts.source x) u h)
   field-found (an_array t) s (k, n, v, e, known) far x u h = absurd (some-none u (sym h ∙ ap (λ z. field_type z (text_at facts.source x)) e))
   field-found (a_record fields) s (k, fs, e, each) far x u h =
@@ -167,23 +167,23 @@ module _ {T : Type 0} (facts : Facts T) (shape : T → Option Shape) (types : Ty
       (sym (ap (λ z. field_type z (text_at facts.source x)) e) ∙ h)
   field-found unknown_form s a far x u h = absurd a
 
-  pub field-right : (o : Operand T) (s : Shape) → shape o.of ≡ Some s → (x : ℕ) (u : Shape) → field_type s (text_at facts.source x) ≡ Some u → (field_selected facts o x).faults ≡ []
+  pub field-right : (o : Operand T) (s : Shape) → shape o.of ≡ Some s → (x : ℕ) (u : Shape) → field_type s (text_at facts.source x) ≡ Some u → (field_operand facts o x).faults ≡ []
   field-right o s hs x u h =
-      none-of-both (field_in facts x (facts.types.form o.of)).faults [] (field-found (facts.types.form o.of) s (types.formed o.of s hs) (apart.scalar o.of s hs) x u h) refl
+      none-of-both (field_type_in_form facts x (facts.types.form o.of)).faults [] (field-found (facts.types.form o.of) s (types.formed o.of s hs) (apart.scalar o.of s hs) x u h) refl
 
-  element-found : (f : Form T) (s t : Shape) → FormAgrees shape f s → IsApart f s → (i : Operand T) (n : T) (u : Shape) → element_type s t ≡ Some u → (element_in facts i n f).faults ≡ []
+  element-found : (f : Form T) (s t : Shape) → FormAgrees shape f s → IsApart f s → (i : Operand T) (n : T) (u : Shape) → element_type s t ≡ Some u → (element_type_in_form facts i n f).faults ≡ []
   element-found a_scalar s t a far i n u h = absurd (no-array s (far refl).0 t u h)
   element-found (an_array e) s t a far i n u h = refl
   element-found (a_record fields) s t (k, fs, e, each) far i n u h = absurd (some-none u (sym h ∙ ap (λ z. element_type z t) e))
   element-found unknown_form s t a far i n u h = absurd a
 
-  index-required : (s t u : Shape) → element_type s t ≡ Some u → t ≡ integer_shape
-  index-required (array_shape k n s) integer_shape u e = refl
-  index-required _ _ u e = absurd (cc)
+  index-required_type : (s t u : Shape) → element_type s t ≡ Some u → t ≡ integer_shape
+  index-required_type (array_shape k n s) integer_shape u e = refl
+  index-required_type _ _ u e = absurd (cc)
 
-  pub element-right : (o i : Operand T) (s t u : Shape) → shape o.of ≡ Some s → shape i.of ≡ Some t → element_type s t ≡ Some u → (element_selected facts o i).faults ≡ []
+  pub element-right : (o i : Operand T) (s t u : Shape) → shape o.of ≡ Some s → shape i.of ≡ Some t → element_type s t ≡ Some u → (element_operand facts o i).faults ≡ []
   element-right o i s t u hs ht e =
-      let n : T = (required facts facts.types.integer i).known in
-      let inner : List Fault = (element_in facts i n (facts.types.form o.of)).faults in
-      none-of-both (required facts facts.types.integer i).faults (inner ++ []) (required-right facts.types.integer i (apart.integer i.of (ht ∙ ap Some (index-required s t u e))))
+      let n : T = (required_type facts facts.types.integer i).known in
+      let inner : List Fault = (element_type_in_form facts i n (facts.types.form o.of)).faults in
+      none-of-both (required_type facts facts.types.integer i).faults (inner ++ []) (required_type-right facts.types.integer i (apart.integer i.of (ht ∙ ap Some (index-required_type s t u e))))
       (none-of-both inner [] (element-found (facts.types.form o.of) s t (types.formed o.of s hs) (apart.scalar o.of s hs) i n u e) refl)

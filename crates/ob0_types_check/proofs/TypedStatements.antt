@@ -1,7 +1,7 @@
 -- No fault is reported for well-typed statements.
 use Rattle.std.proofs.Common.{◌≡◌, ℕ, Bool, true, false, true≢false, not, suc, List, [], ◌∷◌, ◌++◌, length, map, slice_get, Option, Some, None, option_and_then, if◌then◌else◌, refl, sym, ap, ◌∙◌, eq-eqb}
 use Rattle.std.proofs.lemmas.Bool.{and_parts}
-use Rattle.ob0_scan.specs.declared.fault.Code.TheVariants as code
+use Rattle.ob0_scan.specs.declared.fault.FaultCode.TheVariants as code
 use Rattle.ob0_types_table.specs.Tables.{mode_of}
 use Rattle.ob0_types_table.specs.declared.types.TypeId.{TypeId}
 use Rattle.ob0_types_table.specs.declared.types.TypeId.TheVariants as type
@@ -13,25 +13,25 @@ use Rattle.ob0_language_types.specs.Arguments.{arguments_listed}
 use Rattle.ob0_language_types.specs.Expressions as meant
 use Rattle.ob0_language_types.specs.Expressions.{Object}
 use Rattle.ob0_language_types.specs.Typing.{lone_designator, object_type, type_at, type_of, type_of_factor}
-use Rattle.ob0_language_types.specs.WellTyped.{Formal, Signature, Typed, agree, argument_fits, arguments_fit, by_place, by_value, call_fits, condition_fits, else_fits, elsifs_fit, sequence_fits, signature_of, statement_fits, statements_fit, variable_type}
-use Rattle.ob0_language_types.proofs.Conditions.{agree-true}
+use Rattle.ob0_language_types.specs.WellTyped.{FormalParameter, Signature, TypeMeanings, same_known_shape, argument_fits, arguments_fit, by_place, by_value, call_fits, condition_fits, else_fits, elsifs_fit, sequence_fits, signature_of, statement_fits, statements_fit, variable_type}
+use Rattle.ob0_language_types.proofs.Conditions.{same_known_shape-true}
 use Rattle.ob0_language_values.specs.Values.{Shape, array_shape, boolean_shape, integer_shape, record_shape}
 use Rattle.ob0_types_check.specs.ExpressionFaults.{reported_expression}
 use Rattle.ob0_types_check.specs.Known.{Facts, Meaning, Operand, a_constant, a_procedure, a_type, a_variable}
 use Rattle.ob0_types_check.specs.Known as known
-use Rattle.ob0_types_check.specs.Operations.{a_name, at_operand, at_token, name_operand, named_value, required, right}
-use Rattle.ob0_types_check.specs.SoFar.{MadeType, facts_at, types_at}
-use Rattle.ob0_types_check.specs.StatementFaults.{call_by_meaning, passed, reported_argument, reported_arguments, reported_required, reported_assignment, reported_call, reported_condition, reported_else, reported_elsifs, reported_sequence, reported_statement, reported_statements, reported_target}
-use Rattle.ob0_types_check.specs.Agreement.{FormalsAgree, MeansAlike, TokensAgree, TypesAgree, as_array, as_record, shape_in}
-use Rattle.ob0_types_check.specs.WellTypedLaws.{EachOnce, constructor_of, NoFaultInStatements}
+use Rattle.ob0_types_check.specs.Operations.{typed_name_operand, fault_at_operand, fault_at_token, name_operand, operand_by_meaning, required_type, without_fault}
+use Rattle.ob0_types_check.specs.KnownDeclarations.{CompositeType, facts_at, types_so_far}
+use Rattle.ob0_types_check.specs.StatementFaults.{reported_call_by_meaning, required_of_argument, reported_argument, reported_arguments, reported_required, reported_assignment, reported_call, reported_condition, reported_else, reported_elsifs, reported_sequence, reported_statement, reported_statements, reported_target}
+use Rattle.ob0_types_check.specs.Agreement.{FormalsAgree, KnownMeaningAgrees, TokensAgree, TypesAgree, as_array, as_record, shape_in}
+use Rattle.ob0_types_check.specs.WellTypedLaws.{HaveDistinctConstructors, constructor_ordinal, NoFaultInStatements}
 use Rattle.ob0_types_check.proofs.FittingExpressions.{parts-placed}
 use Rattle.ob0_types_check.proofs.FittingStatements.{EachAgreed, arguments-agreed, arguments-mapped, split}
 use Rattle.ob0_types_check.proofs.TypedNames.{types-apart}
-use Rattle.ob0_types_check.proofs.TypedOperands.{TypesApart, and-then, required-right, none-of-both}
+use Rattle.ob0_types_check.proofs.TypedOperands.{TypesApart, and-then, required_type-right, none-of-both}
 use Rattle.ob0_types_check.proofs.Unreported.{goes-on, some-none, some-same}
 use Rattle.ob0_types_check.proofs.TypedTargets.{expression-typed, no-signature, operand-typed, target-typed, variable-of}
 
-module _ {T N : Type 0} (facts : Facts T) (shape : T → Option Shape) (types : TypesAgree facts.types shape) (apart : TypesApart facts.types shape) (alike : (t u : T) (s : Shape) → shape t ≡ Some s → shape u ≡ Some s → facts.types.same t u ≡ true) (only : facts.only_constants ≡ false) (label : ℕ → N) (meaning : Typed N) where
+module _ {T N : Type 0} (facts : Facts T) (shape : T → Option Shape) (types : TypesAgree facts.types shape) (apart : TypesApart facts.types shape) (alike : (t u : T) (s : Shape) → shape t ≡ Some s → shape u ≡ Some s → facts.types.same t u ≡ true) (only : facts.only_constants ≡ false) (label : ℕ → N) (meaning : TypeMeanings N) where
   abbrev here : {s : Sort} → Tree ℕ s → Tree N s
   here t = mapped label (value_at facts.source) t
 
@@ -45,33 +45,33 @@ module _ {T N : Type 0} (facts : Facts T) (shape : T → Option Shape) (types : 
   apart-in = split facts shape types label meaning
 
   -- No fault is reported for an expression that has the required type.
-  required-typed : (wanted : T) (w : Shape) (e : Tree ℕ expression) → shape wanted ≡ Some w → Named e → type_of meaning (here e) ≡ Some w → reported_required facts wanted e ≡ []
+  required_type-typed : (wanted : T) (w : Shape) (e : Tree ℕ expression) → shape wanted ≡ Some w → Named e → type_of meaning (here e) ≡ Some w → reported_required facts wanted e ≡ []
   unfolding reported_required
-  required-typed wanted w e hw k h =
+  required_type-typed wanted w e hw k h =
       let o : Operand T = (reported_expression facts e).known in
-      none-of-both (reported_expression facts e).faults (required facts wanted o).faults (expression-typed facts shape types apart only label meaning e k w h) (required-right facts shape types apart wanted o (alike o.of wanted w (operand-typed facts shape types apart only label meaning e k w h) hw))
+      none-of-both (reported_expression facts e).faults (required_type facts wanted o).faults (expression-typed facts shape types apart only label meaning e k w h) (required_type-right facts shape types apart wanted o (alike o.of wanted w (operand-typed facts shape types apart only label meaning e k w h) hw))
 
   condition-right : (e : Tree ℕ expression) → Named e → condition_fits meaning (here e) ≡ true → reported_condition facts e ≡ []
   unfolding condition_fits
   condition-right e k h =
-      let (s, truth, typed) = agree-true (Some boolean_shape) (type_of meaning (here e)) h in
-      required-typed facts.types.boolean boolean_shape e types.boolean k (typed ∙ sym truth)
+      let (s, truth, typed) = same_known_shape-true (Some boolean_shape) (type_of meaning (here e)) h in
+      required_type-typed facts.types.boolean boolean_shape e types.boolean k (typed ∙ sym truth)
 
   assignment-right : (x : ℕ) (path : Tree ℕ (items selector)) (e : Tree ℕ expression) → Named (assigns x path e) → statement_fits meaning (here (assigns x path e)) ≡ true → reported_assignment facts (reported_target facts x path) e ≡ []
   unfolding statement_fits
   assignment-right x path e k h =
-      let (s, left, right) = agree-true (variable_type meaning (Some (label x, here path))) (type_of meaning (here e)) h in
+      let (s, left, without_fault) = same_known_shape-true (variable_type meaning (Some (label x, here path))) (type_of meaning (here e)) h in
       let rest = apart-in (ids path) (ids e) k.1 in
       let t = target-typed facts shape types apart only label meaning x path s (k.0, rest.0) left in
-      none-of-both (reported_target facts x path).faults (reported_required facts (reported_target facts x path).known.of e) t.none (required-typed (reported_target facts x path).known.of s e t.known rest.1 right)
+      none-of-both (reported_target facts x path).faults (reported_required facts (reported_target facts x path).known.of e) t.none (required_type-typed (reported_target facts x path).known.of s e t.known rest.1 without_fault)
 
   -- No fault is reported for a well-typed call.
 
-  variable-place : (x : ℕ) (t : T) (b : Bool) → (if b then record { known = a_name facts.types.unknown x; faults = at_token facts code.NotConstant x } else right (a_name t x)).known.is_place ≡ true
+  variable-place : (x : ℕ) (t : T) (b : Bool) → (if b then record { known = typed_name_operand facts.types.unknown x; faults = fault_at_token facts code.NotConstant x } else without_fault (typed_name_operand t x)).known.is_place ≡ true
   variable-place x t true = refl
   variable-place x t false = refl
 
-  named-place : (x : ℕ) (m : Option (Meaning T)) (o : Option (Object Shape Signature)) (v : Shape) → MeansAlike shape m o → o ≡ Some (meant.a_variable v) → (named_value facts x m).known.is_place ≡ true
+  named-place : (x : ℕ) (m : Option (Meaning T)) (o : Option (Object Shape Signature)) (v : Shape) → KnownMeaningAgrees shape m o → o ≡ Some (meant.a_variable v) → (operand_by_meaning facts x m).known.is_place ≡ true
   named-place x None o v a e = absurd a
   named-place x (Some (a_type t)) o v (s, reported, holds) e = absurd (some-none v (sym (ap object_type e) ∙ ap object_type holds))
   named-place x (Some (a_constant c)) o v (w, reported, holds, scalar) e = let same : Some (meant.a_constant w) ≡ Some (meant.a_variable v) = sym holds ∙ e in absurd (cc)
@@ -79,7 +79,7 @@ module _ {T N : Type 0} (facts : Facts T) (shape : T → Option Shape) (types : 
   named-place x (Some (a_variable t)) o v a e = variable-place x t facts.only_constants
 
   -- holds if an expression has this type and its operand is a place
-  pub record IsPlace (e : Tree ℕ expression) (s : Shape) : Type 0 where
+  pub record CanCountFrom (e : Tree ℕ expression) (s : Shape) : Type 0 where
     pub typed : type_of meaning (here e) ≡ Some s
     pub placed : (reported_expression facts e).known.is_place ≡ true
 
@@ -87,7 +87,7 @@ module _ {T N : Type 0} (facts : Facts T) (shape : T → Option Shape) (types : 
   unfolding variable_type
   no-designator s h = absurd (some-none s (sym h))
 
-  place-known : (e : Tree ℕ expression) → Named e → (s : Shape) → variable_type meaning (lone_designator (here e)) ≡ Some s → IsPlace e s
+  place-known : (e : Tree ℕ expression) → Named e → (s : Shape) → variable_type meaning (lone_designator (here e)) ≡ Some s → CanCountFrom e s
   unfolding reported_expression type_of variable_type
   place-known (compares (sum (Some g) t rest) c) k s h = no-designator s h
   place-known (compares (sum None (product (integer n) factors) rest) c) k s h = no-designator s h
@@ -104,26 +104,26 @@ module _ {T N : Type 0} (facts : Facts T) (shape : T → Option Shape) (types : 
         placed = parts-placed facts (name_operand facts x).known path ∙ named-place x (facts.object_for x) (meaning.object_for (label x)) v k.0 holds;
       }
 
-  passed-right : (b : Bool) (of : T) (g : Formal) (e : Tree ℕ expression) → g.mode ≡ mode_of b → shape of ≡ Some g.shape → Named e → argument_fits meaning g (here e) ≡ true
-      → (reported_expression facts e).faults ++ (passed facts (record { by_place = b; of = of }) (reported_expression facts e).known).faults ≡ []
+  required_of_argument-right : (b : Bool) (of : T) (g : FormalParameter) (e : Tree ℕ expression) → g.mode ≡ mode_of b → shape of ≡ Some g.shape → Named e → argument_fits meaning g (here e) ≡ true
+      → (reported_expression facts e).faults ++ (required_of_argument facts (record { by_place = b; of = of }) (reported_expression facts e).known).faults ≡ []
   unfolding argument_fits
-  passed-right true of g e mode wanted k h =
+  required_of_argument-right true of g e mode wanted k h =
       let o : Operand T = (reported_expression facts e).known in
-      let (s, own, given) = agree-true (Some g.shape) (variable_type meaning (lone_designator (here e))) (sym (λ i. agree (Some g.shape) (elim (mode i) [ by_value ↦ type_of meaning (here e) | by_place ↦ variable_type meaning (lone_designator (here e)) ])) ∙ h) in
-      let p : IsPlace e g.shape = place-known e k g.shape (given ∙ sym own) in
+      let (s, own, given) = same_known_shape-true (Some g.shape) (variable_type meaning (lone_designator (here e))) (sym (λ i. same_known_shape (Some g.shape) (elim (mode i) [ by_value ↦ type_of meaning (here e) | by_place ↦ variable_type meaning (lone_designator (here e)) ])) ∙ h) in
+      let p : CanCountFrom e g.shape = place-known e k g.shape (given ∙ sym own) in
       none-of-both (reported_expression facts e).faults _ (expression-typed facts shape types apart only label meaning e k g.shape p.typed)
-      (ap (λ b. (if not b then record { known = facts.types.unknown; faults = at_operand facts code.NotVariable o } else required facts of o).faults) p.placed
-      ∙ required-right facts shape types apart of o (alike o.of of g.shape (operand-typed facts shape types apart only label meaning e k g.shape p.typed) wanted))
-  passed-right false of g e mode wanted k h =
+      (ap (λ b. (if not b then record { known = facts.types.unknown; faults = fault_at_operand facts code.NotVariable o } else required_type facts of o).faults) p.placed
+      ∙ required_type-right facts shape types apart of o (alike o.of of g.shape (operand-typed facts shape types apart only label meaning e k g.shape p.typed) wanted))
+  required_of_argument-right false of g e mode wanted k h =
       let o : Operand T = (reported_expression facts e).known in
-      let (s, own, given) = agree-true (Some g.shape) (type_of meaning (here e)) (sym (λ i. agree (Some g.shape) (elim (mode i) [ by_value ↦ type_of meaning (here e) | by_place ↦ variable_type meaning (lone_designator (here e)) ])) ∙ h) in
+      let (s, own, given) = same_known_shape-true (Some g.shape) (type_of meaning (here e)) (sym (λ i. same_known_shape (Some g.shape) (elim (mode i) [ by_value ↦ type_of meaning (here e) | by_place ↦ variable_type meaning (lone_designator (here e)) ])) ∙ h) in
       let typed : type_of meaning (here e) ≡ Some g.shape = given ∙ sym own in
       none-of-both (reported_expression facts e).faults _ (expression-typed facts shape types apart only label meaning e k g.shape typed)
-      (required-right facts shape types apart of o (alike o.of of g.shape (operand-typed facts shape types apart only label meaning e k g.shape typed) wanted))
+      (required_type-right facts shape types apart of o (alike o.of of g.shape (operand-typed facts shape types apart only label meaning e k g.shape typed) wanted))
 
-  argument-right : (f : known.KnownFormal T) (g : Formal) (e : Tree ℕ expression) → g.mode ≡ mode_of f.by_place → shape f.of ≡ Some g.shape → Named e → argument_fits meaning g (here e) ≡ true → reported_argument facts f e ≡ []
+  argument-right : (f : known.KnownFormal T) (g : FormalParameter) (e : Tree ℕ expression) → g.mode ≡ mode_of f.by_place → shape f.of ≡ Some g.shape → Named e → argument_fits meaning g (here e) ≡ true → reported_argument facts f e ≡ []
   unfolding reported_argument
-  argument-right f g e mode wanted k h = passed-right f.by_place f.of g e mode wanted k h
+  argument-right f g e mode wanted k h = required_of_argument-right f.by_place f.of g e mode wanted k h
 
   arguments-right : (fs : List (known.KnownFormal T)) (gs : Signature) (es : List (Tree ℕ expression)) → FormalsAgree shape fs gs → EachAgreed facts shape types label meaning es → arguments_fit meaning gs (map here es) ≡ true
       → (length fs ≡ length es) × (reported_arguments facts fs es ≡ [])
@@ -142,7 +142,7 @@ module _ {T N : Type 0} (facts : Facts T) (shape : T → Option Shape) (types : 
   unfolding call_fits
   not-called o p es e unsigned h = absurd (true≢false (sym (sym (ap (λ s. call_fits meaning s (map here es)) (ap signature_of e ∙ unsigned)) ∙ h)))
 
-  called-right : (x : ℕ) (m : Option (Meaning T)) (o : Option (Object Shape Signature)) (es : List (Tree ℕ expression)) → MeansAlike shape m o → EachAgreed facts shape types label meaning es → call_fits meaning (signature_of o) (map here es) ≡ true → call_by_meaning facts x m es ≡ []
+  called-right : (x : ℕ) (m : Option (Meaning T)) (o : Option (Object Shape Signature)) (es : List (Tree ℕ expression)) → KnownMeaningAgrees shape m o → EachAgreed facts shape types label meaning es → call_fits meaning (signature_of o) (map here es) ≡ true → reported_call_by_meaning facts x m es ≡ []
   unfolding call_fits
   called-right x None o es a k h = absurd a
   called-right x (Some (a_type t)) o es (s, reported, holds) k h = not-called o (Some (meant.a_type s)) es holds refl h
@@ -150,7 +150,7 @@ module _ {T N : Type 0} (facts : Facts T) (shape : T → Option Shape) (types : 
   called-right x (Some (a_variable t)) o es (s, reported, holds) k h = not-called o (Some (meant.a_variable s)) es holds refl h
   called-right x (Some (a_procedure fs)) o es (signature, holds, formals) k h =
       let parts = arguments-right fs signature es formals k (sym (ap (λ s. call_fits meaning s (map here es)) holds) ∙ h) in
-      ap (λ b. if b then reported_arguments facts fs es else at_token facts code.ArgumentCount x) (eq-eqb (length fs) (length es) parts.0) ∙ parts.1
+      ap (λ b. if b then reported_arguments facts fs es else fault_at_token facts code.ArgumentCount x) (eq-eqb (length fs) (length es) parts.0) ∙ parts.1
 
   call-right : (x : ℕ) (es : Tree ℕ (maybe arguments)) → Named (calls x es) → statement_fits meaning (here (calls x es)) ≡ true → reported_call facts x (arguments_listed es) ≡ []
   unfolding statement_fits
@@ -241,31 +241,31 @@ array-at shapes i s h = found-at as_array shapes i s (λ r e. array-equal r s e)
 record-at : (shapes : List Shape) (i : ℕ) (s : Shape) → option_and_then as_record (slice_get shapes i) ≡ Some s → (slice_get shapes i ≡ Some s) × (as_record s ≡ Some s)
 record-at shapes i s h = found-at as_record shapes i s (λ r e. record-equal r s e) h
 
-array-number : (s : Shape) → as_array s ≡ Some s → (k : ℕ) × (constructor_of s ≡ Some k)
+array-number : (s : Shape) → as_array s ≡ Some s → (k : ℕ) × (constructor_ordinal s ≡ Some k)
 array-number (array_shape k n u) e = (k, refl)
 array-number integer_shape e = absurd (cc)
 array-number boolean_shape e = absurd (cc)
 array-number (record_shape k fs) e = absurd (cc)
 
-record-number : (s : Shape) → as_record s ≡ Some s → (k : ℕ) × (constructor_of s ≡ Some k)
+record-number : (s : Shape) → as_record s ≡ Some s → (k : ℕ) × (constructor_ordinal s ≡ Some k)
 record-number (record_shape k fs) e = (k, refl)
 record-number integer_shape e = absurd (cc)
 record-number boolean_shape e = absurd (cc)
 record-number (array_shape k n u) e = absurd (cc)
 
-arrays-once : (shapes : List Shape) → EachOnce shapes → (i j : ℕ) (s : Shape) → option_and_then as_array (slice_get shapes i) ≡ Some s → option_and_then as_array (slice_get shapes j) ≡ Some s → i ≡ j
+arrays-once : (shapes : List Shape) → HaveDistinctConstructors shapes → (i j : ℕ) (s : Shape) → option_and_then as_array (slice_get shapes i) ≡ Some s → option_and_then as_array (slice_get shapes j) ≡ Some s → i ≡ j
 arrays-once shapes once i j s p q =
     let left = array-at shapes i s p in
     let (k, number) = array-number s left.1 in
     once i j k s s left.0 (array-at shapes j s q).0 number number
 
-records-once : (shapes : List Shape) → EachOnce shapes → (i j : ℕ) (s : Shape) → option_and_then as_record (slice_get shapes i) ≡ Some s → option_and_then as_record (slice_get shapes j) ≡ Some s → i ≡ j
+records-once : (shapes : List Shape) → HaveDistinctConstructors shapes → (i j : ℕ) (s : Shape) → option_and_then as_record (slice_get shapes i) ≡ Some s → option_and_then as_record (slice_get shapes j) ≡ Some s → i ≡ j
 records-once shapes once i j s p q =
     let left = record-at shapes i s p in
     let (k, number) = record-number s left.1 in
     once i j k s s left.0 (record-at shapes j s q).0 number number
 
-pub once-alike : (made : List MadeType) (shapes : List Shape) → EachOnce shapes → (t u : TypeId) (s : Shape) → shape_in shapes t ≡ Some s → shape_in shapes u ≡ Some s → (types_at made).same t u ≡ true
+pub once-alike : (made : List CompositeType) (shapes : List Shape) → HaveDistinctConstructors shapes → (t u : TypeId) (s : Shape) → shape_in shapes t ≡ Some s → shape_in shapes u ≡ Some s → (types_so_far made).same t u ≡ true
 once-alike made shapes once type.Unknown u s p q = absurd (some-none s (sym p))
 once-alike made shapes once type.Integer type.Unknown s p q = absurd (some-none s (sym q))
 once-alike made shapes once type.Integer type.Integer s p q = refl

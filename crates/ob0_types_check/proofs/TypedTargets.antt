@@ -8,14 +8,14 @@ use Rattle.ob0_tree.specs.Tree.{Sort, Tree, designator, expression, identifiers,
 use Rattle.ob0_language_types.specs.Expressions as meant
 use Rattle.ob0_language_types.specs.Expressions.{Object}
 use Rattle.ob0_language_types.specs.Typing.{object_type, type_at, type_of}
-use Rattle.ob0_language_types.specs.WellTyped.{Signature, Typed, signature_of, variable_type}
+use Rattle.ob0_language_types.specs.WellTyped.{Signature, TypeMeanings, signature_of, variable_type}
 use Rattle.ob0_language_values.specs.Values.{Shape}
 use Rattle.ob0_types_check.specs.ExpressionFaults.{reported_expression, reported_selectors}
 use Rattle.ob0_types_check.specs.Known.{Facts, Meaning, Operand, a_constant, a_procedure, a_type, a_variable}
-use Rattle.ob0_types_check.specs.Operations.{a_name}
-use Rattle.ob0_types_check.specs.SoFar.{facts_at}
-use Rattle.ob0_types_check.specs.StatementFaults.{target_meaning, target_by_meaning, reported_target}
-use Rattle.ob0_types_check.specs.Agreement.{MeansAlike, TokensAgree, TypesAgree, shape_in}
+use Rattle.ob0_types_check.specs.Operations.{typed_name_operand}
+use Rattle.ob0_types_check.specs.KnownDeclarations.{facts_at}
+use Rattle.ob0_types_check.specs.StatementFaults.{target_name_type, target_type_by_meaning, reported_target}
+use Rattle.ob0_types_check.specs.Agreement.{KnownMeaningAgrees, TokensAgree, TypesAgree, shape_in}
 use Rattle.ob0_types_check.specs.ReportLaws.{OperandFits}
 use Rattle.ob0_types_check.specs.WellTypedLaws.{NoFaultInTargets}
 use Rattle.ob0_types_check.proofs.FittingExpressions.{FitsSelectors, selectors-fit}
@@ -36,7 +36,7 @@ variable-of (Some (meant.a_variable v)) f s h = (v, refl, h)
 variable-of (Some (meant.a_procedure p)) f s h = absurd (some-none s (sym h))
 variable-of (Some (meant.a_standard p)) f s h = absurd (some-none s (sym h))
 
-module _ {T N : Type 0} (facts : Facts T) (shape : T → Option Shape) (types : TypesAgree facts.types shape) (apart : TypesApart facts.types shape) (only : facts.only_constants ≡ false) (label : ℕ → N) (meaning : Typed N) where
+module _ {T N : Type 0} (facts : Facts T) (shape : T → Option Shape) (types : TypesAgree facts.types shape) (apart : TypesApart facts.types shape) (only : facts.only_constants ≡ false) (label : ℕ → N) (meaning : TypeMeanings N) where
   abbrev here : {s : Sort} → Tree ℕ s → Tree N s
   here t = mapped label (value_at facts.source) t
 
@@ -62,7 +62,7 @@ module _ {T N : Type 0} (facts : Facts T) (shape : T → Option Shape) (types : 
   pub no-signature : {A : Type 0} (o : Option (Object Shape Signature)) (v : Shape) (signature : Signature) → o ≡ Some (meant.a_variable v) → signature_of o ≡ Some signature → A
   no-signature o v signature e h = absurd (some-none signature (sym h ∙ ap signature_of e))
 
-  assigned-right : (x : ℕ) (m : Option (Meaning T)) (o : Option (Object Shape Signature)) (v : Shape) → MeansAlike shape m o → o ≡ Some (meant.a_variable v) → ((target_by_meaning facts x m).faults ≡ []) × (shape (target_by_meaning facts x m).known ≡ Some v)
+  assigned-right : (x : ℕ) (m : Option (Meaning T)) (o : Option (Object Shape Signature)) (v : Shape) → KnownMeaningAgrees shape m o → o ≡ Some (meant.a_variable v) → ((target_type_by_meaning facts x m).faults ≡ []) × (shape (target_type_by_meaning facts x m).known ≡ Some v)
   assigned-right x None o v a e = absurd a
   assigned-right x (Some (a_type t)) o v (s, reported, holds) e = absurd (some-none v (sym (ap object_type e) ∙ ap object_type holds))
   assigned-right x (Some (a_constant c)) o v (w, reported, holds, scalar) e = let same : Some (meant.a_constant w) ≡ Some (meant.a_variable v) = sym holds ∙ e in absurd (cc)
@@ -78,11 +78,11 @@ module _ {T N : Type 0} (facts : Facts T) (shape : T → Option Shape) (types : 
   target-typed x path s k h =
       let (v, holds, typed) = variable-of (meaning.object_for (label x)) (λ v. type_at meaning v (here path)) s h in
       let a = assigned-right x (facts.object_for x) (meaning.object_for (label x)) v k.0 holds in
-      let o : Operand T = a_name (target_meaning facts x).known x in
+      let o : Operand T = typed_name_operand (target_name_type facts x).known x in
       let rest = selectors-right facts shape types apart label meaning o v path a.1 (all-typed path k.1) s typed in
       let fs : FitsSelectors facts shape types label meaning o v path = selectors-fit facts shape types label meaning o v path a.1 (tokens-fit facts shape types label meaning (ids path) k.1) rest in
       record {
-        none = none-of-both (target_meaning facts x).faults (reported_selectors facts o path).faults a.0 rest;
+        none = none-of-both (target_name_type facts x).faults (reported_selectors facts o path).faults a.0 rest;
         known = fs.known ∙ (sym fs.typed ∙ typed);
       }
 

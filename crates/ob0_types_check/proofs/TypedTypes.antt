@@ -1,25 +1,25 @@
 -- No fault is reported for written types that denote a type. `given-again` moves a hypothesis about the result of two
 -- steps to the value that another law gives, without an equality of values.
 use Rattle.std.proofs.Common.{◌≡◌, ℕ, suc, ◌+◌, Bool, true, false, ◌&&◌, List, [], map, Option, Some, None, option_and_then, if◌then◌else◌, is_some, nat_le, refl, sym, ap, ◌∙◌, le_refl, length, arith}
-use Rattle.ob0_tree.specs.Places.{named, text_at, value_at}
+use Rattle.ob0_tree.specs.Places.{tree_with_names, text_at, value_at}
 use Rattle.ob0_tree.specs.Tree.{Tree, array_type, end, fields, further_fields, items, mapped, more, named_type, no_fields, occurrences, record_type, some_fields, then_fields, written_type}
-use Rattle.ob0_language_names.specs.Names.{Name, as_names}
-use Rattle.ob0_language_names.specs.Parts.{names_listed}
+use Rattle.ob0_language_names.specs.Names.{Name, naming_by_spelling}
+use Rattle.ob0_language_names.specs.Parts.{names_in_list}
 use Rattle.ob0_language_names.specs.Scopes.{Scope}
 use Rattle.ob0_types_table.specs.declared.types.TypeId.{TypeId}
 use Rattle.ob0_language_types.specs.Environments.{meanings}
 use Rattle.ob0_language_types.specs.Expressions as meant
-use Rattle.ob0_language_types.specs.Typing.{array_length, constant_value, denoted, denoted_group, denoted_groups, depth, group_constructors, groups_constructors, scalars, type_of_name, with_fields, within_limits}
-use Rattle.ob0_language_types.specs.WellTyped.{Signature, TypeEnvironment, Typed, signature_of}
+use Rattle.ob0_language_types.specs.Typing.{array_length, constant_value, denoted, denoted_group, denoted_groups, depth, group_constructor_count, groups_constructor_count, scalars, type_of_name, prepend_fields, check_limits}
+use Rattle.ob0_language_types.specs.WellTyped.{Signature, TypeEnvironment, TypeMeanings, signature_of}
 use Rattle.ob0_language_values.specs.Values.{FieldShapes, Shape, Value, array_shape, no_field_shape, record_shape}
 use Rattle.ob0_types_check.specs.ExpressionFaults.{reported_expression}
 use Rattle.ob0_types_check.specs.Known.{Meaning, Operand, Reported, a_constant, a_procedure, a_type, a_variable}
-use Rattle.ob0_types_check.specs.Operations.{right}
-use Rattle.ob0_types_check.specs.SoFar.{PartTypes, Size, SoFar, facts_at, is_within, made, make, of_elements, size_at, too_large}
-use Rattle.ob0_types_check.specs.SoFar as so_far
-use Rattle.ob0_types_check.specs.TypeFaults.{length_of, type_meant}
-use Rattle.ob0_types_check.specs.WrittenTypeFaults.{Gathered, array_made, array_size, nothing_gathered, record_made, record_size, record_word, reported_fields, reported_groups, ordinal_here, reported_type, word_before}
-use Rattle.ob0_types_check.specs.Agreement.{MeansAlike, shape_in}
+use Rattle.ob0_types_check.specs.Operations.{without_fault}
+use Rattle.ob0_types_check.specs.KnownDeclarations.{PartTypes, Size, KnownDeclarations, facts_at, is_within_limits, made, make_type, of_elements, size_at, type_too_large}
+use Rattle.ob0_types_check.specs.KnownDeclarations as so_far
+use Rattle.ob0_types_check.specs.TypeFaults.{length_of, type_by_meaning}
+use Rattle.ob0_types_check.specs.WrittenTypeFaults.{KnownFields, made_array_type, array_size, no_known_fields, made_record_type, record_size, record_keyword, reported_fields, reported_groups, next_type_ordinal, reported_type, token_before_group}
+use Rattle.ob0_types_check.specs.Agreement.{KnownMeaningAgrees, shape_in}
 use Rattle.ob0_types_check.specs.WellTypedLaws.{NoFaultInConstants, NoFaultInLengths, NoFaultInStatements}
 use Rattle.ob0_types_check.proofs.DeclaredNames.{AreSeen, IsSeen, Numbering, each_part}
 use Rattle.ob0_types_check.proofs.DeclaredShapes.{GatheredAgrees, SizeAgrees, array_sized, followed, record_sized, size_agrees}
@@ -53,12 +53,12 @@ within : (b : Bool) (s t : Shape) → (if b then Some s else None) ≡ Some t �
 within true s t h = refl
 within false s t h = absurd (some-none t (sym h))
 
-is-within : (z : Size) (s t : Shape) → SizeAgrees z s → within_limits s ≡ Some t → is_within z ≡ true
+is-within : (z : Size) (s t : Shape) → SizeAgrees z s → check_limits s ≡ Some t → is_within_limits z ≡ true
 is-within z s t h e =
     (λ i. nat_le (h.scalars_are i) 65536 && nat_le (h.depth_is i) 100) ∙ within (nat_le (scalars s) 65536 && nat_le (depth s) 100) s t e
 
-make-right : (p : SoFar) (word ordinal : ℕ) (parts : PartTypes) (size : Size) → is_within size ≡ true → (make p word ordinal parts size).faults ≡ []
-make-right p word ordinal parts size e = ap (λ b. (if b then right (made p ordinal parts size) else too_large p word).faults) e
+make_type-right : (p : KnownDeclarations) (word ordinal : ℕ) (parts : PartTypes) (size : Size) → is_within_limits size ≡ true → (make_type p word ordinal parts size).faults ≡ []
+make_type-right p word ordinal parts size e = ap (λ b. (if b then without_fault (made p ordinal parts size) else type_too_large p word).faults) e
 
 no-type : {A : Type 0} (o : Option (meant.Object Shape Signature)) (signature : Signature) (s : Shape) → signature_of o ≡ Some signature → type_of_name o ≡ Some s → A
 no-type None signature s e h = absurd (some-none s (sym h))
@@ -69,7 +69,7 @@ no-type (Some (meant.a_procedure p)) signature s e h = absurd (some-none s (sym 
 no-type (Some (meant.a_standard p)) signature s e h = absurd (some-none s (sym h))
 
 -- No fault is reported for a name that denotes a type.
-meant-right : (p : SoFar) (before : List Shape) (x : ℕ) (m : Option (Meaning TypeId)) (o : Option (meant.Object Shape Signature)) → MeansAlike (shape_in before) m o → (s : Shape) → type_of_name o ≡ Some s → (type_meant (facts_at p false) x m).faults ≡ []
+meant-right : (p : KnownDeclarations) (before : List Shape) (x : ℕ) (m : Option (Meaning TypeId)) (o : Option (meant.Object Shape Signature)) → KnownMeaningAgrees (shape_in before) m o → (s : Shape) → type_of_name o ≡ Some s → (type_by_meaning (facts_at p false) x m).faults ≡ []
 meant-right p before x None o a s h = refl
 meant-right p before x (Some (a_type t)) o a s h = refl
 meant-right p before x (Some (a_constant c)) o (v, reported, holds, scalar) s h = absurd (some-none s (sym h ∙ ap type_of_name holds))
@@ -77,29 +77,29 @@ meant-right p before x (Some (a_variable t)) o (u, reported, holds) s h = absurd
 meant-right p before x (Some (a_procedure fs)) o (signature, holds, formals) s h = no-type o signature s holds h
 
 -- No fault is reported for an array with a known length that isn't too large.
-array-right : (ordinal : ℕ) (o : Operand TypeId) (reported : Option ℕ) (count : ℕ) (u : so_far.TypedAfter) → reported ≡ Some count → is_within (array_size count (size_at u.following.made u.of)) ≡ true → (array_made ordinal o reported u).faults ≡ []
-array-right ordinal o reported count u e h = ap (λ c. (array_made ordinal o c u).faults) e ∙ make-right u.following _ ordinal (of_elements count u.of) (array_size count (size_at u.following.made u.of)) h
+array-right : (ordinal : ℕ) (o : Operand TypeId) (reported : Option ℕ) (count : ℕ) (u : so_far.TypeWithState) → reported ≡ Some count → is_within_limits (array_size count (size_at u.following.made u.of)) ≡ true → (made_array_type ordinal o reported u).faults ≡ []
+array-right ordinal o reported count u e h = ap (λ c. (made_array_type ordinal o c u).faults) e ∙ make_type-right u.following _ ordinal (of_elements count u.of) (array_size count (size_at u.following.made u.of)) h
 
 module _ (w : Numbering) (fit : PartsFit) (fine : PartsRight) (n : ℕ) (scope : Scope Name) (env : TypeEnvironment Name) where
-  abbrev here : Typed Name
-  here = meanings as_names env
+  abbrev here : TypeMeanings Name
+  here = meanings naming_by_spelling env
 
   mutual
     unfolding reported_type denoted
 
-    pub type_right : (around k : ℕ) (t : Tree ℕ written_type) (p : SoFar) (before : List Shape) → length before + around ≡ k → IsKnownAt w p before n scope env → AreSeen w scope t → (s : Shape) → denoted (meanings as_names env) k (named w.source t) ≡ Some s → (reported_type around p t).faults ≡ []
+    pub type_right : (around k : ℕ) (t : Tree ℕ written_type) (p : KnownDeclarations) (before : List Shape) → length before + around ≡ k → IsKnownAt w p before n scope env → AreSeen w scope t → (s : Shape) → denoted (meanings naming_by_spelling env) k (tree_with_names w.source t) ≡ Some s → (reported_type around p t).faults ≡ []
     type_right around k (named_type x) p before at st seen s h =
-        none-of-both (type_meant (facts_at p false) x ((facts_at p false).object_for x)).faults []
-        (meant-right p before x ((facts_at p false).object_for x) ((meanings as_names env).object_for (text_at w.source x)) (seen_holds w p false before n scope env st x seen.0) s h) refl
+        none-of-both (type_by_meaning (facts_at p false) x ((facts_at p false).object_for x)).faults []
+        (meant-right p before x ((facts_at p false).object_for x) ((meanings naming_by_spelling env).object_for (text_at w.source x)) (seen_holds w p false before n scope env st x seen.0) s h) refl
     type_right around k (array_type e u) p before at st seen s h =
         let parts = each_part (IsSeen w scope) (occurrences e) (occurrences u) seen in
-        let given : Option Shape = denoted here (suc k) (named w.source u) in
-        let value : Option Value = constant_value here (named w.source e) in
+        let given : Option Shape = denoted here (suc k) (tree_with_names w.source u) in
+        let value : Option Value = constant_value here (tree_with_names w.source e) in
         let (v, hv, later) = and-then (λ v. option_and_then (λ c. of_limits k c given) (array_length v)) value s h in
         let (c, hc, last) = and-then (λ c. of_limits k c given) (array_length v) s later in
         let o : Operand TypeId = (reported_expression (facts_at p true) e).known in
         let l : Reported (Option ℕ) = length_of (facts_at p false) o in
-        let el : Reported so_far.TypedAfter = reported_type (suc around) p u in
+        let el : Reported so_far.TypeWithState = reported_type (suc around) p u in
         let agrees = agrees_where_seen w p true before n scope env st fit e parts.0 in
         let there : is_some (option_and_then array_length (constant_value here (mapped (text_at w.source) (value_at p.source) e))) ≡ true =
         some-there (option_and_then array_length (constant_value here (mapped (text_at w.source) (value_at p.source) e))) c
@@ -109,48 +109,48 @@ module _ (w : Numbering) (fit : PartsFit) (fine : PartsRight) (n : ℕ) (scope :
         let long = fit.lengths p before (text_at w.source) here e agrees none in
         let known : value ≡ Some long.value = ap (λ z. constant_value here (mapped (text_at w.source) (value_at z) e)) (sym st.source) ∙ long.given in
         let limited : of_limits k long.length given ≡ Some s = sym (array_given k value long.value long.length given known long.counted) ∙ h in
-        let (r, hr, limits) = and-then (λ s. within_limits (array_shape k long.length s)) given s limited in
+        let (r, hr, limits) = and-then (λ s. check_limits (array_shape k long.length s)) given s limited in
         let inner = type_right (suc around) (suc k) u p before (omega (arith, at)) st parts.1 r hr in
         let d = type_denotes w fit n scope env (suc around) (suc k) u p before (omega (arith, at)) st parts.1 inner in
         let size = array_sized (size_at el.known.following.made el.known.of) k long.length d.shape (size_agrees el.known.following.made d.after el.known.of d.shape d.later.table d.known) in
-        let small = is-within (array_size long.length (size_at el.known.following.made el.known.of)) (array_shape k long.length d.shape) s size (given-again (λ s. within_limits (array_shape k long.length s)) given d.shape (Some s) d.given_is limited) in
+        let small = is-within (array_size long.length (size_at el.known.following.made el.known.of)) (array_shape k long.length d.shape) s size (given-again (λ s. check_limits (array_shape k long.length s)) given d.shape (Some s) d.given_is limited) in
         none-of-both (reported_expression (facts_at p true) e).faults _ a.0
-        (none-of-both l.faults _ a.1 (none-of-both el.faults (array_made (ordinal_here around p) o l.known el.known).faults inner (array-right (ordinal_here around p) o l.known long.length el.known long.known small)))
+        (none-of-both l.faults _ a.1 (none-of-both el.faults (made_array_type (next_type_ordinal around p) o l.known el.known).faults inner (array-right (next_type_ordinal around p) o l.known long.length el.known long.known small)))
     type_right around k (record_type g rest) p before at st seen s h =
         let parts = each_part (IsSeen w scope) (occurrences g) (occurrences rest) seen in
-        let c : ℕ = group_constructors (named w.source g) in
-        let d : ℕ = groups_constructors (named w.source rest) in
-        let own : FieldShapes → Option FieldShapes = λ ys. denoted_group here (suc k) ys (named w.source g) in
-        let others : Option FieldShapes = denoted_groups here (suc k + c) (named w.source rest) in
-        let (ys, hy, later) = and-then (λ ys. option_and_then (λ fs. within_limits (record_shape k fs)) (own ys)) others s h in
-        let (fs, hf, last) = and-then (λ fs. within_limits (record_shape k fs)) (own ys) s later in
-        let word : ℕ = word_before g (record_word rest) in
-        let first : Reported Gathered = reported_fields (suc around) (nothing_gathered p) g in
-        let all : Reported Gathered = reported_groups (suc around) first.known rest in
-        let none = group_right (suc around) (suc k) g (nothing_gathered p) before (omega (arith, at)) st parts.0 ys fs hf in
-        let one = group_gathers w fit n scope env (suc around) (suc k) g (nothing_gathered p) before no_field_shape (omega (arith, at)) st parts.0 (nothing_agrees before p) none in
+        let c : ℕ = group_constructor_count (tree_with_names w.source g) in
+        let d : ℕ = groups_constructor_count (tree_with_names w.source rest) in
+        let own : FieldShapes → Option FieldShapes = λ ys. denoted_group here (suc k) ys (tree_with_names w.source g) in
+        let others : Option FieldShapes = denoted_groups here (suc k + c) (tree_with_names w.source rest) in
+        let (ys, hy, later) = and-then (λ ys. option_and_then (λ fs. check_limits (record_shape k fs)) (own ys)) others s h in
+        let (fs, hf, last) = and-then (λ fs. check_limits (record_shape k fs)) (own ys) s later in
+        let word : ℕ = token_before_group g (record_keyword rest) in
+        let first : Reported KnownFields = reported_fields (suc around) (no_known_fields p) g in
+        let all : Reported KnownFields = reported_groups (suc around) first.known rest in
+        let none = group_right (suc around) (suc k) g (no_known_fields p) before (omega (arith, at)) st parts.0 ys fs hf in
+        let one = group_gathers w fit n scope env (suc around) (suc k) g (no_known_fields p) before no_field_shape (omega (arith, at)) st parts.0 (nothing_agrees before p) none in
         let following = holds_later w n n n p first.known.following before one.gathers.after scope env (le_refl n) (le_refl n) st one.gathers.later in
         let rests = groups_right (suc around) (suc k + c) rest first.known one.gathers.after one.own (omega (arith, at, one.gathers.apart.counted)) following parts.1 one.gathers.agrees ys hy in
         let other = groups_gather w fit n scope env (suc around) (suc k + c) rest first.known one.gathers.after one.own (omega (arith, at, one.gathers.apart.counted)) following parts.1 one.gathers.agrees rests in
         let whole = both_gather n p before (suc k) (suc k + c) (suc k + c + d) no_field_shape own first.known all.known others one other in
-        let limited : within_limits (record_shape k whole.own) ≡ Some s = given-again (λ fs. within_limits (record_shape k fs)) (option_and_then own others) whole.own (Some s) whole.given_is (grouped others own (λ fs. within_limits (record_shape k fs)) ∙ h) in
+        let limited : check_limits (record_shape k whole.own) ≡ Some s = given-again (λ fs. check_limits (record_shape k fs)) (option_and_then own others) whole.own (Some s) whole.given_is (grouped others own (λ fs. check_limits (record_shape k fs)) ∙ h) in
         let small = is-within (record_size all.known.size) (record_shape k whole.own) s (record_sized whole.gathers.after all.known k whole.own whole.gathers.agrees) limited in
-        none-of-both first.faults _ none (none-of-both all.faults (record_made word (ordinal_here around p) all.known).faults rests (make-right all.known.following word (ordinal_here around p) (so_far.of_fields all.known.fields) (record_size all.known.size) small))
+        none-of-both first.faults _ none (none-of-both all.faults (made_record_type word (next_type_ordinal around p) all.known).faults rests (make_type-right all.known.following word (next_type_ordinal around p) (so_far.of_fields all.known.fields) (record_size all.known.size) small))
 
-    group_right : (around k : ℕ) (t : Tree ℕ fields) (g : Gathered) (before : List Shape) → length before + around ≡ k → IsKnownAt w g.following before n scope env → AreSeen w scope t → (later fs : FieldShapes) → denoted_group (meanings as_names env) k later (named w.source t) ≡ Some fs → (reported_fields around g t).faults ≡ []
+    group_right : (around k : ℕ) (t : Tree ℕ fields) (g : KnownFields) (before : List Shape) → length before + around ≡ k → IsKnownAt w g.following before n scope env → AreSeen w scope t → (later fs : FieldShapes) → denoted_group (meanings naming_by_spelling env) k later (tree_with_names w.source t) ≡ Some fs → (reported_fields around g t).faults ≡ []
     group_right around k no_fields g before at st seen later fs h = refl
     group_right around k (some_fields ns t) g before at st seen later fs h =
-        let (s, hs, last) = and-then (λ s. Some (with_fields (map (λ x. x) (names_listed (named w.source ns))) s later)) (denoted here k (named w.source t)) fs h in
+        let (s, hs, last) = and-then (λ s. Some (prepend_fields (map (λ x. x) (names_in_list (tree_with_names w.source ns))) s later)) (denoted here k (tree_with_names w.source t)) fs h in
         none-of-both (reported_type around g.following t).faults [] (type_right around k t g.following before at st seen s hs) refl
 
-    groups_right : (around k : ℕ) (t : Tree ℕ (items further_fields)) (g : Gathered) (before : List Shape) (first : FieldShapes) → length before + around ≡ k → IsKnownAt w g.following before n scope env → AreSeen w scope t → GatheredAgrees before g first
-        → (fs : FieldShapes) → denoted_groups (meanings as_names env) k (named w.source t) ≡ Some fs → (reported_groups around g t).faults ≡ []
+    groups_right : (around k : ℕ) (t : Tree ℕ (items further_fields)) (g : KnownFields) (before : List Shape) (first : FieldShapes) → length before + around ≡ k → IsKnownAt w g.following before n scope env → AreSeen w scope t → GatheredAgrees before g first
+        → (fs : FieldShapes) → denoted_groups (meanings naming_by_spelling env) k (tree_with_names w.source t) ≡ Some fs → (reported_groups around g t).faults ≡ []
     groups_right around k end g before first at st seen agrees fs h = refl
     groups_right around k (more (then_fields f) rest) g before first at st seen agrees fs h =
         let parts = each_part (IsSeen w scope) (occurrences f) (occurrences rest) seen in
-        let c : ℕ = group_constructors (named w.source f) in
-        let next : Reported Gathered = reported_fields around g f in
-        let (ys, hy, hf) = and-then (λ ys. denoted_group here k ys (named w.source f)) (denoted_groups here (k + c) (named w.source rest)) fs h in
+        let c : ℕ = group_constructor_count (tree_with_names w.source f) in
+        let next : Reported KnownFields = reported_fields around g f in
+        let (ys, hy, hf) = and-then (λ ys. denoted_group here k ys (tree_with_names w.source f)) (denoted_groups here (k + c) (tree_with_names w.source rest)) fs h in
         let none = group_right around k f g before at st parts.0 ys fs hf in
         let one = group_gathers w fit n scope env around k f g before first at st parts.0 agrees none in
         let following = holds_later w n n n g.following next.known.following before one.gathers.after scope env (le_refl n) (le_refl n) st one.gathers.later in

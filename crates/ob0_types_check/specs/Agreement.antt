@@ -13,10 +13,10 @@ use Rattle.ob0_tree.specs.Tree.{Sort, Tree, identifiers}
 use Rattle.ob0_language_types.specs.Expressions as meant
 use Rattle.ob0_language_types.specs.Typing as typing
 use Rattle.ob0_language_types.specs.Typing.{shape_of_field, value_type}
-use Rattle.ob0_language_types.specs.WellTyped.{Signature, Typed, signature_of}
+use Rattle.ob0_language_types.specs.WellTyped.{Signature, TypeMeanings, signature_of}
 use Rattle.ob0_language_values.specs.Values.{FieldShapes, Shape, Value, array_shape, boolean_shape, integer_shape, next_field_shape, no_field_shape, record_shape}
 use Rattle.ob0_types_check.specs.Known.{Facts, Form, KnownFormal, Meaning, Types, a_constant, a_procedure, a_record, a_scalar, a_type, a_variable, an_array, unknown_form}
-use Rattle.ob0_types_check.specs.SoFar.{MadeType, PartTypes, FieldSoFar, of_elements, of_fields}
+use Rattle.ob0_types_check.specs.KnownDeclarations.{CompositeType, PartTypes, KnownField, of_elements, of_fields}
 
 -- Holds if a type's form has the same parts as a shape. `shape` returns the shape of a type, or
 -- None if the type is unknown. A scalar's form agrees with every shape.
@@ -70,13 +70,13 @@ MeaningAgrees shape (a_procedure fs) o =
     (signature : Signature) × (signature_of o ≡ Some signature) × FormalsAgree shape fs signature
 
 -- returns true for a predeclared procedure
-abbrev pub is_standard : Option (meant.Object Shape Signature) → Bool
-is_standard None = false
-is_standard (Some (meant.a_type s)) = false
-is_standard (Some (meant.a_constant v)) = false
-is_standard (Some (meant.a_variable s)) = false
-is_standard (Some (meant.a_procedure signature)) = false
-is_standard (Some (meant.a_standard p)) = true
+abbrev pub is_standard_procedure : Option (meant.Object Shape Signature) → Bool
+is_standard_procedure None = false
+is_standard_procedure (Some (meant.a_type s)) = false
+is_standard_procedure (Some (meant.a_constant v)) = false
+is_standard_procedure (Some (meant.a_variable s)) = false
+is_standard_procedure (Some (meant.a_procedure signature)) = false
+is_standard_procedure (Some (meant.a_standard p)) = true
 
 -- holds if the meaning of a declaration agrees with its object, or the declaration has neither
 abbrev pub DeclarationAgrees : (TypeId → Option Shape)
@@ -87,13 +87,13 @@ DeclarationAgrees shape None o = o ≡ None
 DeclarationAgrees shape (Some m) o = MeaningAgrees shape m o
 
 -- holds if a name has a meaning and this meaning agrees with the object
-abbrev pub MeansAlike : {T : Type 0}
+abbrev pub KnownMeaningAgrees : {T : Type 0}
     → (T → Option Shape)
     → Option (Meaning T)
     → Option (meant.Object Shape Signature)
     → Type 0
-MeansAlike shape None o = ⊥
-MeansAlike shape (Some m) o = MeaningAgrees shape m o
+KnownMeaningAgrees shape None o = ⊥
+KnownMeaningAgrees shape (Some m) o = MeaningAgrees shape m o
 
 -- Holds if the identifier at a token agrees with the label that another tree has in its place. A
 -- looked-up name must have a meaning that agrees with the label's object. A field's label must
@@ -102,12 +102,12 @@ abbrev pub TokenAgrees : {T N : Type 0}
     → Facts T
     → (T → Option Shape)
     → (ℕ → N)
-    → Typed N
+    → TypeMeanings N
     → Role
     → ℕ
     → Type 0
 TokenAgrees facts shape label meaning role.LookedUp x =
-    MeansAlike shape (facts.object_for x) (meaning.object_for (label x))
+    KnownMeaningAgrees shape (facts.object_for x) (meaning.object_for (label x))
 TokenAgrees facts shape label meaning role.FieldName x =
     meaning.written (label x) ≡ text_at facts.source x
 TokenAgrees facts shape label meaning role.Declaring x = Unit {0}
@@ -119,7 +119,7 @@ abbrev pub TokensAgree : {T N : Type 0}
     → Facts T
     → (T → Option Shape)
     → (ℕ → N)
-    → Typed N
+    → TypeMeanings N
     → List (Role × ℕ)
     → Type 0
 TokensAgree facts shape label meaning [] = Unit {0}
@@ -128,7 +128,7 @@ TokensAgree facts shape label meaning (x ∷ xs) =
 
 -- holds if the facts at a place agree with all names in a part of the tree, such as an expression or statements
 pub record Agrees
-    {T N : Type 0} (facts : Facts T) (shape : T → Option Shape) (label : ℕ → N) (meaning : Typed N)
+    {T N : Type 0} (facts : Facts T) (shape : T → Option Shape) (label : ℕ → N) (meaning : TypeMeanings N)
     {s : Sort} (t : Tree ℕ s) : Type 0 where
   pub types : TypesAgree facts.types shape
   pub tokens : TokensAgree facts shape label meaning (identifiers role.Declaring t)
@@ -157,7 +157,7 @@ shape_in shapes (type.Record i) = option_and_then as_record (slice_get shapes i)
 shape_in shapes type.Unknown = None
 
 -- holds if the fields found so far have the names and shapes of a record's fields, one by one
-abbrev pub FieldsAgree : (TypeId → Option Shape) → List FieldSoFar → FieldShapes → Type 0
+abbrev pub FieldsAgree : (TypeId → Option Shape) → List KnownField → FieldShapes → Type 0
 FieldsAgree shape [] no_field_shape = Unit {0}
 FieldsAgree shape [] (next_field_shape x s fs) = ⊥
 FieldsAgree shape (f ∷ fields) no_field_shape = ⊥
@@ -172,20 +172,20 @@ PartsAgree shape k (of_fields fields) s =
     (fs : FieldShapes) × (s ≡ record_shape k fs) × FieldsAgree shape fields fs
 
 -- holds if an array or record has the parts, the number of scalars and the depth of its shape
-pub record MadeAgrees (shape : TypeId → Option Shape) (m : MadeType) (s : Shape) : Type 0 where
+pub record CompositeAgrees (shape : TypeId → Option Shape) (m : CompositeType) (s : Shape) : Type 0 where
   pub parts : PartsAgree shape m.ordinal m.parts s
   pub scalars : m.size.scalars ≡ typing.scalars s
   pub depth : m.size.depth ≡ typing.depth s
 
 -- Holds if each array and record of the second list agrees with its shape in the third list, one by
 -- one. Their parts refer to the shapes before them; the first list has the shapes known so far.
-abbrev pub EachMade : List Shape → List MadeType → List Shape → Type 0
-EachMade known [] [] = Unit {0}
-EachMade known [] (s ∷ ss) = ⊥
-EachMade known (m ∷ ms) [] = ⊥
-EachMade known (m ∷ ms) (s ∷ ss) =
-    MadeAgrees (shape_in known) m s × EachMade (known ++ s ∷ []) ms ss
+abbrev pub EntriesAgree : List Shape → List CompositeType → List Shape → Type 0
+EntriesAgree known [] [] = Unit {0}
+EntriesAgree known [] (s ∷ ss) = ⊥
+EntriesAgree known (m ∷ ms) [] = ⊥
+EntriesAgree known (m ∷ ms) (s ∷ ss) =
+    CompositeAgrees (shape_in known) m s × EntriesAgree (known ++ s ∷ []) ms ss
 
 -- holds if each array and record of a table agrees with its shape, one by one
-abbrev pub TableAgrees : List MadeType → List Shape → Type 0
-TableAgrees made shapes = EachMade [] made shapes
+abbrev pub TableAgrees : List CompositeType → List Shape → Type 0
+TableAgrees made shapes = EntriesAgree [] made shapes

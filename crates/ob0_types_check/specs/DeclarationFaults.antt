@@ -4,65 +4,65 @@
 use Rattle.std.specs.Prelude.{ℕ, Bool, true, false, List, [], ◌++◌, map}
 use Rattle.std.specs.List.{filter}
 use Rattle.ob0_scan.specs.declared.fault.Fault.{Fault}
-use Rattle.ob0_language_names.specs.Parts.{formal_sections, module_block, names_listed, section_constants, section_types, section_variables}
-use Rattle.ob0_scope_table.specs.Resolution.{Resolution, is_of_occurrences}
+use Rattle.ob0_language_names.specs.Parts.{formal_sections, module_block, names_in_list, section_constants, section_types, section_variables}
+use Rattle.ob0_scope_table.specs.Resolution.{Resolution, is_undeclared_fault}
 use Rattle.ob0_types_table.specs.declared.types.TypeId.{TypeId}
-use Rattle.ob0_tree.specs.Parsed.{tree_of}
+use Rattle.ob0_tree.specs.ParsedModule.{tree_of}
 use Rattle.ob0_tree.specs.Tree.{Tree, begins, block, body, constant, declares, declares_constant, declares_procedure, declares_type, declares_variable, end, further_section, has_body, item, items, maybe, more, names, none, one, procedure, then_section, type_name, value_section, variable, variable_section, written_type}
 use Rattle.ob0_types_check.specs.Known.{KnownFormal, Reported, a_constant, a_procedure, a_type, a_variable}
-use Rattle.ob0_types_check.specs.Operations.{right, ◌>>=◌}
-use Rattle.ob0_types_check.specs.SoFar.{SoFar, TypedAfter, at_first, define, define_all, facts_at}
+use Rattle.ob0_types_check.specs.Operations.{without_fault, ◌>>=◌}
+use Rattle.ob0_types_check.specs.KnownDeclarations.{KnownDeclarations, TypeWithState, state_at_start, define, define_all, facts_at}
 use Rattle.ob0_types_check.specs.StatementFaults.{reported_sequence}
 use Rattle.ob0_types_check.specs.TypeFaults.{reported_constant}
 use Rattle.ob0_types_check.specs.WrittenTypeFaults.{reported_type}
 
 -- returns the faults of a constant's declaration, with the state after it, in which its name has a
 -- meaning
-unfoldable pub constant_declared : SoFar → Tree ℕ (item constant) → Reported SoFar
+unfoldable pub constant_declared : KnownDeclarations → Tree ℕ (item constant) → Reported KnownDeclarations
 unfolding reported_constant
 constant_declared p (declares_constant x e) = do
   v ← reported_constant (facts_at p true) e
-  right (define p (a_constant v) x)
+  without_fault (define p (a_constant v) x)
 
 -- returns the faults of constants, with the state after them; a constant is known to the
 -- declarations after it
-unfoldable pub reported_constants : SoFar → Tree ℕ (items constant) → Reported SoFar
+unfoldable pub reported_constants : KnownDeclarations → Tree ℕ (items constant) → Reported KnownDeclarations
 unfolding constant_declared
-reported_constants p end = right p
+reported_constants p end = without_fault p
 reported_constants p (more c rest) = do
   q ← constant_declared p c
   reported_constants q rest
 
 -- returns the faults of a type declaration, with the state after it, in which its name has a
 -- meaning
-unfoldable pub type_declared : SoFar → Tree ℕ (item type_name) → Reported SoFar
+unfoldable pub type_declared : KnownDeclarations → Tree ℕ (item type_name) → Reported KnownDeclarations
 unfolding reported_type
 type_declared p (declares_type x t) = do
   u ← reported_type 0 p t
-  right (define u.following (a_type u.of) x)
+  without_fault (define u.following (a_type u.of) x)
 
 -- returns the faults of type declarations, with the state after them; a type is known to the
 -- declarations after it
-unfoldable pub reported_types : SoFar → Tree ℕ (items type_name) → Reported SoFar
+unfoldable pub reported_types : KnownDeclarations → Tree ℕ (items type_name) → Reported KnownDeclarations
 unfolding type_declared
-reported_types p end = right p
+reported_types p end = without_fault p
 reported_types p (more d rest) = do
   q ← type_declared p d
   reported_types q rest
 
 -- returns the faults of a group of variables with one type, with the state after it, in which they
 -- have a meaning
-unfoldable pub variables_declared : SoFar → Tree ℕ (item variable) → Reported SoFar
+unfoldable pub variables_declared : KnownDeclarations → Tree ℕ (item variable) → Reported KnownDeclarations
 unfolding reported_type
 variables_declared p (declares_variable ns t) = do
   u ← reported_type 0 p t
-  right (define_all u.following (a_variable u.of) (names_listed ns))
+  without_fault (define_all u.following (a_variable u.of) (names_in_list ns))
 
 -- returns the faults of variables, with the state after them; a variable is known to the
 -- declarations after it
-unfoldable pub reported_variables : SoFar → Tree ℕ (items variable) → Reported SoFar
+unfoldable pub reported_variables : KnownDeclarations → Tree ℕ (items variable) → Reported KnownDeclarations
 unfolding variables_declared
-reported_variables p end = right p
+reported_variables p end = without_fault p
 reported_variables p (more g rest) = do
   q ← variables_declared p g
   reported_variables q rest
@@ -70,11 +70,11 @@ reported_variables p (more g rest) = do
 -- the parameters of a heading found so far, and the state after them
 pub record KnownHeading : Type 0 where
   pub formals : List (KnownFormal TypeId)
-  pub following : SoFar
+  pub following : KnownDeclarations
 
 -- Returns a heading with parameters of one type added. They are also declared as variables of the
 -- procedure. If the Bool is true, they are VAR parameters.
-abbrev pub with_parameters : KnownHeading → Bool → List ℕ → TypedAfter → KnownHeading
+abbrev pub with_parameters : KnownHeading → Bool → List ℕ → TypeWithState → KnownHeading
 with_parameters h by_place xs t =
     record {
       formals = h.formals ++ map (λ x. record { by_place = by_place; of = t.of }) xs;
@@ -91,7 +91,7 @@ unfoldable pub reported_parameters : KnownHeading
 unfolding reported_type
 reported_parameters h by_place ns t = do
   u ← reported_type 0 h.following t
-  right (with_parameters h by_place (names_listed ns) u)
+  without_fault (with_parameters h by_place (names_in_list ns) u)
 
 -- returns the faults of one section of parameters, with the heading that includes these parameters
 unfoldable pub reported_section : KnownHeading
@@ -106,20 +106,20 @@ unfoldable pub reported_sections : KnownHeading
     → Tree ℕ (items further_section)
     → Reported KnownHeading
 unfolding reported_section
-reported_sections h end = right h
+reported_sections h end = without_fault h
 reported_sections h (more s rest) = do
   g ← reported_section h s
   reported_sections g rest
 
 -- returns the state after a heading, in which the procedure `x` itself is declared, so that its own
 -- block knows it
-abbrev pub after_heading : ℕ → KnownHeading → SoFar
-after_heading x h = define h.following (a_procedure h.formals) x
+abbrev pub state_after_heading : ℕ → KnownHeading → KnownDeclarations
+state_after_heading x h = define h.following (a_procedure h.formals) x
 
 -- returns the faults of a body's statements, with the state before them, which they don't change
-unfoldable pub reported_body : SoFar → Tree ℕ (maybe body) → Reported SoFar
+unfoldable pub reported_body : KnownDeclarations → Tree ℕ (maybe body) → Reported KnownDeclarations
 unfolding reported_sequence
-reported_body p none = right p
+reported_body p none = without_fault p
 reported_body p (one (begins statements)) =
     record { known = p; faults = reported_sequence (facts_at p false) statements }
 
@@ -127,7 +127,7 @@ unfoldable mutual
   unfolding reported_constants reported_types reported_variables reported_sections reported_body
 
   -- returns the faults of a block: of its constants, types, variables, procedures, and then its statements
-  pub reported_block : SoFar → Tree ℕ block → Reported SoFar
+  pub reported_block : KnownDeclarations → Tree ℕ block → Reported KnownDeclarations
   reported_block p (has_body (declares cs ts vs ps) statements) = do
     with_constants ← reported_constants p (section_constants cs)
     with_types ← reported_types with_constants (section_types ts)
@@ -137,21 +137,21 @@ unfoldable mutual
 
   -- returns the faults of procedures, one after another; each procedure knows the earlier ones and
   -- itself
-  pub reported_procedures : SoFar → Tree ℕ (items procedure) → Reported SoFar
-  reported_procedures p end = right p
+  pub reported_procedures : KnownDeclarations → Tree ℕ (items procedure) → Reported KnownDeclarations
+  reported_procedures p end = without_fault p
   reported_procedures p (more d rest) = do
     q ← reported_procedure p d
     reported_procedures q rest
 
   -- returns the faults of a procedure: of its parameters, and then of its block
-  pub reported_procedure : SoFar → Tree ℕ (item procedure) → Reported SoFar
+  pub reported_procedure : KnownDeclarations → Tree ℕ (item procedure) → Reported KnownDeclarations
   reported_procedure p (declares_procedure x fs b closing) = do
     h ← reported_sections (record { formals = []; following = p }) (formal_sections fs)
-    reported_block (after_heading x h) b
+    reported_block (state_after_heading x h) b
 
 -- returns the undeclared names of a module in text order, and then its faults of types
 unfoldable pub reported_module : Resolution → List Fault
 unfolding reported_block
 reported_module r =
-    filter is_of_occurrences r.faults
-    ++ (reported_block (at_first r) (module_block (tree_of r.module_read))).faults
+    filter is_undeclared_fault r.faults
+    ++ (reported_block (state_at_start r) (module_block (tree_of r.module_read))).faults

@@ -4,7 +4,7 @@
 use Rattle.std.specs.Prelude.{ℕ}
 use Rattle.ob0_tree.specs.Tree.{Tree, addend, adds, compares, designator, end, expression, factor, field, index, integer, item, items, more, multiplier, multiplies, negation, none, one, parenthesised, product, relates, selector, simple, sum, term}
 use Rattle.ob0_types_check.specs.Known.{Facts, Operand, Reported}
-use Rattle.ob0_types_check.specs.Operations.{a_number, add_operands, complement_operand, element_selected, enclosed, field_selected, multiply_operands, name_operand, relate_operands, right, sign_operand, ◌>>=◌}
+use Rattle.ob0_types_check.specs.Operations.{number_operand, add_operands, complement_operand, element_operand, operand_in_parentheses, field_operand, multiply_operands, name_operand, relate_operands, without_fault, sign_operand, ◌>>=◌}
 
 unfoldable mutual
   -- returns the faults of an expression, and its operand: first its sides, then the relation between them
@@ -29,7 +29,7 @@ unfoldable mutual
       → Operand T
       → Tree ℕ (items addend)
       → Reported (Operand T)
-  reported_addends facts x end = right x
+  reported_addends facts x end = without_fault x
   reported_addends facts x (more (adds o t) rest) = do
     y ← reported_term facts t
     z ← add_operands facts o x y
@@ -47,7 +47,7 @@ unfoldable mutual
       → Operand T
       → Tree ℕ (items multiplier)
       → Reported (Operand T)
-  reported_multipliers facts x end = right x
+  reported_multipliers facts x end = without_fault x
   reported_multipliers facts x (more (multiplies o f) rest) = do
     y ← reported_factor facts f
     z ← multiply_operands facts o x y
@@ -59,10 +59,10 @@ unfoldable mutual
   reported_factor facts (designator x path) = do
     base ← name_operand facts x
     reported_selectors facts base path
-  reported_factor facts (integer n) = right (a_number facts n)
+  reported_factor facts (integer n) = without_fault (number_operand facts n)
   reported_factor facts (parenthesised e) = do
     x ← reported_expression facts e
-    right (enclosed facts x)
+    without_fault (operand_in_parentheses facts x)
   reported_factor facts (negation f) = do
     x ← reported_factor facts f
     complement_operand facts x
@@ -74,13 +74,13 @@ unfoldable mutual
       → Operand T
       → Tree ℕ (items selector)
       → Reported (Operand T)
-  reported_selectors facts x end = right x
+  reported_selectors facts x end = without_fault x
   reported_selectors facts x (more (field n) rest) = do
-    y ← field_selected facts x n
+    y ← field_operand facts x n
     reported_selectors facts y rest
   reported_selectors facts x (more (index e) rest) = do
     i ← reported_expression facts e
-    y ← element_selected facts x i
+    y ← element_operand facts x i
     reported_selectors facts y rest
 
 -- returns the faults of one selector applied to an operand, with the resulting operand
@@ -90,5 +90,5 @@ unfoldable pub reported_selector : {T : Type 0}
     → Tree ℕ (item selector)
     → Reported (Operand T)
 unfolding reported_expression
-reported_selector facts x (field n) = field_selected facts x n
-reported_selector facts x (index e) = reported_expression facts e >>= element_selected facts x
+reported_selector facts x (field n) = field_operand facts x n
+reported_selector facts x (index e) = reported_expression facts e >>= element_operand facts x

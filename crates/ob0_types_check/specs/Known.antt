@@ -3,7 +3,7 @@
 -- Rule: docs/LANGUAGE.md, Faults of scopes and types 2.
 use Rattle.std.specs.Prelude.{ℕ, Bool, List, Option}
 use Rattle.ob0_scan.specs.declared.fault.Fault.{Fault}
-use Rattle.ob0_scan.specs.Scanned.{Scanned}
+use Rattle.ob0_scan.specs.TextWithTokens.{TextWithTokens}
 use Rattle.ob0_language_names.specs.Names.{Name}
 use Rattle.ob0_language_values.specs.Values.{Value}
 
@@ -39,7 +39,7 @@ pub data Meaning (T : Type 0) : Type 0 where
 -- The facts at a place of a text. A name is identified by its token. If `only_constants` is true, names may only refer
 -- to constants.
 pub record Facts (T : Type 0) : Type 0 where
-  pub source : Scanned
+  pub source : TextWithTokens
   pub types : Types T
   pub object_for : ℕ → Option (Meaning T)
   pub only_constants : Bool

@@ -3,14 +3,14 @@ pub mod Operations
 pub mod ExpressionFaults
 pub mod StatementFaults
 pub mod TypeFaults
-pub mod SoFar
+pub mod KnownDeclarations
 pub mod WrittenTypeFaults
 pub mod DeclarationFaults
-pub mod SupposedFacts
+pub mod CheckerFacts
 pub mod Agreement
 pub mod ReportLaws
 pub mod WellTypedLaws
 pub mod ModuleLaws
-pub mod AlikeBut
+pub mod EqualExceptBodies
 pub mod SomeBodies
 pub mod NewBody

@@ -1,20 +1,20 @@
 -- Laws about the report of a module: if nothing is reported, the module fits and each declaration is known.
 -- Rule: none; laws of reported faults.
 use Rattle.std.specs.Prelude.{◌≡◌, ℕ, ◌<◌, ◌≤◌, true, false, List, [], None, length, slice_index_or}
-use Rattle.ob0_language_names.specs.Names.{Name, as_labels, as_names}
+use Rattle.ob0_language_names.specs.Names.{Name, naming_by_label, naming_by_spelling}
 use Rattle.ob0_language_names.specs.Parts.{module_block}
 use Rattle.ob0_language_names.specs.Scopes.{predeclared_count}
 use Rattle.ob0_scope_table.specs.Resolution.{IsResolution, Resolution}
-use Rattle.ob0_tree.specs.Parsed.{named_tree_of, tree_of}
+use Rattle.ob0_tree.specs.ParsedModule.{named_tree_of, tree_of}
 use Rattle.ob0_tree.specs.Tree.{Tree, module_text}
-use Rattle.ob0_language_types.specs.Bindings.{declared_object, object_bound}
+use Rattle.ob0_language_types.specs.Bindings.{declared_object, bound_object}
 use Rattle.ob0_language_types.specs.Environments.{outermost}
 use Rattle.ob0_language_types.specs.WellTyped.{fits_over}
-use Rattle.ob0_types_table.specs.KnownTables.{Tables, declared_in}
+use Rattle.ob0_types_table.specs.KnownTables.{Tables, declared_object_in}
 use Rattle.ob0_language_values.specs.Values.{Shape}
-use Rattle.ob0_types_check.specs.Agreement.{DeclarationAgrees, TableAgrees, is_standard, shape_in}
+use Rattle.ob0_types_check.specs.Agreement.{DeclarationAgrees, TableAgrees, is_standard_procedure, shape_in}
 use Rattle.ob0_types_check.specs.DeclarationFaults.{reported_block, reported_module}
-use Rattle.ob0_types_check.specs.SoFar.{SoFar, at_first}
+use Rattle.ob0_types_check.specs.KnownDeclarations.{KnownDeclarations, state_at_start}
 
 -- A module fits if no fault of types and no undeclared name is reported.
 abbrev pub ModulesFit : Type 0
@@ -22,23 +22,23 @@ ModulesFit =
     (r : Resolution)
     → IsResolution r
     → reported_module r ≡ []
-    → fits_over as_names (named_tree_of r.module_read) ≡ true
+    → fits_over naming_by_spelling (named_tree_of r.module_read) ≡ true
 
 -- Holds if the state after a module agrees with its declarations. Its arrays and records agree with shapes, and each
 -- ordinal has the meaning of its declaration. The predeclared names, including the standard procedures, have the
 -- ordinals below 7.
-pub record KnowsDeclarations (p : SoFar) (m : Tree Name module_text) : Type 0 where
+pub record KnowsDeclarations (p : KnownDeclarations) (m : Tree Name module_text) : Type 0 where
   pub shapes : List Shape
   pub table : TableAgrees p.made shapes
   pub declared : (k : ℕ)
       → DeclarationAgrees (shape_in shapes) (slice_index_or p.declared k None) (declared_object m k)
-  pub standards : (k : ℕ) → predeclared_count ≤ k → is_standard (declared_object m k) ≡ false
-  pub predeclared : (k : ℕ) → k < predeclared_count → declared_object m k ≡ object_bound (outermost as_labels) k
+  pub standards : (k : ℕ) → predeclared_count ≤ k → is_standard_procedure (declared_object m k) ≡ false
+  pub predeclared : (k : ℕ) → k < predeclared_count → declared_object m k ≡ bound_object (outermost naming_by_label) k
   pub room : predeclared_count ≤ length p.declared
 
 -- holds if a table has the object of each declaration of a module
 abbrev pub HasDeclarations : Tree Name module_text → Tables → Type 0
-HasDeclarations m t = (k : ℕ) → declared_in t k ≡ declared_object m k
+HasDeclarations m t = (k : ℕ) → declared_object_in t k ≡ declared_object m k
 
 -- If no fault of types and no undeclared name is reported for a module, the state after it has the meaning of each
 -- declaration.
@@ -47,5 +47,5 @@ DeclarationsKnown =
     (r : Resolution)
     → IsResolution r
     → reported_module r ≡ []
-    → KnowsDeclarations (reported_block (at_first r) (module_block (tree_of r.module_read))).known
+    → KnowsDeclarations (reported_block (state_at_start r) (module_block (tree_of r.module_read))).known
     (named_tree_of r.module_read)

@@ -1,10 +1,10 @@
 -- The requirements of operations, names and selectors: their faults and their resulting operands.
 -- Rule: docs/LANGUAGE.md, Types 2, 3, Faults of scopes and types 3, 5.
 use Rattle.std.specs.Prelude.{◌≡◌, ℕ, ◌+◌, ◌-◌, nat_lt, Bool, true, false, ◌||◌, List, [], ◌∷◌, ◌++◌, length, if◌then◌else◌, Option, Some, None, option_and_then, pos}
-use Rattle.ob0_scan.specs.declared.fault.Code.{Code}
-use Rattle.ob0_scan.specs.declared.fault.Code.TheVariants as code
+use Rattle.ob0_scan.specs.declared.fault.FaultCode.{FaultCode}
+use Rattle.ob0_scan.specs.declared.fault.FaultCode.TheVariants as code
 use Rattle.ob0_scan.specs.declared.fault.Fault.{Fault}
-use Rattle.ob0_scan.specs.Scanned.{Scanned}
+use Rattle.ob0_scan.specs.TextWithTokens.{TextWithTokens}
 use Rattle.ob0_tree.specs.declared.tree.AddOperator.{AddOperator}
 use Rattle.ob0_tree.specs.declared.tree.AddOperator.TheVariants as add_operator
 use Rattle.ob0_tree.specs.declared.tree.MultiplyOperator.{MultiplyOperator}
@@ -15,25 +15,25 @@ use Rattle.ob0_tree.specs.declared.tree.Sign.{Sign}
 use Rattle.ob0_tree.specs.Places.{text_at, value_at}
 use Rattle.ob0_scope_table.specs.Resolution.{span_at}
 use Rattle.ob0_types_table.specs.Operators.{product_value, sum_value}
-use Rattle.ob0_language_types.specs.Selected.{both}
-use Rattle.ob0_language_types.specs.Typing.{given_value}
+use Rattle.ob0_language_types.specs.Selected.{apply_to_both}
+use Rattle.ob0_language_types.specs.Typing.{outcome_value}
 use Rattle.ob0_language_values.specs.Values.{Value, elements, members, negate, number, relate, truth}
 use Rattle.ob0_language_values.specs.Values.{apply_sign as with_sign}
 use Rattle.ob0_types_check.specs.Known.{Facts, Form, Meaning, Operand, Reported, Types, a_constant, a_procedure, a_record, a_scalar, a_type, a_variable, an_array, unknown_form}
 
 -- returns a result with its faults, preceded by the faults `before`
-abbrev pub preceded_by : {A : Type 0} → List Fault → Reported A → Reported A
-preceded_by before t = record { known = t.known; faults = before ++ t.faults }
+abbrev pub with_earlier_faults : {A : Type 0} → List Fault → Reported A → Reported A
+with_earlier_faults before t = record { known = t.known; faults = before ++ t.faults }
 
 -- returns `x` as a result without faults
-abbrev pub right : {A : Type 0} → A → Reported A
-right x = record { known = x; faults = [] }
+abbrev pub without_fault : {A : Type 0} → A → Reported A
+without_fault x = record { known = x; faults = [] }
 
 infixl 20 ◌>>=◌
 -- Applies `next` to the result of the first step. The faults of the first step come first, then the
 -- faults of `next`.
 abbrev pub ◌>>=◌ : {A B : Type 0} → Reported A → (A → Reported B) → Reported B
-t >>= next = preceded_by t.faults (next t.known)
+t >>= next = with_earlier_faults t.faults (next t.known)
 
 -- holds if `x` is the result of `t`, and `after` is the list `before` followed by the faults of `t`
 pub record ReportsAfter
@@ -46,11 +46,11 @@ abbrev pub token_before : ℕ → ℕ
 token_before token = token - 1
 
 -- returns the token after this one; the end of the text is returned unchanged
-abbrev pub token_after : Scanned → ℕ → ℕ
+abbrev pub token_after : TextWithTokens → ℕ → ℕ
 token_after source token = if nat_lt token (length source.tokens) then token + 1 else token
 
 -- returns a fault whose span extends from the start of one token to the end of another
-abbrev pub fault_between : Scanned → Code → ℕ → ℕ → Fault
+abbrev pub fault_between : TextWithTokens → FaultCode → ℕ → ℕ → Fault
 fault_between source c first last =
     record {
       code = c;
@@ -58,16 +58,16 @@ fault_between source c first last =
     }
 
 -- returns a list of one fault, whose span extends from one token to another
-abbrev pub at_tokens : {T : Type 0} → Facts T → Code → ℕ → ℕ → List Fault
-at_tokens facts c first last = fault_between facts.source c first last ∷ []
+abbrev pub fault_at_tokens : {T : Type 0} → Facts T → FaultCode → ℕ → ℕ → List Fault
+fault_at_tokens facts c first last = fault_between facts.source c first last ∷ []
 
 -- returns a list of one fault, whose span is one token
-abbrev pub at_token : {T : Type 0} → Facts T → Code → ℕ → List Fault
-at_token facts c token = at_tokens facts c token token
+abbrev pub fault_at_token : {T : Type 0} → Facts T → FaultCode → ℕ → List Fault
+fault_at_token facts c token = fault_at_tokens facts c token token
 
 -- returns a list of one fault, whose span is the whole operand
-abbrev pub at_operand : {T : Type 0} → Facts T → Code → Operand T → List Fault
-at_operand facts c o = at_tokens facts c o.first o.last
+abbrev pub fault_at_operand : {T : Type 0} → Facts T → FaultCode → Operand T → List Fault
+fault_at_operand facts c o = fault_at_tokens facts c o.first o.last
 
 -- returns true if two types are equal or one of them is unknown
 abbrev pub fits : {T : Type 0} → Types T → T → T → Bool
@@ -76,56 +76,56 @@ fits types s t = types.same s t || (types.same s types.unknown || types.same t t
 -- Requires the type `wanted` of an operand. The operand is reported if its type is known and
 -- differs from a known `wanted`. The result is `wanted` if the operand has this type, otherwise the
 -- unknown type.
-abbrev pub required : {T : Type 0} → Facts T → T → Operand T → Reported T
-required facts wanted o = record {
+abbrev pub required_type : {T : Type 0} → Facts T → T → Operand T → Reported T
+required_type facts wanted o = record {
   known = if facts.types.same o.of wanted then wanted else facts.types.unknown;
-  faults = if fits facts.types o.of wanted then [] else at_operand facts code.TypeMismatch o;
+  faults = if fits facts.types o.of wanted then [] else fault_at_operand facts code.TypeMismatch o;
 }
 
 -- Requires the type `wanted` of two operands. The left operand is reported if its type doesn't fit,
 -- otherwise the right operand if its type doesn't fit. The result is `wanted` if both have this
 -- type, otherwise the unknown type.
-abbrev pub required_both : {T : Type 0} → Facts T → T → Operand T → Operand T → Reported T
-required_both facts wanted a b =
+abbrev pub required_type_of_both : {T : Type 0} → Facts T → T → Operand T → Operand T → Reported T
+required_type_of_both facts wanted a b =
     if fits facts.types a.of wanted
     then record {
       known = if facts.types.same a.of wanted
-          then (required facts wanted b).known
+          then (required_type facts wanted b).known
           else facts.types.unknown;
-      faults = (required facts wanted b).faults;
+      faults = (required_type facts wanted b).faults;
     }
-    else record { known = facts.types.unknown; faults = at_operand facts code.TypeMismatch a }
+    else record { known = facts.types.unknown; faults = fault_at_operand facts code.TypeMismatch a }
 
 -- returns the type that an operator requires of both operands: INTEGER for `+` and `-`, BOOLEAN for OR
-abbrev pub required_by_add : {T : Type 0} → Types T → AddOperator → T
-required_by_add types add_operator.Add = types.integer
-required_by_add types add_operator.Subtract = types.integer
-required_by_add types add_operator.Or = types.boolean
+abbrev pub add_operand_type : {T : Type 0} → Types T → AddOperator → T
+add_operand_type types add_operator.Add = types.integer
+add_operand_type types add_operator.Subtract = types.integer
+add_operand_type types add_operator.Or = types.boolean
 
 -- returns the type that an operator requires of both operands: INTEGER for `*`, DIV and MOD, BOOLEAN for `&`
-abbrev pub required_by_multiply : {T : Type 0} → Types T → MultiplyOperator → T
-required_by_multiply types multiply_operator.Multiply = types.integer
-required_by_multiply types multiply_operator.Divide = types.integer
-required_by_multiply types multiply_operator.Modulo = types.integer
-required_by_multiply types multiply_operator.And = types.boolean
+abbrev pub multiply_operand_type : {T : Type 0} → Types T → MultiplyOperator → T
+multiply_operand_type types multiply_operator.Multiply = types.integer
+multiply_operand_type types multiply_operator.Divide = types.integer
+multiply_operand_type types multiply_operator.Modulo = types.integer
+multiply_operand_type types multiply_operator.And = types.boolean
 
 -- Returns the type that `=` and `#` require of both operands: INTEGER if the left operand is
 -- INTEGER, otherwise BOOLEAN. If the left operand's type is unknown, the result is unknown, so
 -- nothing is required.
-abbrev pub required_by_equality : {T : Type 0} → Types T → T → T
-required_by_equality types left =
+abbrev pub equality_operand_type : {T : Type 0} → Types T → T → T
+equality_operand_type types left =
     if types.same left types.integer then types.integer
     else if types.same left types.unknown then types.unknown else types.boolean
 
 -- Returns the type that a relation requires of both operands, given the left operand's type. For
 -- all relations except `=` and `#` the result is INTEGER.
-abbrev pub required_by_relation : {T : Type 0} → Types T → Relation → T → T
-required_by_relation types relation.Equal left = required_by_equality types left
-required_by_relation types relation.NotEqual left = required_by_equality types left
-required_by_relation types relation.Less left = types.integer
-required_by_relation types relation.LessEqual left = types.integer
-required_by_relation types relation.Greater left = types.integer
-required_by_relation types relation.GreaterEqual left = types.integer
+abbrev pub relation_operand_type : {T : Type 0} → Types T → Relation → T → T
+relation_operand_type types relation.Equal left = equality_operand_type types left
+relation_operand_type types relation.NotEqual left = equality_operand_type types left
+relation_operand_type types relation.Less left = types.integer
+relation_operand_type types relation.LessEqual left = types.integer
+relation_operand_type types relation.Greater left = types.integer
+relation_operand_type types relation.GreaterEqual left = types.integer
 
 -- returns the type of a comparison, given the type that both operands have: BOOLEAN, or unknown if
 -- this type is unknown
@@ -139,8 +139,8 @@ joint_operand of value a b =
     record { of = of; value = value; is_place = false; first = a.first; last = b.last }
 
 -- returns the operand for a sign or `~` before the operand `o`, with the type `of` and this value
-abbrev pub after_sign : {T : Type 0} → T → Option Value → Operand T → Operand T
-after_sign of value o =
+abbrev pub signed_operand : {T : Type 0} → T → Option Value → Operand T → Operand T
+signed_operand of value o =
     record { of = of; value = value; is_place = false; first = token_before o.first; last = o.last }
 
 -- returns the faults of `+`, `-` and OR, and the resulting operand
@@ -151,8 +151,8 @@ abbrev pub add_operands : {T : Type 0}
     → Operand T
     → Reported (Operand T)
 add_operands facts o a b = do
-  t ← required_both facts (required_by_add facts.types o) a b
-  right (joint_operand t (option_and_then (sum_value o b.value) a.value) a b)
+  t ← required_type_of_both facts (add_operand_type facts.types o) a b
+  without_fault (joint_operand t (option_and_then (sum_value o b.value) a.value) a b)
 
 -- returns the faults of `*`, DIV, MOD and `&`, and the resulting operand
 abbrev pub multiply_operands : {T : Type 0}
@@ -162,8 +162,8 @@ abbrev pub multiply_operands : {T : Type 0}
     → Operand T
     → Reported (Operand T)
 multiply_operands facts o a b = do
-  t ← required_both facts (required_by_multiply facts.types o) a b
-  right (joint_operand t (option_and_then (product_value o b.value) a.value) a b)
+  t ← required_type_of_both facts (multiply_operand_type facts.types o) a b
+  without_fault (joint_operand t (option_and_then (product_value o b.value) a.value) a b)
 
 -- returns the faults of a relation, and the resulting operand
 abbrev pub relate_operands : {T : Type 0}
@@ -173,26 +173,26 @@ abbrev pub relate_operands : {T : Type 0}
     → Operand T
     → Reported (Operand T)
 relate_operands facts r a b = do
-  t ← required_both facts (required_by_relation facts.types r a.of) a b
-  right (joint_operand (comparison_type facts.types t)
-      (both (λ x y. given_value (relate r x y)) a.value b.value) a b)
+  t ← required_type_of_both facts (relation_operand_type facts.types r a.of) a b
+  without_fault (joint_operand (comparison_type facts.types t)
+      (apply_to_both (λ x y. outcome_value (relate r x y)) a.value b.value) a b)
 
 -- returns the faults of a sign, which requires INTEGER, and the resulting operand
 abbrev pub sign_operand : {T : Type 0} → Facts T → Option Sign → Operand T → Reported (Operand T)
-sign_operand facts None o = right o
+sign_operand facts None o = without_fault o
 sign_operand facts (Some s) o = do
-  t ← required facts facts.types.integer o
-  right (after_sign t (option_and_then (λ x. given_value (with_sign (Some s) x)) o.value) o)
+  t ← required_type facts facts.types.integer o
+  without_fault (signed_operand t (option_and_then (λ x. outcome_value (with_sign (Some s) x)) o.value) o)
 
 -- returns the faults of `~`, which requires BOOLEAN, and the resulting operand
 abbrev pub complement_operand : {T : Type 0} → Facts T → Operand T → Reported (Operand T)
 complement_operand facts o = do
-  t ← required facts facts.types.boolean o
-  right (after_sign t (option_and_then (λ x. given_value (negate x)) o.value) o)
+  t ← required_type facts facts.types.boolean o
+  without_fault (signed_operand t (option_and_then (λ x. outcome_value (negate x)) o.value) o)
 
 -- returns the operand of a number at this token
-abbrev pub a_number : {T : Type 0} → Facts T → ℕ → Operand T
-a_number facts token =
+abbrev pub number_operand : {T : Type 0} → Facts T → ℕ → Operand T
+number_operand facts token =
     record {
       of = facts.types.integer;
       value = Some (number (pos (value_at facts.source token)));
@@ -202,8 +202,8 @@ a_number facts token =
     }
 
 -- returns the operand of an expression in parentheses, given the operand between them
-abbrev pub enclosed : {T : Type 0} → Facts T → Operand T → Operand T
-enclosed facts o =
+abbrev pub operand_in_parentheses : {T : Type 0} → Facts T → Operand T → Operand T
+operand_in_parentheses facts o =
     record {
       of = o.of;
       value = o.value;
@@ -214,8 +214,8 @@ enclosed facts o =
 
 -- Returns the operand of a name with this type at a token. The name is a variable's or has no known
 -- meaning, so the operand counts as a place.
-abbrev pub a_name : {T : Type 0} → T → ℕ → Operand T
-a_name of token = record { of = of; value = None; is_place = true; first = token; last = token }
+abbrev pub typed_name_operand : {T : Type 0} → T → ℕ → Operand T
+typed_name_operand of token = record { of = of; value = None; is_place = true; first = token; last = token }
 
 -- returns the type of a constant with this value: INTEGER or BOOLEAN, and unknown without a scalar value
 abbrev pub value_type : {T : Type 0} → Types T → Option Value → T
@@ -227,30 +227,30 @@ value_type types (Some (members k ms)) = types.unknown
 
 -- returns the operand of a constant's name at a token; None means that the constant has no known
 -- value
-abbrev pub a_constant_name : {T : Type 0} → Types T → Option Value → ℕ → Operand T
-a_constant_name types v token =
+abbrev pub constant_name_operand : {T : Type 0} → Types T → Option Value → ℕ → Operand T
+constant_name_operand types v token =
     record { of = value_type types v; value = v; is_place = false; first = token; last = token }
 
 -- Returns the operand of a name that must refer to a value. A type or a procedure is a fault, and in a constant
 -- expression also a variable. Undeclared names are reported elsewhere.
-abbrev pub named_value : {T : Type 0} → Facts T → ℕ → Option (Meaning T) → Reported (Operand T)
-named_value facts token None = right (a_name facts.types.unknown token)
-named_value facts token (Some (a_constant v)) = right (a_constant_name facts.types v token)
-named_value facts token (Some (a_variable t)) =
+abbrev pub operand_by_meaning : {T : Type 0} → Facts T → ℕ → Option (Meaning T) → Reported (Operand T)
+operand_by_meaning facts token None = without_fault (typed_name_operand facts.types.unknown token)
+operand_by_meaning facts token (Some (a_constant v)) = without_fault (constant_name_operand facts.types v token)
+operand_by_meaning facts token (Some (a_variable t)) =
     if facts.only_constants
     then record
-    { known = a_name facts.types.unknown token; faults = at_token facts code.NotConstant token }
-    else right (a_name t token)
-named_value facts token (Some (a_type t)) =
+    { known = typed_name_operand facts.types.unknown token; faults = fault_at_token facts code.NotConstant token }
+    else without_fault (typed_name_operand t token)
+operand_by_meaning facts token (Some (a_type t)) =
     record
-    { known = a_name facts.types.unknown token; faults = at_token facts code.WrongKind token }
-named_value facts token (Some (a_procedure fs)) =
+    { known = typed_name_operand facts.types.unknown token; faults = fault_at_token facts code.WrongKind token }
+operand_by_meaning facts token (Some (a_procedure fs)) =
     record
-    { known = a_name facts.types.unknown token; faults = at_token facts code.WrongKind token }
+    { known = typed_name_operand facts.types.unknown token; faults = fault_at_token facts code.WrongKind token }
 
 -- returns the operand of the name at a token that must refer to a value
 abbrev pub name_operand : {T : Type 0} → Facts T → ℕ → Reported (Operand T)
-name_operand facts token = named_value facts token (facts.object_for token)
+name_operand facts token = operand_by_meaning facts token (facts.object_for token)
 
 -- returns the operand for the part of a designator up to the token `last`, with the type `of` and
 -- no constant value
@@ -259,49 +259,49 @@ part_of o of last =
     record { of = of; value = None; is_place = o.is_place; first = o.first; last = last }
 
 -- returns the type of a record's field with the name at a token; reports `NoField` if there is none
-abbrev pub found_field : {T : Type 0} → Facts T → ℕ → Option T → Reported T
-found_field facts token None =
-    record { known = facts.types.unknown; faults = at_token facts code.NoField token }
-found_field facts token (Some t) = right t
+abbrev pub found_field_type : {T : Type 0} → Facts T → ℕ → Option T → Reported T
+found_field_type facts token None =
+    record { known = facts.types.unknown; faults = fault_at_token facts code.NoField token }
+found_field_type facts token (Some t) = without_fault t
 
 -- Returns the type of the field with the name at a token, given the form of the type before the
 -- `.`. If that type is known and not a record, `NotRecord` is reported at the `.`.
-abbrev pub field_in : {T : Type 0} → Facts T → ℕ → Form T → Reported T
-field_in facts token (a_record fields) =
-    found_field facts token (fields (text_at facts.source token))
-field_in facts token unknown_form = right facts.types.unknown
-field_in facts token a_scalar =
+abbrev pub field_type_in_form : {T : Type 0} → Facts T → ℕ → Form T → Reported T
+field_type_in_form facts token (a_record fields) =
+    found_field_type facts token (fields (text_at facts.source token))
+field_type_in_form facts token unknown_form = without_fault facts.types.unknown
+field_type_in_form facts token a_scalar =
     record
-    { known = facts.types.unknown; faults = at_token facts code.NotRecord (token_before token) }
-field_in facts token (an_array t) =
+    { known = facts.types.unknown; faults = fault_at_token facts code.NotRecord (token_before token) }
+field_type_in_form facts token (an_array t) =
     record
-    { known = facts.types.unknown; faults = at_token facts code.NotRecord (token_before token) }
+    { known = facts.types.unknown; faults = fault_at_token facts code.NotRecord (token_before token) }
 
 -- returns the faults of selecting the field with the name at a token, with the operand of the whole
 -- designator
-abbrev pub field_selected : {T : Type 0} → Facts T → Operand T → ℕ → Reported (Operand T)
-field_selected facts o token = do
-  t ← field_in facts token (facts.types.form o.of)
-  right (part_of o t token)
+abbrev pub field_operand : {T : Type 0} → Facts T → Operand T → ℕ → Reported (Operand T)
+field_operand facts o token = do
+  t ← field_type_in_form facts token (facts.types.form o.of)
+  without_fault (part_of o t token)
 
 -- Returns the type of an element, given the index's operand, the index's type `of`, and the form of
 -- the indexed type. The result is unknown if the index isn't INTEGER. If the indexed type is known
 -- and not an array, `NotArray` is reported at the `[`.
-abbrev pub element_in : {T : Type 0} → Facts T → Operand T → T → Form T → Reported T
-element_in facts i of (an_array t) =
-    right (if facts.types.same of facts.types.integer then t else facts.types.unknown)
-element_in facts i of unknown_form = right facts.types.unknown
-element_in facts i of a_scalar =
+abbrev pub element_type_in_form : {T : Type 0} → Facts T → Operand T → T → Form T → Reported T
+element_type_in_form facts i of (an_array t) =
+    without_fault (if facts.types.same of facts.types.integer then t else facts.types.unknown)
+element_type_in_form facts i of unknown_form = without_fault facts.types.unknown
+element_type_in_form facts i of a_scalar =
     record
-    { known = facts.types.unknown; faults = at_token facts code.NotArray (token_before i.first) }
-element_in facts i of (a_record fields) =
+    { known = facts.types.unknown; faults = fault_at_token facts code.NotArray (token_before i.first) }
+element_type_in_form facts i of (a_record fields) =
     record
-    { known = facts.types.unknown; faults = at_token facts code.NotArray (token_before i.first) }
+    { known = facts.types.unknown; faults = fault_at_token facts code.NotArray (token_before i.first) }
 
 -- Returns the faults of the index `i` applied to the operand `o`, with the operand of the whole
 -- designator. The index must be INTEGER even if `o` isn't an array.
-abbrev pub element_selected : {T : Type 0} → Facts T → Operand T → Operand T → Reported (Operand T)
-element_selected facts o i = do
-  n ← required facts facts.types.integer i
-  t ← element_in facts i n (facts.types.form o.of)
-  right (part_of o t (token_after facts.source i.last))
+abbrev pub element_operand : {T : Type 0} → Facts T → Operand T → Operand T → Reported (Operand T)
+element_operand facts o i = do
+  n ← required_type facts facts.types.integer i
+  t ← element_type_in_form facts i n (facts.types.form o.of)
+  without_fault (part_of o t (token_after facts.source i.last))

@@ -4,21 +4,21 @@ use Rattle.std.specs.Prelude.{◌≡◌, ℕ, Bool, true, false, List, [], Optio
 use Rattle.ob0_tree.specs.Places.{value_at}
 use Rattle.ob0_tree.specs.Tree.{Tree, expression, mapped, sequence}
 use Rattle.ob0_language_types.specs.Expressions.{Meanings, evaluate}
-use Rattle.ob0_language_types.specs.Typing.{array_length, constant_value, constants_only, lone_designator, given_value, type_of, value_type}
-use Rattle.ob0_language_types.specs.WellTyped.{Typed, sequence_fits, variable_type}
+use Rattle.ob0_language_types.specs.Typing.{array_length, constant_value, constant_meanings, lone_designator, outcome_value, type_of, value_type}
+use Rattle.ob0_language_types.specs.WellTyped.{TypeMeanings, sequence_fits, variable_type}
 use Rattle.ob0_language_values.specs.Values.{Shape, Value}
 use Rattle.ob0_types_check.specs.ExpressionFaults.{reported_expression}
 use Rattle.ob0_types_check.specs.Known.{Operand}
 use Rattle.ob0_types_check.specs.Operations.{◌>>=◌}
-use Rattle.ob0_types_check.specs.SoFar.{MadeType, SoFar, facts_at, types_at}
+use Rattle.ob0_types_check.specs.KnownDeclarations.{CompositeType, KnownDeclarations, facts_at, types_so_far}
 use Rattle.ob0_types_check.specs.StatementFaults.{reported_sequence}
 use Rattle.ob0_types_check.specs.TypeFaults.{length_of, reported_constant}
 use Rattle.ob0_types_check.specs.Agreement.{Agrees, TableAgrees, TypesAgree, shape_in}
 
 -- returns the meanings of names at a place; if the Bool is true, only constants have a meaning
-abbrev pub meaning_here : {N : Type 0} → Bool → Typed N → Typed N
-meaning_here true meaning = constants_only meaning
-meaning_here false meaning = meaning
+abbrev pub allowed_meanings : {N : Type 0} → Bool → TypeMeanings N → TypeMeanings N
+allowed_meanings true meaning = constant_meanings meaning
+allowed_meanings false meaning = meaning
 
 -- Holds if an operand has the type of its expression, and the value that the expression has as a
 -- constant. A value has the operand's type.
@@ -28,23 +28,23 @@ pub record OperandFits
   pub of : Shape
   pub known : shape o.of ≡ Some of
   pub typed : type_of meaning e ≡ Some of
-  pub valued : o.value ≡ given_value (evaluate {P = Unit {0}} (constants_only meaning) [] e)
+  pub valued : o.value ≡ outcome_value (evaluate {P = Unit {0}} (constant_meanings meaning) [] e)
   pub scalar : (v : Value) → o.value ≡ Some v → value_type v ≡ Some of
   pub placed : o.is_place ≡ true → variable_type meaning (lone_designator e) ≡ Some of
 
 -- If no fault is reported for an expression, its operand agrees with the expression.
 abbrev pub ExpressionsFit : Type 0 → Type 0
 ExpressionsFit N =
-    (p : SoFar) (only_constants : Bool) (shapes : List Shape) (label : ℕ → N) (meaning : Typed N)
+    (p : KnownDeclarations) (only_constants : Bool) (shapes : List Shape) (label : ℕ → N) (meaning : TypeMeanings N)
     (e : Tree ℕ expression)
     → Agrees (facts_at p only_constants) (shape_in shapes) label meaning e
     → (reported_expression (facts_at p only_constants) e).faults ≡ []
-    → OperandFits (shape_in shapes) (meaning_here only_constants meaning)
+    → OperandFits (shape_in shapes) (allowed_meanings only_constants meaning)
     (reported_expression (facts_at p only_constants) e).known (mapped label (value_at p.source) e)
 
 -- holds if the reported value of a constant's right side is its value, which is a scalar
 pub record ConstantFits
-    {N : Type 0} (meaning : Typed N) (reported : Option Value) (e : Tree N expression)
+    {N : Type 0} (meaning : TypeMeanings N) (reported : Option Value) (e : Tree N expression)
     : Type 0 where
   pub value : Value
   pub known : reported ≡ Some value
@@ -54,7 +54,7 @@ pub record ConstantFits
 -- If no fault is reported for a constant's right side, the reported value is the value of that expression.
 abbrev pub ConstantsFit : Type 0 → Type 0
 ConstantsFit N =
-    (p : SoFar) (shapes : List Shape) (label : ℕ → N) (meaning : Typed N) (e : Tree ℕ expression)
+    (p : KnownDeclarations) (shapes : List Shape) (label : ℕ → N) (meaning : TypeMeanings N) (e : Tree ℕ expression)
     → Agrees (facts_at p true) (shape_in shapes) label meaning e
     → (reported_constant (facts_at p true) e).faults ≡ []
     → ConstantFits meaning (reported_constant (facts_at p true) e).known
@@ -63,7 +63,7 @@ ConstantsFit N =
 -- holds if the reported length of an array is the value of the length's expression, and is a valid
 -- length
 pub record LengthFits
-    {N : Type 0} (meaning : Typed N) (reported : Option ℕ) (e : Tree N expression) : Type 0 where
+    {N : Type 0} (meaning : TypeMeanings N) (reported : Option ℕ) (e : Tree N expression) : Type 0 where
   pub value : Value
   pub length : ℕ
   pub known : reported ≡ Some length
@@ -74,7 +74,7 @@ pub record LengthFits
 -- expression.
 abbrev pub LengthsFit : Type 0 → Type 0
 LengthsFit N =
-    (p : SoFar) (shapes : List Shape) (label : ℕ → N) (meaning : Typed N) (e : Tree ℕ expression)
+    (p : KnownDeclarations) (shapes : List Shape) (label : ℕ → N) (meaning : TypeMeanings N) (e : Tree ℕ expression)
     → Agrees (facts_at p true) (shape_in shapes) label meaning e
     → (reported_expression (facts_at p true) e >>= length_of (facts_at p false)).faults ≡ []
     → LengthFits meaning
@@ -84,15 +84,15 @@ LengthsFit N =
 -- Statements are well-typed if no fault is reported for them.
 abbrev pub StatementsFit : Type 0 → Type 0
 StatementsFit N =
-    (p : SoFar) (shapes : List Shape) (label : ℕ → N) (meaning : Typed N)
+    (p : KnownDeclarations) (shapes : List Shape) (label : ℕ → N) (meaning : TypeMeanings N)
     (statements : Tree ℕ sequence)
     → Agrees (facts_at p false) (shape_in shapes) label meaning statements
     → reported_sequence (facts_at p false) statements ≡ []
     → sequence_fits meaning (mapped label (value_at p.source) statements) ≡ true
 
 -- If each array and record agrees with its shape, every type agrees with its shape.
-abbrev pub TypesOfTables : Type 0
-TypesOfTables =
-    (made : List MadeType) (shapes : List Shape)
+abbrev pub TableTypesAgree : Type 0
+TableTypesAgree =
+    (made : List CompositeType) (shapes : List Shape)
     → TableAgrees made shapes
-    → TypesAgree (types_at made) (shape_in shapes)
+    → TypesAgree (types_so_far made) (shape_in shapes)

@@ -2,18 +2,18 @@
 -- part by part from left to right.
 -- Rule: docs/LANGUAGE.md, Types 2, 5, Faults of scopes and types 5, 7 to 9.
 use Rattle.std.specs.Prelude.{ℕ, nat_eq, ◌&&◌, not, List, [], ◌∷◌, ◌++◌, length, Option, Some, None, if◌then◌else◌}
-use Rattle.ob0_scan.specs.declared.fault.Code.TheVariants as code
+use Rattle.ob0_scan.specs.declared.fault.FaultCode.TheVariants as code
 use Rattle.ob0_scan.specs.declared.fault.Fault.{Fault}
 use Rattle.ob0_tree.specs.Tree.{Tree, assigns, branches, calls, else_branch, else_part, elsif_branch, elsif_part, empty, end, expression, further_statement, items, maybe, more, none, one, repeat_loop, runs, selector, sequence, statement, then_statement, while_loop}
 use Rattle.ob0_language_types.specs.Arguments.{arguments_listed}
 use Rattle.ob0_types_check.specs.Known.{Facts, KnownFormal, Meaning, Operand, Reported, a_constant, a_procedure, a_type, a_variable}
 use Rattle.ob0_types_check.specs.ExpressionFaults.{reported_expression, reported_selectors}
-use Rattle.ob0_types_check.specs.Operations.{a_name, required, at_operand, at_token, right, ◌>>=◌}
+use Rattle.ob0_types_check.specs.Operations.{typed_name_operand, required_type, fault_at_operand, fault_at_token, without_fault, ◌>>=◌}
 
 -- returns the faults of an expression that must have the type `wanted`
 unfoldable pub reported_required : {T : Type 0} → Facts T → T → Tree ℕ expression → List Fault
 unfolding reported_expression
-reported_required facts wanted e = (reported_expression facts e >>= required facts wanted).faults
+reported_required facts wanted e = (reported_expression facts e >>= required_type facts wanted).faults
 
 -- returns the faults of a condition, which must be BOOLEAN
 abbrev pub reported_condition : {T : Type 0} → Facts T → Tree ℕ expression → List Fault
@@ -22,20 +22,20 @@ reported_condition facts e = reported_required facts facts.types.boolean e
 -- Returns the type of the name that is assigned to, given its token and its meaning. The name must
 -- be a variable's or parameter's. For any other name the type is unknown, so its selectors and the
 -- right side may have any type.
-abbrev pub target_by_meaning : {T : Type 0} → Facts T → ℕ → Option (Meaning T) → Reported T
-target_by_meaning facts token (Some (a_variable t)) = right t
-target_by_meaning facts token (Some (a_constant v)) =
-    record { known = facts.types.unknown; faults = at_token facts code.NotVariable token }
-target_by_meaning facts token (Some (a_type t)) =
-    record { known = facts.types.unknown; faults = at_token facts code.WrongKind token }
-target_by_meaning facts token (Some (a_procedure fs)) =
-    record { known = facts.types.unknown; faults = at_token facts code.WrongKind token }
-target_by_meaning facts token None = right facts.types.unknown
+abbrev pub target_type_by_meaning : {T : Type 0} → Facts T → ℕ → Option (Meaning T) → Reported T
+target_type_by_meaning facts token (Some (a_variable t)) = without_fault t
+target_type_by_meaning facts token (Some (a_constant v)) =
+    record { known = facts.types.unknown; faults = fault_at_token facts code.NotVariable token }
+target_type_by_meaning facts token (Some (a_type t)) =
+    record { known = facts.types.unknown; faults = fault_at_token facts code.WrongKind token }
+target_type_by_meaning facts token (Some (a_procedure fs)) =
+    record { known = facts.types.unknown; faults = fault_at_token facts code.WrongKind token }
+target_type_by_meaning facts token None = without_fault facts.types.unknown
 
 -- returns the type of the assigned name at a token, with its fault if it isn't a variable's or
 -- parameter's
-abbrev pub target_meaning : {T : Type 0} → Facts T → ℕ → Reported T
-target_meaning facts token = target_by_meaning facts token (facts.object_for token)
+abbrev pub target_name_type : {T : Type 0} → Facts T → ℕ → Reported T
+target_name_type facts token = target_type_by_meaning facts token (facts.object_for token)
 
 -- returns the faults of an assignment's target with its selectors, and its operand
 unfoldable pub reported_target : {T : Type 0}
@@ -45,8 +45,8 @@ unfoldable pub reported_target : {T : Type 0}
     → Reported (Operand T)
 unfolding reported_expression
 reported_target facts x path = do
-  t ← target_meaning facts x
-  reported_selectors facts (a_name t x) path
+  t ← target_name_type facts x
+  reported_selectors facts (typed_name_operand t x) path
 
 -- returns the faults of an assignment's target, and then of its right side, which must have the
 -- type of the target
@@ -59,11 +59,11 @@ reported_assignment facts target e = target.faults ++ reported_required facts ta
 
 -- Requires of an argument the type of its parameter. For a VAR parameter the argument must also be
 -- a variable with its selectors; otherwise only `NotVariable` is reported.
-abbrev pub passed : {T : Type 0} → Facts T → KnownFormal T → Operand T → Reported T
-passed facts f o =
+abbrev pub required_of_argument : {T : Type 0} → Facts T → KnownFormal T → Operand T → Reported T
+required_of_argument facts f o =
     if f.by_place && not o.is_place
-    then record { known = facts.types.unknown; faults = at_operand facts code.NotVariable o }
-    else required facts f.of o
+    then record { known = facts.types.unknown; faults = fault_at_operand facts code.NotVariable o }
+    else required_type facts f.of o
 
 -- returns the faults of an argument, including a mismatch with its parameter
 unfoldable pub reported_argument : {T : Type 0}
@@ -72,7 +72,7 @@ unfoldable pub reported_argument : {T : Type 0}
     → Tree ℕ expression
     → List Fault
 unfolding reported_expression
-reported_argument facts f e = (reported_expression facts e >>= passed facts f).faults
+reported_argument facts f e = (reported_expression facts e >>= required_of_argument facts f).faults
 
 -- returns the faults of arguments, each checked with the parameter at its index; surplus arguments
 -- or parameters are ignored
@@ -87,35 +87,35 @@ reported_arguments facts (f ∷ fs) (e ∷ es) =
     reported_argument facts f e ++ reported_arguments facts fs es
 
 -- returns the faults of arguments that may have any type
-abbrev pub reported_parts : {T : Type 0} → Facts T → List (Tree ℕ expression) → List Fault
-reported_parts facts [] = []
-reported_parts facts (e ∷ es) = (reported_expression facts e).faults ++ reported_parts facts es
+abbrev pub reported_untyped_arguments : {T : Type 0} → Facts T → List (Tree ℕ expression) → List Fault
+reported_untyped_arguments facts [] = []
+reported_untyped_arguments facts (e ∷ es) = (reported_expression facts e).faults ++ reported_untyped_arguments facts es
 
 -- Returns the faults of a call of the name at token `p`, given the name's meaning. A procedure
 -- needs as many arguments as it has parameters; otherwise only their number is reported. If the
 -- name isn't a procedure's, the arguments may have any type. An undeclared name is reported
 -- elsewhere.
-abbrev pub call_by_meaning : {T : Type 0}
+abbrev pub reported_call_by_meaning : {T : Type 0}
     → Facts T
     → ℕ
     → Option (Meaning T)
     → List (Tree ℕ expression)
     → List Fault
-call_by_meaning facts p (Some (a_procedure fs)) es =
+reported_call_by_meaning facts p (Some (a_procedure fs)) es =
     if nat_eq (length fs) (length es)
     then reported_arguments facts fs es
-    else at_token facts code.ArgumentCount p
-call_by_meaning facts p (Some (a_type t)) es =
-    at_token facts code.WrongKind p ++ reported_parts facts es
-call_by_meaning facts p (Some (a_constant v)) es =
-    at_token facts code.WrongKind p ++ reported_parts facts es
-call_by_meaning facts p (Some (a_variable t)) es =
-    at_token facts code.WrongKind p ++ reported_parts facts es
-call_by_meaning facts p None es = reported_parts facts es
+    else fault_at_token facts code.ArgumentCount p
+reported_call_by_meaning facts p (Some (a_type t)) es =
+    fault_at_token facts code.WrongKind p ++ reported_untyped_arguments facts es
+reported_call_by_meaning facts p (Some (a_constant v)) es =
+    fault_at_token facts code.WrongKind p ++ reported_untyped_arguments facts es
+reported_call_by_meaning facts p (Some (a_variable t)) es =
+    fault_at_token facts code.WrongKind p ++ reported_untyped_arguments facts es
+reported_call_by_meaning facts p None es = reported_untyped_arguments facts es
 
 -- returns the faults of a call of the name at a token
 abbrev pub reported_call : {T : Type 0} → Facts T → ℕ → List (Tree ℕ expression) → List Fault
-reported_call facts p es = call_by_meaning facts p (facts.object_for p) es
+reported_call facts p es = reported_call_by_meaning facts p (facts.object_for p) es
 
 unfoldable mutual
   unfolding reported_required reported_target reported_argument

@@ -3,19 +3,19 @@
 -- Rule: docs/LANGUAGE.md, Types 8; laws of reported faults.
 use Rattle.std.specs.Prelude.{◌≡◌, ℕ, Bool, true, false, [], List, Option, Some, None, option_and_then, is_some, slice_get}
 use Rattle.std.specs.List.{filter}
-use Rattle.ob0_language_names.specs.Names.{as_names}
-use Rattle.ob0_scope_table.specs.Resolution.{IsResolution, Resolution, is_of_occurrences}
-use Rattle.ob0_tree.specs.Parsed.{named_tree_of}
+use Rattle.ob0_language_names.specs.Names.{naming_by_spelling}
+use Rattle.ob0_scope_table.specs.Resolution.{IsResolution, Resolution, is_undeclared_fault}
+use Rattle.ob0_tree.specs.ParsedModule.{named_tree_of}
 use Rattle.ob0_tree.specs.Places.{value_at}
 use Rattle.ob0_tree.specs.Tree.{Tree, designator, expression, items, mapped, selector, sequence}
 use Rattle.ob0_language_types.specs.Typing.{array_length, constant_value, type_of}
-use Rattle.ob0_language_types.specs.WellTyped.{Typed, fits_over, sequence_fits, variable_type}
+use Rattle.ob0_language_types.specs.WellTyped.{TypeMeanings, fits_over, sequence_fits, variable_type}
 use Rattle.ob0_language_values.specs.Values.{Shape, array_shape, boolean_shape, integer_shape, record_shape}
 use Rattle.ob0_types_check.specs.DeclarationFaults.{reported_module}
 use Rattle.ob0_types_check.specs.ExpressionFaults.{reported_expression}
 use Rattle.ob0_types_check.specs.Operations.{◌>>=◌}
-use Rattle.ob0_types_check.specs.ReportLaws.{meaning_here}
-use Rattle.ob0_types_check.specs.SoFar.{SoFar, facts_at}
+use Rattle.ob0_types_check.specs.ReportLaws.{allowed_meanings}
+use Rattle.ob0_types_check.specs.KnownDeclarations.{KnownDeclarations, facts_at}
 use Rattle.ob0_types_check.specs.StatementFaults.{reported_sequence, reported_target}
 use Rattle.ob0_types_check.specs.TypeFaults.{length_of, reported_constant}
 use Rattle.ob0_types_check.specs.Agreement.{Agrees, shape_in}
@@ -23,17 +23,17 @@ use Rattle.ob0_types_check.specs.Agreement.{Agrees, shape_in}
 -- No fault is reported for an expression that has a type.
 abbrev pub NoFaultInExpressions : Type 0 → Type 0
 NoFaultInExpressions N =
-    (p : SoFar) (only_constants : Bool) (shapes : List Shape) (label : ℕ → N) (meaning : Typed N)
+    (p : KnownDeclarations) (only_constants : Bool) (shapes : List Shape) (label : ℕ → N) (meaning : TypeMeanings N)
     (e : Tree ℕ expression)
     → Agrees (facts_at p only_constants) (shape_in shapes) label meaning e
-    → is_some (type_of (meaning_here only_constants meaning) (mapped label (value_at p.source) e))
+    → is_some (type_of (allowed_meanings only_constants meaning) (mapped label (value_at p.source) e))
     ≡ true
     → (reported_expression (facts_at p only_constants) e).faults ≡ []
 
 -- No fault is reported for a constant expression that has a value.
 abbrev pub NoFaultInConstants : Type 0 → Type 0
 NoFaultInConstants N =
-    (p : SoFar) (shapes : List Shape) (label : ℕ → N) (meaning : Typed N) (e : Tree ℕ expression)
+    (p : KnownDeclarations) (shapes : List Shape) (label : ℕ → N) (meaning : TypeMeanings N) (e : Tree ℕ expression)
     → Agrees (facts_at p true) (shape_in shapes) label meaning e
     → is_some (constant_value meaning (mapped label (value_at p.source) e)) ≡ true
     → (reported_constant (facts_at p true) e).faults ≡ []
@@ -41,7 +41,7 @@ NoFaultInConstants N =
 -- No fault is reported for a valid array length.
 abbrev pub NoFaultInLengths : Type 0 → Type 0
 NoFaultInLengths N =
-    (p : SoFar) (shapes : List Shape) (label : ℕ → N) (meaning : Typed N) (e : Tree ℕ expression)
+    (p : KnownDeclarations) (shapes : List Shape) (label : ℕ → N) (meaning : TypeMeanings N) (e : Tree ℕ expression)
     → Agrees (facts_at p true) (shape_in shapes) label meaning e
     → is_some
     (option_and_then array_length (constant_value meaning (mapped label (value_at p.source) e)))
@@ -51,31 +51,31 @@ NoFaultInLengths N =
 -- No fault is reported for an assignment's target that is a variable or parameter with its selectors.
 abbrev pub NoFaultInTargets : Type 0 → Type 0
 NoFaultInTargets N =
-    (p : SoFar) (shapes : List Shape) (label : ℕ → N) (meaning : Typed N) (x : ℕ)
+    (p : KnownDeclarations) (shapes : List Shape) (label : ℕ → N) (meaning : TypeMeanings N) (x : ℕ)
     (path : Tree ℕ (items selector))
     → Agrees (facts_at p false) (shape_in shapes) label meaning (designator x path)
     → is_some (variable_type meaning (Some (label x, mapped label (value_at p.source) path))) ≡ true
     → (reported_target (facts_at p false) x path).faults ≡ []
 
 -- returns the ordinal of the word ARRAY or RECORD that makes a type; None for a scalar type
-abbrev pub constructor_of : Shape → Option ℕ
-constructor_of integer_shape = None
-constructor_of boolean_shape = None
-constructor_of (array_shape k n s) = Some k
-constructor_of (record_shape k fs) = Some k
+abbrev pub constructor_ordinal : Shape → Option ℕ
+constructor_ordinal integer_shape = None
+constructor_ordinal boolean_shape = None
+constructor_ordinal (array_shape k n s) = Some k
+constructor_ordinal (record_shape k fs) = Some k
 
 -- holds if no two entries of the list are made by the same word ARRAY or RECORD
-abbrev pub EachOnce : List Shape → Type 0
-EachOnce shapes =
+abbrev pub HaveDistinctConstructors : List Shape → Type 0
+HaveDistinctConstructors shapes =
     (i j k : ℕ) (s t : Shape) → slice_get shapes i ≡ Some s → slice_get shapes j ≡ Some t
-    → constructor_of s ≡ Some k → constructor_of t ≡ Some k → i ≡ j
+    → constructor_ordinal s ≡ Some k → constructor_ordinal t ≡ Some k → i ≡ j
 
 -- No fault is reported for well-typed statements, if each word ARRAY and RECORD makes one type.
 abbrev pub NoFaultInStatements : Type 0 → Type 0
 NoFaultInStatements N =
-    (p : SoFar) (shapes : List Shape) (label : ℕ → N) (meaning : Typed N)
+    (p : KnownDeclarations) (shapes : List Shape) (label : ℕ → N) (meaning : TypeMeanings N)
     (statements : Tree ℕ sequence)
-    → EachOnce shapes
+    → HaveDistinctConstructors shapes
     → Agrees (facts_at p false) (shape_in shapes) label meaning statements
     → sequence_fits meaning (mapped label (value_at p.source) statements) ≡ true
     → reported_sequence (facts_at p false) statements ≡ []
@@ -85,13 +85,13 @@ abbrev pub NamesBound : Type 0
 NamesBound =
     (r : Resolution)
     → IsResolution r
-    → fits_over as_names (named_tree_of r.module_read) ≡ true
-    → filter is_of_occurrences r.faults ≡ []
+    → fits_over naming_by_spelling (named_tree_of r.module_read) ≡ true
+    → filter is_undeclared_fault r.faults ≡ []
 
 -- No undeclared name and no fault of types is reported for a well-typed module.
 abbrev pub NoFaultInModules : Type 0
 NoFaultInModules =
     (r : Resolution)
     → IsResolution r
-    → fits_over as_names (named_tree_of r.module_read) ≡ true
+    → fits_over naming_by_spelling (named_tree_of r.module_read) ≡ true
     → reported_module r ≡ []

@@ -2,16 +2,16 @@
 -- to right, and then `TypeTooLarge` for the whole type.
 -- Rule: docs/LANGUAGE.md, Faults of scopes and types 2, 4, 10, `TypeTooLarge`.
 use Rattle.std.specs.Prelude.{ℕ, suc, ◌+◌, ◌*◌, max, true, false, List, [], ◌∷◌, ◌++◌, length, Option, Some, None}
-use Rattle.ob0_language_names.specs.Parts.{names_listed}
+use Rattle.ob0_language_names.specs.Parts.{names_in_list}
 use Rattle.ob0_types_table.specs.declared.types.TypeId.{TypeId}
 use Rattle.ob0_types_table.specs.declared.types.TypeId.TheVariants as type
 use Rattle.ob0_tree.specs.Places.{text_at}
 use Rattle.ob0_tree.specs.Tree.{Tree, array_type, end, fields, further_fields, item, items, listed, more, named_type, names, no_fields, record_type, some_fields, then_fields, written_type}
 use Rattle.ob0_types_check.specs.ExpressionFaults.{reported_expression}
 use Rattle.ob0_types_check.specs.Known.{Operand, Reported}
-use Rattle.ob0_types_check.specs.Operations.{right, token_before, ◌>>=◌}
-use Rattle.ob0_types_check.specs.SoFar.{Size, SoFar, TypedAfter, FieldSoFar, facts_at, make, no_scalar, of_elements, of_fields, size_at}
-use Rattle.ob0_types_check.specs.TypeFaults.{length_of, type_named}
+use Rattle.ob0_types_check.specs.Operations.{without_fault, token_before, ◌>>=◌}
+use Rattle.ob0_types_check.specs.KnownDeclarations.{Size, KnownDeclarations, TypeWithState, KnownField, facts_at, make_type, empty_size, of_elements, of_fields, size_at}
+use Rattle.ob0_types_check.specs.TypeFaults.{length_of, type_named_at}
 
 -- returns the size of an array of `n` elements that each have this size
 abbrev pub array_size : ℕ → Size → Size
@@ -19,53 +19,53 @@ array_size n z = record { scalars = z.scalars * n; depth = z.depth + 1 }
 
 -- Returns the ordinal of the next word ARRAY or RECORD. Each word makes one type, and inner types are made first. So,
 -- if nothing is reported, the ordinal is the number of types made before plus the number of words around it.
-abbrev pub ordinal_here : ℕ → SoFar → ℕ
-ordinal_here around p = length p.made + around
+abbrev pub next_type_ordinal : ℕ → KnownDeclarations → ℕ
+next_type_ordinal around p = length p.made + around
 
 -- Makes an array type, given the ordinal of its word, the operand and value of its length, and its
 -- element type. If the length has a fault (None), the array's type is unknown, although its element
 -- type has been checked. The word ARRAY is before the length.
-abbrev pub array_made : ℕ → Operand TypeId → Option ℕ → TypedAfter → Reported TypedAfter
-array_made ordinal o None element =
-    right (record { of = type.Unknown; following = element.following })
-array_made ordinal o (Some n) element =
-    make element.following (token_before o.first) ordinal (of_elements n element.of)
+abbrev pub made_array_type : ℕ → Operand TypeId → Option ℕ → TypeWithState → Reported TypeWithState
+made_array_type ordinal o None element =
+    without_fault (record { of = type.Unknown; following = element.following })
+made_array_type ordinal o (Some n) element =
+    make_type element.following (token_before o.first) ordinal (of_elements n element.of)
     (array_size n (size_at element.following.made element.of))
 
 -- the fields of a record so far, their total size, and the state after them
-pub record Gathered : Type 0 where
-  pub fields : List FieldSoFar
+pub record KnownFields : Type 0 where
+  pub fields : List KnownField
   pub size : Size
-  pub following : SoFar
+  pub following : KnownDeclarations
 
 -- returns the state before the first field of a record, with no fields and no scalars
-abbrev pub nothing_gathered : SoFar → Gathered
-nothing_gathered p = record { fields = []; size = no_scalar; following = p }
+abbrev pub no_known_fields : KnownDeclarations → KnownFields
+no_known_fields p = record { fields = []; size = empty_size; following = p }
 
 -- returns the size of two parts next to each other
-abbrev pub beside : Size → Size → Size
-beside z w = record { scalars = z.scalars + w.scalars; depth = max z.depth w.depth }
+abbrev pub sum_of_sizes : Size → Size → Size
+sum_of_sizes z w = record { scalars = z.scalars + w.scalars; depth = max z.depth w.depth }
 
 -- Returns the fields so far with one more field of this type added, whose name is at the token. The
 -- size of its type is added to the total size.
-abbrev pub with_name : TypeId → Gathered → ℕ → Gathered
-with_name t g token =
+abbrev pub with_known_field : TypeId → KnownFields → ℕ → KnownFields
+with_known_field t g token =
     record {
       fields = g.fields ++ record { name = text_at g.following.source token; of = t } ∷ [];
-      size = beside g.size (size_at g.following.made t);
+      size = sum_of_sizes g.size (size_at g.following.made t);
       following = g.following;
     }
 
 -- Returns the fields so far with a field of this type added for each of these name tokens.
-abbrev pub with_field_names : TypeId → Gathered → List ℕ → Gathered
-with_field_names t g [] = g
-with_field_names t g (x ∷ xs) = with_field_names t (with_name t g x) xs
+abbrev pub with_known_fields : TypeId → KnownFields → List ℕ → KnownFields
+with_known_fields t g [] = g
+with_known_fields t g (x ∷ xs) = with_known_fields t (with_known_field t g x) xs
 
 -- Returns the fields so far with the fields of one group added. The arguments are the fields so
 -- far, the group's name tokens, and the group's type with the state after it.
-abbrev pub gathered_after : Gathered → List ℕ → TypedAfter → Gathered
-gathered_after g xs t =
-    with_field_names t.of (record { fields = g.fields; size = g.size; following = t.following }) xs
+abbrev pub with_field_group : KnownFields → List ℕ → TypeWithState → KnownFields
+with_field_group g xs t =
+    with_known_fields t.of (record { fields = g.fields; size = g.size; following = t.following }) xs
 
 -- returns the size of a record, which has at least one scalar
 abbrev pub record_size : Size → Size
@@ -77,21 +77,21 @@ first_name (listed x rest) = x
 
 -- Returns the token before a group of fields, which is RECORD or a semicolon. `following` is the
 -- token between this group and the next one. It is used only if the group is empty.
-abbrev pub word_before : Tree ℕ fields → ℕ → ℕ
-word_before (some_fields ns t) following = token_before (first_name ns)
-word_before no_fields following = token_before following
+abbrev pub token_before_group : Tree ℕ fields → ℕ → ℕ
+token_before_group (some_fields ns t) following = token_before (first_name ns)
+token_before_group no_fields following = token_before following
 
 -- Returns the token of the word RECORD. Between this token and the first field's name there are
 -- only semicolons, one for each group without fields before that name. For a record without fields
 -- the result is 0, but nothing is reported there, because such a record is never too large.
-abbrev pub record_word : Tree ℕ (items further_fields) → ℕ
-record_word end = 0
-record_word (more (then_fields g) rest) = word_before g (record_word rest)
+abbrev pub record_keyword : Tree ℕ (items further_fields) → ℕ
+record_keyword end = 0
+record_keyword (more (then_fields g) rest) = token_before_group g (record_keyword rest)
 
 -- Makes a record type of the gathered fields, or reports `TypeTooLarge` at the token RECORD
 -- (`word`). `ordinal` is the ordinal of that word.
-abbrev pub record_made : ℕ → ℕ → Gathered → Reported TypedAfter
-record_made word ordinal g = make g.following word ordinal (of_fields g.fields) (record_size g.size)
+abbrev pub made_record_type : ℕ → ℕ → KnownFields → Reported TypeWithState
+made_record_type word ordinal g = make_type g.following word ordinal (of_fields g.fields) (record_size g.size)
 
 -- Returns the faults of a type that is inside `around` words ARRAY and RECORD.
 unfoldable mutual
@@ -99,37 +99,37 @@ unfoldable mutual
 
   -- returns the faults of a type, and the type with the state after it; the parts of an array or a
   -- record come first
-  pub reported_type : ℕ → SoFar → Tree ℕ written_type → Reported TypedAfter
+  pub reported_type : ℕ → KnownDeclarations → Tree ℕ written_type → Reported TypeWithState
   reported_type around p (named_type x) = do
-    t ← type_named (facts_at p false) x
-    right (record { of = t; following = p })
+    t ← type_named_at (facts_at p false) x
+    without_fault (record { of = t; following = p })
   reported_type around p (array_type e u) = do
     o ← reported_expression (facts_at p true) e
     n ← length_of (facts_at p false) o
     element ← reported_type (suc around) p u
-    array_made (ordinal_here around p) o n element
+    made_array_type (next_type_ordinal around p) o n element
   reported_type around p (record_type g rest) = do
-    first ← reported_fields (suc around) (nothing_gathered p) g
+    first ← reported_fields (suc around) (no_known_fields p) g
     all ← reported_groups (suc around) first rest
-    record_made (word_before g (record_word rest)) (ordinal_here around p) all
+    made_record_type (token_before_group g (record_keyword rest)) (next_type_ordinal around p) all
 
   -- returns the faults of a group of fields, and the earlier fields with the group's fields added
-  pub reported_fields : ℕ → Gathered → Tree ℕ fields → Reported Gathered
-  reported_fields around so_far no_fields = right so_far
+  pub reported_fields : ℕ → KnownFields → Tree ℕ fields → Reported KnownFields
+  reported_fields around so_far no_fields = without_fault so_far
   reported_fields around so_far (some_fields ns t) = do
     u ← reported_type around so_far.following t
-    right (gathered_after so_far (names_listed ns) u)
+    without_fault (with_field_group so_far (names_in_list ns) u)
 
   -- returns the faults of further groups of fields, and the earlier fields with the fields of these
   -- groups added
-  pub reported_groups : ℕ → Gathered → Tree ℕ (items further_fields) → Reported Gathered
-  reported_groups around so_far end = right so_far
+  pub reported_groups : ℕ → KnownFields → Tree ℕ (items further_fields) → Reported KnownFields
+  reported_groups around so_far end = without_fault so_far
   reported_groups around so_far (more (then_fields g) rest) = do
     next ← reported_fields around so_far g
     reported_groups around next rest
 
 -- returns the faults of one more group of fields, and the earlier fields with the fields of this
 -- group added
-unfoldable pub reported_group : ℕ → Gathered → Tree ℕ (item further_fields) → Reported Gathered
+unfoldable pub reported_group : ℕ → KnownFields → Tree ℕ (item further_fields) → Reported KnownFields
 unfolding reported_type
 reported_group around so_far (then_fields g) = reported_fields around so_far g

@@ -1,8 +1,8 @@
 //! The laws that contracts cite. Each function does nothing; its contract is the law.
 
 ghost use Rattle.ob0_types_check.specs.ModuleLaws.{DeclarationsKnown, ModulesFit};
-ghost use Rattle.ob0_types_check.specs.ReportLaws.{ConstantsFit, ExpressionsFit, LengthsFit, StatementsFit, TypesOfTables};
-ghost use Rattle.ob0_types_check.specs.SomeBodies.{SomeBodiesReported};
+ghost use Rattle.ob0_types_check.specs.ReportLaws.{ConstantsFit, ExpressionsFit, LengthsFit, StatementsFit, TableTypesAgree};
+ghost use Rattle.ob0_types_check.specs.SomeBodies.{SomeBodiesSuffice};
 ghost use Rattle.ob0_types_check.specs.WellTypedLaws.{NamesBound, NoFaultInConstants, NoFaultInExpressions, NoFaultInLengths, NoFaultInModules, NoFaultInStatements, NoFaultInTargets};
 ghost use Rattle.ob0_language_names.specs.Names.{Name};
 
@@ -29,8 +29,8 @@ pub fn statements_fit()
 {}
 
 /// Proves that if each array and record in the table agrees with its shape, every type agrees with its shape.
-pub fn types_of_tables()
-    ensures { TypesOfTables }
+pub fn table_types_agree()
+    ensures { TableTypesAgree }
 {}
 
 /// Proves that a module is well-typed if no fault of types and no undeclared name is reported for it.
@@ -82,6 +82,6 @@ pub fn no_fault_in_modules()
 
 /// Proves that walking only some bodies gives the same report as walking all of them. The walked bodies must include
 /// every body whose tokens changed and every body that had a fault before the change.
-pub fn some_bodies_reported()
-    ensures { SomeBodiesReported }
+pub fn some_bodies_suffice()
+    ensures { SomeBodiesSuffice }
 {}

@@ -7,4 +7,4 @@
 pub mod laws;
 mod reporting;
 
-pub use reporting::{Report, report_bodies, report_body, report_faults};
+pub use reporting::{Report, report_faults, report_one_body, report_some_bodies};

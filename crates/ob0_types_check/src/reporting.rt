@@ -19,56 +19,56 @@
 //! the code's `TypeId` with its table (`known_types`). Another is `Option Shape`, with None for
 //! unknown, which needs no table.
 //!
-//! The faults of written types, declarations and blocks depend on a state, `SoFar`. It has the
+//! The faults of written types, declarations and blocks depend on a state, `KnownDeclarations`. It has the
 //! meanings of the declarations, by ordinal, and a list of the arrays and records with their parts.
-//! `so_far_in` views the code's `Supposed` as such a state, so the definitions of expressions and
-//! statements don't mention `Supposed`. `Supposed` and the list of faults are separate values.
+//! `declarations_in_state` views the code's `CheckerState` as such a state, so the definitions of expressions and
+//! statements don't mention `CheckerState`. `CheckerState` and the list of faults are separate values.
 //! Expressions and statements take `&self` and the list; declarations take a `Reporter`, which has
 //! both.
 //!
 //! The trees of the definitions don't contain the tokens ARRAY and RECORD. So definitions and code
 //! find these tokens in the same way. ARRAY is the token before its length. Between RECORD and the
 //! name of its first field there are only semicolons, one for each group without fields before that
-//! name (`record_word`). Every token has neighbours: at the end of the text `token_after` returns
+//! name (`record_keyword`). Every token has neighbours: at the end of the text `token_after` returns
 //! the same token. Every fault has a place: `span_at` gives the start of the text if there is no
 //! token.
 //!
 //! A body declares nothing. So if only the tokens of one body changed, the facts at every other
-//! place are unchanged. Any other body that had no faults still has none (`some_bodies_reported`).
-//! `report_bodies` therefore walks the declarations, the changed body and the bodies that had
+//! place are unchanged. Any other body that had no faults still has none (`some_bodies_suffice`).
+//! `report_some_bodies` therefore walks the declarations, the changed body and the bodies that had
 //! faults, and skips all others. The walk returns the list of bodies with faults.
 //!
 //! If the statements of one body are new and everything else fits, only these statements can have
-//! faults (`NewBody` of the proofs). `report_body` walks the declarations and that body.
+//! faults (`NewBody` of the proofs). `report_one_body` walks the declarations and that body.
 //!
 //! The walk has no counter of ARRAY and RECORD words. Each word makes one type, and inner types are
 //! made first. So, if nothing is reported, a word's ordinal is the number of types made so far plus
-//! the number of words around it (`ordinal_here`). A sum that doesn't fit 64 bits is reported as
+//! the number of words around it (`next_type_ordinal`). A sum that doesn't fit 64 bits is reported as
 //! out of memory, so the definition needs no cap. No text is long enough for that.
 //!
 //! Undeclared names are copied from the faults of scopes. The walk itself reports nothing at such a
 //! name.
 
+mod checker_state;
 mod declarations;
 mod expressions;
 mod objects;
 mod statements;
-mod supposed;
 mod written_types;
 
 ghost use Rattle.std.specs.Prelude.{◌≡◌, ◌++◌, [], IfOk, OnOk, map, option_map, None};
 ghost use Rattle.std.specs.List.{filter};
-ghost use Rattle.ob0_scope_table.specs.Resolution.{is_of_occurrences};
+ghost use Rattle.ob0_scope_table.specs.Resolution.{is_undeclared_fault};
 ghost use Rattle.ob0_types_table.specs.Tables.{AreEntriesInOrder};
 ghost use Rattle.ob0_types_check.specs.NewBody.{FitsWithout};
-ghost use Rattle.ob0_types_check.specs.SoFar.{at_first};
-ghost use Rattle.ob0_types_check.specs.SomeBodies.{HasWalked, IsReportOf, WereFaulty, every, is_among, module_with, wants};
-ghost use Rattle.ob0_types_check.specs.SupposedFacts.{known_meaning, so_far_in, table_in};
+ghost use Rattle.ob0_types_check.specs.KnownDeclarations.{state_at_start};
+ghost use Rattle.ob0_types_check.specs.SomeBodies.{HasWalked, IsReportOf, IncludesFaultyBodies, every_body, is_among, reported_module_with, includes_body};
+ghost use Rattle.ob0_types_check.specs.CheckerFacts.{known_meaning, declarations_in_state, table_in};
 
-use crate::laws::{declarations_known, some_bodies_reported};
-use crate::reporting::objects::{define_standards, objects_of};
-use crate::reporting::supposed::{Meaning, Supposed, predeclared_meanings};
-use ob0_scan::{Code, Fault};
+use crate::laws::{declarations_known, some_bodies_suffice};
+use crate::reporting::checker_state::{CheckerState, Meaning, predeclared_meanings};
+use crate::reporting::objects::{define_standard_procedures, objects_of};
+use ob0_scan::{Fault, FaultCode};
 use ob0_scope_table::Resolved;
 use ob0_types_table::DeclarationTable;
 use std::alloc::{AllocError, Global};
@@ -87,17 +87,17 @@ pub struct Report {
 
 /// The bodies to walk: all bodies, or only the bodies with these closing names.
 #[derive(Clone, Copy)]
-struct Wanted<'b> {
-    every: bool,
+struct BodiesToWalk<'b> {
+    every_body: bool,
     these: &'b [usize],
 }
 
-impl<'b> Wanted<'b> {
+impl<'b> BodiesToWalk<'b> {
     /// Returns true if the body of the block with this closing name is to be walked.
-    fn wants(&self, closing: usize) -> bool
-        ensures { result ≡ wants self.now closing }
+    fn includes_body(&self, closing: usize) -> bool
+        ensures { result ≡ includes_body self.now closing }
     {
-        self.every || self.these.contains(&closing)
+        self.every_body || self.these.contains(&closing)
     }
 }
 
@@ -108,37 +108,37 @@ pub fn report_faults<'t>(alloc: Global, resolved: &'t Resolved<'t>) -> Result<Re
     ensures { IfOk result (IsReportOf resolved.now) }
 {
     let none = Vec::new(alloc);
-    let every = Wanted {
-        every: true,
+    let every_body = BodiesToWalk {
+        every_body: true,
         these: none.as_slice(),
     };
-    report_wanted(alloc, resolved, &every)
+    report_wanted_bodies(alloc, resolved, &every_body)
 }
 
 /// Returns the same report as `report_faults`, but walks only the declarations and these bodies,
 /// given by their closing names. They must include every body that changed and every body that had
 /// a fault of types before the change.
-pub fn report_bodies<'t>(
+pub fn report_some_bodies<'t>(
     alloc: Global,
     resolved: &'t Resolved<'t>,
     bodies: &[usize],
 ) -> Result<Report, AllocError>
-    requires { WereFaulty (is_among bodies.now) resolved.now }
+    requires { IncludesFaultyBodies (is_among bodies.now) resolved.now }
     ensures { IfOk result (IsReportOf resolved.now) }
 {
-    some_bodies_reported();
+    some_bodies_suffice();
     // The contract of this call gives the proof the invariant of the module.
     let _module = resolved.module();
-    let these = Wanted {
-        every: false,
+    let these = BodiesToWalk {
+        every_body: false,
         these: bodies,
     };
-    report_wanted(alloc, resolved, &these)
+    report_wanted_bodies(alloc, resolved, &these)
 }
 
 /// Returns the same report as `report_faults`, but walks only the declarations and the statements of the block with
 /// this closing name. The module must fit without these statements.
-pub fn report_body<'t>(
+pub fn report_one_body<'t>(
     alloc: Global,
     resolved: &'t Resolved<'t>,
     closing: usize,
@@ -149,42 +149,45 @@ pub fn report_body<'t>(
     // The contract of this call gives the proof the invariant of the module.
     let _module = resolved.module();
     let bodies = [closing];
-    let only = Wanted {
-        every: false,
+    let only = BodiesToWalk {
+        every_body: false,
         these: &bodies,
     };
-    report_wanted(alloc, resolved, &only)
+    report_wanted_bodies(alloc, resolved, &only)
 }
 
 /// Returns the report of a module, walking only the declarations and the wanted bodies. No other body may have a fault
 /// of types.
-fn report_wanted<'t>(
+fn report_wanted_bodies<'t>(
     alloc: Global,
     resolved: &'t Resolved<'t>,
-    wanted: &Wanted<'_>,
+    wanted: &BodiesToWalk<'_>,
 ) -> Result<Report, AllocError>
-    requires { module_with (wants wanted.now) resolved.now ≡ module_with every resolved.now }
+    requires { reported_module_with (includes_body wanted.now) resolved.now ≡ reported_module_with every_body resolved.now }
     ensures { IfOk result (IsReportOf resolved.now) }
 {
     let read = resolved.module();
     let mut reporter = Reporter::new(alloc, resolved)?;
     let mut faulty = Vec::new(alloc);
-    reporter.block(&mut faulty, wanted, read.block(), read.closing())?;
+    reporter.report_block(&mut faulty, wanted, read.block(), read.closing_name())?;
     reporter.into_report(resolved, faulty)
 }
 
 /// Makes the table of declarations and types from the final state of the walk.
-fn known_of<'t>(alloc: Global, supposed: Supposed<'t>) -> Result<DeclarationTable, AllocError>
-    requires { AreEntriesInOrder [] supposed.composites.items }
-    ensures { IfOk result (λ t. t ≡ table_in supposed.entry) }
+fn make_declaration_table<'t>(
+    alloc: Global,
+    checker_state: CheckerState<'t>,
+) -> Result<DeclarationTable, AllocError>
+    requires { AreEntriesInOrder [] checker_state.composites.items }
+    ensures { IfOk result (λ t. t ≡ table_in checker_state.entry) }
 {
-    let Supposed {
+    let CheckerState {
         resolved: _,
         meanings,
         composites,
-    } = supposed;
+    } = checker_state;
     let mut objects = objects_of(alloc, meanings)?;
-    define_standards(&mut objects);
+    define_standard_procedures(&mut objects);
     Ok(DeclarationTable::new(composites, objects))
 }
 
@@ -192,7 +195,7 @@ fn known_of<'t>(alloc: Global, supposed: Supposed<'t>) -> Result<DeclarationTabl
 #[derive(Drop)]
 struct Reporter<'t> {
     alloc: Global,
-    supposed: Supposed<'t>,
+    checker_state: CheckerState<'t>,
     faults: Vec<Fault>,
 }
 
@@ -200,20 +203,20 @@ impl<'t> Reporter<'t> {
     /// Returns the state at the start of a module. Only the predeclared names have a meaning, and only the undeclared
     /// names are reported.
     fn new(alloc: Global, resolved: &'t Resolved<'t>) -> Result<Reporter<'t>, AllocError>
-        ensures supposed { IfOk result (λ t. so_far_in t.supposed ≡ at_first resolved.now) }
+        ensures checker_state { IfOk result (λ t. declarations_in_state t.checker_state ≡ state_at_start resolved.now) }
         ensures faults { IfOk result
-            (λ t. t.faults.items ≡ filter is_of_occurrences resolved.now.faults) }
+            (λ t. t.faults.items ≡ filter is_undeclared_fault resolved.now.faults) }
     {
         let mut meanings = predeclared_meanings(alloc)?;
-        add_unknown(&mut meanings, resolved.declarations())?;
-        let supposed = Supposed {
+        add_unknown_meanings(&mut meanings, resolved.declarations())?;
+        let checker_state = CheckerState {
             resolved,
             meanings,
             composites: Vec::new(alloc),
         };
         Ok(Reporter {
             alloc,
-            supposed,
+            checker_state,
             faults: unbound_names(alloc, resolved)?,
         })
     }
@@ -224,7 +227,7 @@ impl<'t> Reporter<'t> {
         resolved: &'t Resolved<'t>,
         faulty: Vec<usize>,
     ) -> Result<Report, AllocError>
-        requires { HasWalked resolved.now self.faults.items self.supposed faulty.items }
+        requires { HasWalked resolved.now self.faults.items self.checker_state faulty.items }
         ensures { IfOk result (IsReportOf resolved.now) }
     {
         declarations_known();
@@ -232,11 +235,11 @@ impl<'t> Reporter<'t> {
         let _module = resolved.module();
         let Reporter {
             alloc,
-            supposed,
+            checker_state,
             faults,
         } = self;
         if faults.is_empty() {
-            let known = known_of(alloc, supposed)?;
+            let known = make_declaration_table(alloc, checker_state)?;
             Ok(Report {
                 faults,
                 known: Some(known),
@@ -254,11 +257,11 @@ impl<'t> Reporter<'t> {
 
 /// Returns the undeclared names among the faults of scopes, in text order.
 fn unbound_names(alloc: Global, resolved: &Resolved) -> Result<Vec<Fault>, AllocError>
-    ensures { IfOk result (λ faults. faults.items ≡ filter is_of_occurrences resolved.now.faults) }
+    ensures { IfOk result (λ faults. faults.items ≡ filter is_undeclared_fault resolved.now.faults) }
 {
     let mut faults = Vec::new(alloc);
     for fault in resolved.faults() {
-        if fault.code == Code::Undeclared {
+        if fault.code == FaultCode::Undeclared {
             faults.push(*fault)?;
         }
     }
@@ -266,7 +269,7 @@ fn unbound_names(alloc: Global, resolved: &Resolved) -> Result<Vec<Fault>, Alloc
 }
 
 /// Appends one unknown meaning (None) for each of these declarations.
-fn add_unknown(
+fn add_unknown_meanings(
     meanings: &mut Vec<Option<Meaning>>,
     declarations: &[usize],
 ) -> Result<(), AllocError>

@@ -3,7 +3,7 @@ use Rattle.std.proofs.Common.{◌≡◌, ℕ, ◌==◌, ◌++◌, Bool, true, Li
 use Rattle.ob0_tree.specs.Tree.{Tree, compares, end, factor, none, product, sum}
 use Rattle.ob0_language_types.specs.Expressions.{Meanings}
 use Rattle.ob0_language_types.specs.WellTyped.{Signature}
-use Rattle.ob0_types_fields.specs.Owned.{marked_tree}
+use Rattle.ob0_types_fields.specs.Owned.{fields_in_tree}
 use Rattle.ob0_language_values.specs.Values.{Shape}
 
 -- A list is empty if its length is 0, and not empty otherwise.
@@ -11,5 +11,5 @@ pub is_nothing : {A : Type 0} (xs : List A) (n : ℕ) (b : Bool) → n ≡ lengt
 is_nothing [] n b long e h = refl
 is_nothing (x ∷ xs) n b long e h = let none : n ≡ 0 = eqb-true n 0 (sym e ∙ h) in absurd (omega (arith, long, none))
 
-pub factor_marked : (m : Meanings ℕ Shape Signature) (f : Tree ℕ factor) → marked_tree m (compares (sum None (product f end) end) none) ≡ marked_tree m f
-factor_marked m f = append-nil ((marked_tree m f ++ []) ++ []) ∙ (append-nil (marked_tree m f ++ []) ∙ append-nil (marked_tree m f))
+pub factor_marked : (m : Meanings ℕ Shape Signature) (f : Tree ℕ factor) → fields_in_tree m (compares (sum None (product f end) end) none) ≡ fields_in_tree m f
+factor_marked m f = append-nil ((fields_in_tree m f ++ []) ++ []) ∙ (append-nil (fields_in_tree m f ++ []) ∙ append-nil (fields_in_tree m f))

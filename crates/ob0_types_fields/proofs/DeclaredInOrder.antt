@@ -2,20 +2,20 @@
 use Rattle.std.proofs.Common.{◌≡◌, ℕ, suc, ◌+◌, ◌<◌, ◌≤◌, cond, List, [], ◌∷◌, ◌++◌, Some, None, Option, refl, sym, ap, ◌∙◌, subst, append_assoc, arith, le_refl, eq-eqb}
 use Rattle.std.proofs.lemmas.Bool.{ne_eqb}
 use Rattle.ob0_tree.specs.Tree.{Tree, block, constant, declares, declares_constant, declares_type, declares_variable, end, has_body, items, more, type_name, variable}
-use Rattle.ob0_language_names.specs.Names.{Label, Name, as_labels, as_names, as_written, declared, same_label}
-use Rattle.ob0_language_names.specs.Parts.{block_constants, block_types, block_variables, constant_names, named_types, names_listed, section_constants, section_types, section_variables, variable_names}
-use Rattle.ob0_language_names.specs.Scopes.{Scope, after_names, as_label, declare_names, first_procedure, first_type, first_variable, label_names, relabel_block, relabel_constants, relabel_names, relabel_types, relabel_uses, relabel_variables, types_scope, variables_scope}
-use Rattle.ob0_language_names.proofs.Ordinals.{after_names-append}
+use Rattle.ob0_language_names.specs.Names.{Label, Name, naming_by_label, naming_by_spelling, as_written, declared, same_label}
+use Rattle.ob0_language_names.specs.Parts.{block_constants, block_types, block_variables, constant_names, declared_type_names, names_in_list, section_constants, section_types, section_variables, variable_names}
+use Rattle.ob0_language_names.specs.Scopes.{Scope, ordinal_after_names, label_from_ordinal, declare_names, first_procedure_ordinal, first_type_ordinal, first_variable_ordinal, label_names, relabel_block, relabel_constants, relabel_names, relabel_types, relabel_uses, relabel_variables, types_scope, variables_scope}
+use Rattle.ob0_language_names.proofs.Ordinals.{ordinal_after_names-append}
 use Rattle.ob0_language_names.proofs.Relabelled.{constants-section, names-relabel, types-section, variables-section}
-use Rattle.ob0_language_types.specs.Bindings.{object_bound}
+use Rattle.ob0_language_types.specs.Bindings.{bound_object}
 use Rattle.ob0_language_types.specs.Declaring.{declare_block}
-use Rattle.ob0_language_types.specs.Declarations.{after_types, declare_constants, declare_first, declare_types}
-use Rattle.ob0_language_types.specs.Environments.{from_binding, meanings}
+use Rattle.ob0_language_types.specs.Declarations.{constructor_after_types, declare_constants, declare_first, declare_types}
+use Rattle.ob0_language_types.specs.Environments.{environment_from_binding, meanings}
 use Rattle.ob0_language_types.specs.Expressions.{Object, a_constant, a_type, a_variable}
-use Rattle.ob0_language_types.specs.Typing.{constant_value, constructors, denoted}
-use Rattle.ob0_language_types.specs.WellTyped.{Signature, TypeEnvironment, TypedParameter, bind_names, bind_typed, declare_typed, heading}
+use Rattle.ob0_language_types.specs.Typing.{constant_value, constructor_count, denoted}
+use Rattle.ob0_language_types.specs.WellTyped.{Signature, TypeEnvironment, TypedParameter, bind_names, bind_typed_parameters, declare_typed, bind_procedure}
 use Rattle.ob0_language_values.specs.Values.{Shape}
-use Rattle.ob0_language_types.proofs.Bound.{newest-if}
+use Rattle.ob0_language_types.proofs.Bound.{newest_object-if}
 use Rattle.ob0_language_types.proofs.Literals.{some_inverse}
 use Rattle.ob0_language_types.proofs.TypedElsewhere.{then_some}
 use Rattle.ob0_language_types.proofs.TypesByOrdinal.{label_typed, typed_names}
@@ -54,84 +54,84 @@ grown_then k m n env mid after a b =
       descends = descends_join n m k b.bound a.bound b.descends a.descends;
     }
 
-names_grow : (k : ℕ) (xs : List Name) (o : Object Shape Signature) (env : TypeEnvironment Label) → Grown k (after_names k xs) env (bind_names (label_names (as_label as_names) k xs) o env)
+names_grow : (k : ℕ) (xs : List Name) (o : Object Shape Signature) (env : TypeEnvironment Label) → Grown k (ordinal_after_names k xs) env (bind_names (label_names (label_from_ordinal naming_by_spelling) k xs) o env)
 names_grow k [] o env = grown_nothing k env
 names_grow k (x ∷ xs) o env =
-    grown_then k (suc k) (after_names (suc k) xs) env ((declared k, o) ∷ env) (bind_names (label_names (as_label as_names) (suc k) xs) o ((declared k, o) ∷ env)) (grown_one k o env) (names_grow (suc k) xs o ((declared k, o) ∷ env))
+    grown_then k (suc k) (ordinal_after_names (suc k) xs) env ((declared k, o) ∷ env) (bind_names (label_names (label_from_ordinal naming_by_spelling) (suc k) xs) o ((declared k, o) ∷ env)) (grown_one k o env) (names_grow (suc k) xs o ((declared k, o) ∷ env))
 
 constants_grow : (scope : Scope Name) (k : ℕ) (cs : Tree Name (items constant)) (env after : TypeEnvironment Label)
-    → declare_constants as_labels env (relabel_constants as_names (as_label as_names) scope k cs) ≡ Some after → Grown k (after_names k (constant_names cs)) env after
+    → declare_constants naming_by_label env (relabel_constants naming_by_spelling (label_from_ordinal naming_by_spelling) scope k cs) ≡ Some after → Grown k (ordinal_after_names k (constant_names cs)) env after
 unfolding declare_constants
 constants_grow scope k end env after h = subst (Grown k k env) (some_inverse h) (grown_nothing k env)
 constants_grow scope k (more (declares_constant x e) cs) env after h =
-    let found = then_some (constant_value (meanings as_labels env) (relabel_uses as_names (as_label as_names) scope e))
-    (λ v. declare_constants as_labels ((declared k, a_constant v) ∷ env) (relabel_constants as_names (as_label as_names) ((x, k) ∷ scope) (suc k) cs)) after h in
-    grown_then k (suc k) (after_names (suc k) (constant_names cs)) env ((declared k, a_constant found.0) ∷ env) after (grown_one k (a_constant found.0) env)
+    let found = then_some (constant_value (meanings naming_by_label env) (relabel_uses naming_by_spelling (label_from_ordinal naming_by_spelling) scope e))
+    (λ v. declare_constants naming_by_label ((declared k, a_constant v) ∷ env) (relabel_constants naming_by_spelling (label_from_ordinal naming_by_spelling) ((x, k) ∷ scope) (suc k) cs)) after h in
+    grown_then k (suc k) (ordinal_after_names (suc k) (constant_names cs)) env ((declared k, a_constant found.0) ∷ env) after (grown_one k (a_constant found.0) env)
     (constants_grow ((x, k) ∷ scope) (suc k) cs ((declared k, a_constant found.0) ∷ env) after found.2)
 
 types_grow : (scope : Scope Name) (j k : ℕ) (ds : Tree Name (items type_name)) (env after : TypeEnvironment Label)
-    → declare_types as_labels env j (relabel_types as_names (as_label as_names) scope k ds) ≡ Some after → Grown k (after_names k (named_types ds)) env after
+    → declare_types naming_by_label env j (relabel_types naming_by_spelling (label_from_ordinal naming_by_spelling) scope k ds) ≡ Some after → Grown k (ordinal_after_names k (declared_type_names ds)) env after
 unfolding declare_types
 types_grow scope j k end env after h = subst (Grown k k env) (some_inverse h) (grown_nothing k env)
 types_grow scope j k (more (declares_type x u) ds) env after h =
-    let v = relabel_uses as_names (as_label as_names) scope u in
-    let found = then_some (denoted (meanings as_labels env) j v)
-    (λ s. declare_types as_labels ((declared k, a_type s) ∷ env) (j + constructors v) (relabel_types as_names (as_label as_names) ((x, k) ∷ scope) (suc k) ds)) after h in
-    grown_then k (suc k) (after_names (suc k) (named_types ds)) env ((declared k, a_type found.0) ∷ env) after (grown_one k (a_type found.0) env)
-    (types_grow ((x, k) ∷ scope) (j + constructors v) (suc k) ds ((declared k, a_type found.0) ∷ env) after found.2)
+    let v = relabel_uses naming_by_spelling (label_from_ordinal naming_by_spelling) scope u in
+    let found = then_some (denoted (meanings naming_by_label env) j v)
+    (λ s. declare_types naming_by_label ((declared k, a_type s) ∷ env) (j + constructor_count v) (relabel_types naming_by_spelling (label_from_ordinal naming_by_spelling) ((x, k) ∷ scope) (suc k) ds)) after h in
+    grown_then k (suc k) (ordinal_after_names (suc k) (declared_type_names ds)) env ((declared k, a_type found.0) ∷ env) after (grown_one k (a_type found.0) env)
+    (types_grow ((x, k) ∷ scope) (j + constructor_count v) (suc k) ds ((declared k, a_type found.0) ∷ env) after found.2)
 
 variables_grow : (scope : Scope Name) (j k : ℕ) (gs : Tree Name (items variable)) (env after : TypeEnvironment Label)
-    → declare_typed as_labels j (relabel_variables as_names (as_label as_names) scope k gs) env ≡ Some after → Grown k (after_names k (variable_names gs)) env after
+    → declare_typed naming_by_label j (relabel_variables naming_by_spelling (label_from_ordinal naming_by_spelling) scope k gs) env ≡ Some after → Grown k (ordinal_after_names k (variable_names gs)) env after
 unfolding declare_typed
 variables_grow scope j k end env after h = subst (Grown k k env) (some_inverse h) (grown_nothing k env)
 variables_grow scope j k (more (declares_variable ns u) gs) env after h =
-    let v = relabel_uses as_names (as_label as_names) scope u in
-    let xs : List Name = names_listed ns in
-    let m : ℕ = after_names k xs in
-    let labels : List Label = names_listed (relabel_names (as_label as_names) k ns) in
-    let found = then_some (denoted (meanings as_labels env) j v)
-    (λ s. declare_typed as_labels (j + constructors v) (relabel_variables as_names (as_label as_names) (declare_names k xs scope) m gs) (bind_names labels (a_variable s) env)) after h in
+    let v = relabel_uses naming_by_spelling (label_from_ordinal naming_by_spelling) scope u in
+    let xs : List Name = names_in_list ns in
+    let m : ℕ = ordinal_after_names k xs in
+    let labels : List Label = names_in_list (relabel_names (label_from_ordinal naming_by_spelling) k ns) in
+    let found = then_some (denoted (meanings naming_by_label env) j v)
+    (λ s. declare_typed naming_by_label (j + constructor_count v) (relabel_variables naming_by_spelling (label_from_ordinal naming_by_spelling) (declare_names k xs scope) m gs) (bind_names labels (a_variable s) env)) after h in
     let first : Grown k m env (bind_names labels (a_variable found.0) env) =
-    subst (λ ys. Grown k m env (bind_names ys (a_variable found.0) env)) (sym (names-relabel (as_label as_names) k ns)) (names_grow k xs (a_variable found.0) env) in
-    subst (λ n. Grown k n env after) (sym (after_names-append k xs (variable_names gs)))
-    (grown_then k m (after_names m (variable_names gs)) env (bind_names labels (a_variable found.0) env) after first
-    (variables_grow (declare_names k xs scope) (j + constructors v) m gs (bind_names labels (a_variable found.0) env) after found.2))
+    subst (λ ys. Grown k m env (bind_names ys (a_variable found.0) env)) (sym (names-relabel (label_from_ordinal naming_by_spelling) k ns)) (names_grow k xs (a_variable found.0) env) in
+    subst (λ n. Grown k n env after) (sym (ordinal_after_names-append k xs (variable_names gs)))
+    (grown_then k m (ordinal_after_names m (variable_names gs)) env (bind_names labels (a_variable found.0) env) after first
+    (variables_grow (declare_names k xs scope) (j + constructor_count v) m gs (bind_names labels (a_variable found.0) env) after found.2))
 
 -- Binding parameters puts their bindings, with ordinals from `k` upwards, before the environment.
-pub parameters_grow : (k : ℕ) (ps : List (TypedParameter Name)) (env : TypeEnvironment Label) → Grown k (after_names k (typed_names ps)) env (bind_typed (label_typed k ps) env)
+pub parameters_grow : (k : ℕ) (ps : List (TypedParameter Name)) (env : TypeEnvironment Label) → Grown k (ordinal_after_names k (typed_names ps)) env (bind_typed_parameters (label_typed k ps) env)
 parameters_grow k [] env = grown_nothing k env
 parameters_grow k (p ∷ ps) env =
     let o : Object Shape Signature = a_variable p.formal.shape in
-    grown_then k (suc k) (after_names (suc k) (typed_names ps)) env ((declared k, o) ∷ env) (bind_typed (label_typed (suc k) ps) ((declared k, o) ∷ env)) (grown_one k o env) (parameters_grow (suc k) ps ((declared k, o) ∷ env))
+    grown_then k (suc k) (ordinal_after_names (suc k) (typed_names ps)) env ((declared k, o) ∷ env) (bind_typed_parameters (label_typed (suc k) ps) ((declared k, o) ∷ env)) (grown_one k o env) (parameters_grow (suc k) ps ((declared k, o) ∷ env))
 
 -- Binding a procedure's name and parameters puts their bindings, with ordinals from `k` upwards, before the
 -- environment.
 pub heading_grows : (k : ℕ) (ps : List (TypedParameter Name)) (qs : List (TypedParameter Label)) (env : TypeEnvironment Label)
-    → Grown k (after_names (suc k) (typed_names ps)) env (bind_typed (label_typed (suc k) ps) (heading (declared k) qs env))
+    → Grown k (ordinal_after_names (suc k) (typed_names ps)) env (bind_typed_parameters (label_typed (suc k) ps) (bind_procedure (declared k) qs env))
 heading_grows k ps qs env =
-    let mid : TypeEnvironment Label = heading (declared k) qs env in
-    grown_then k (suc k) (after_names (suc k) (typed_names ps)) env mid (bind_typed (label_typed (suc k) ps) mid) (grown_one k _ env) (parameters_grow (suc k) ps mid)
+    let mid : TypeEnvironment Label = bind_procedure (declared k) qs env in
+    grown_then k (suc k) (ordinal_after_names (suc k) (typed_names ps)) env mid (bind_typed_parameters (label_typed (suc k) ps) mid) (grown_one k _ env) (parameters_grow (suc k) ps mid)
 
 -- Declaring a block's constants and types together is declaring its constants and then its types.
-firsts : (env : TypeEnvironment Label) (j : ℕ) (b : Tree Label block) (after : TypeEnvironment Label) → declare_first as_labels env j b ≡ Some after
-    → (mid : TypeEnvironment Label) × (declare_constants as_labels env (block_constants b) ≡ Some mid) × (declare_types as_labels mid j (block_types b) ≡ Some after)
+firsts : (env : TypeEnvironment Label) (j : ℕ) (b : Tree Label block) (after : TypeEnvironment Label) → declare_first naming_by_label env j b ≡ Some after
+    → (mid : TypeEnvironment Label) × (declare_constants naming_by_label env (block_constants b) ≡ Some mid) × (declare_types naming_by_label mid j (block_types b) ≡ Some after)
 unfolding declare_first
-firsts env j b after h = then_some (declare_constants as_labels env (block_constants b)) (λ e. declare_types as_labels e j (block_types b)) after h
+firsts env j b after h = then_some (declare_constants naming_by_label env (block_constants b)) (λ e. declare_types naming_by_label e j (block_types b)) after h
 
 pub block_grows : (scope : Scope Name) (j k : ℕ) (b : Tree Name block) (env inner : TypeEnvironment Label)
-    → declare_block as_labels env j (relabel_block as_names (as_label as_names) scope k b) ≡ Some inner → Grown k (first_procedure k b) env inner
+    → declare_block naming_by_label env j (relabel_block naming_by_spelling (label_from_ordinal naming_by_spelling) scope k b) ≡ Some inner → Grown k (first_procedure_ordinal k b) env inner
 block_grows scope j k (has_body (declares cs ts vs ps) statements) env inner h =
     let b : Tree Name block = has_body (declares cs ts vs ps) statements in
-    let b' : Tree Label block = relabel_block as_names (as_label as_names) scope k b in
-    let kt : ℕ = first_type k b in
-    let kv : ℕ = first_variable k b in
-    let two = then_some (declare_first as_labels env j b') (declare_typed as_labels (after_types j b') (block_variables b')) inner h in
+    let b' : Tree Label block = relabel_block naming_by_spelling (label_from_ordinal naming_by_spelling) scope k b in
+    let kt : ℕ = first_type_ordinal k b in
+    let kv : ℕ = first_variable_ordinal k b in
+    let two = then_some (declare_first naming_by_label env j b') (declare_typed naming_by_label (constructor_after_types j b') (block_variables b')) inner h in
     let one = firsts env j b' two.0 two.1 in
-    let c = constants_grow scope k (section_constants cs) env one.0 (ap (declare_constants as_labels env) (sym (constants-section as_names (as_label as_names) scope k cs)) ∙ one.1) in
-    let t = types_grow (types_scope k b scope) j kt (section_types ts) one.0 two.0 (ap (declare_types as_labels one.0 j) (sym (types-section as_names (as_label as_names) (types_scope k b scope) kt ts)) ∙ one.2) in
-    let v = variables_grow (variables_scope k b scope) (after_types j b') kv (section_variables vs) two.0 inner
-    (ap (λ gs. declare_typed as_labels (after_types j b') gs two.0) (sym (variables-section as_names (as_label as_names) (variables_scope k b scope) kv vs)) ∙ two.2) in
-    grown_then k kt (first_procedure k b) env one.0 inner c (grown_then kt kv (first_procedure k b) one.0 two.0 inner t v)
+    let c = constants_grow scope k (section_constants cs) env one.0 (ap (declare_constants naming_by_label env) (sym (constants-section naming_by_spelling (label_from_ordinal naming_by_spelling) scope k cs)) ∙ one.1) in
+    let t = types_grow (types_scope k b scope) j kt (section_types ts) one.0 two.0 (ap (declare_types naming_by_label one.0 j) (sym (types-section naming_by_spelling (label_from_ordinal naming_by_spelling) (types_scope k b scope) kt ts)) ∙ one.2) in
+    let v = variables_grow (variables_scope k b scope) (constructor_after_types j b') kv (section_variables vs) two.0 inner
+    (ap (λ gs. declare_typed naming_by_label (constructor_after_types j b') gs two.0) (sym (variables-section naming_by_spelling (label_from_ordinal naming_by_spelling) (variables_scope k b scope) kv vs)) ∙ two.2) in
+    grown_then k kt (first_procedure_ordinal k b) env one.0 inner c (grown_then kt kv (first_procedure_ordinal k b) one.0 two.0 inner t v)
 
 -- returns the object of a label, given the objects of ordinals
 abbrev pub at_label : (ℕ → Option (Object Shape Signature)) → Label → Option (Object Shape Signature)
@@ -159,11 +159,11 @@ right_older now before n (b ∷ env) (i, e, less, d) same h = (
 )
 
 -- If each ordinal is bound once, each binding has the object of its ordinal.
-pub bound_right : (n : ℕ) (env : TypeEnvironment Label) → Descends n env 0 → Right (object_bound env) env
+pub bound_right : (n : ℕ) (env : TypeEnvironment Label) → Descends n env 0 → Right (bound_object env) env
 bound_right n [] d = tt
 bound_right n ((x, o) ∷ env) (i, e, less, d) =
-    let choice : (d' : ℕ) → object_bound ((x, o) ∷ env) d' ≡ cond (same_label (declared d') x) (Some o) (object_bound env d') = λ d'. newest-if (same_label (declared d') x) x o env (from_binding as_labels env (declared d')) in (
-      ap (at_label (object_bound ((x, o) ∷ env))) e ∙ choice i ∙ ap (λ t. cond t (Some o) (object_bound env i)) (ap (same_label (declared i)) e ∙ eq-eqb i i refl),
-      right_older (object_bound ((x, o) ∷ env)) (object_bound env) i env d
-          (λ d' below. choice d' ∙ ap (λ t. cond t (Some o) (object_bound env d')) (ap (same_label (declared d')) e ∙ ne_eqb d' i (λ same. omega (arith, same, below)))) (bound_right i env d),
+    let choice : (d' : ℕ) → bound_object ((x, o) ∷ env) d' ≡ cond (same_label (declared d') x) (Some o) (bound_object env d') = λ d'. newest_object-if (same_label (declared d') x) x o env (environment_from_binding naming_by_label env (declared d')) in (
+      ap (at_label (bound_object ((x, o) ∷ env))) e ∙ choice i ∙ ap (λ t. cond t (Some o) (bound_object env i)) (ap (same_label (declared i)) e ∙ eq-eqb i i refl),
+      right_older (bound_object ((x, o) ∷ env)) (bound_object env) i env d
+          (λ d' below. choice d' ∙ ap (λ t. cond t (Some o) (bound_object env d')) (ap (same_label (declared d')) e ∙ ne_eqb d' i (λ same. omega (arith, same, below)))) (bound_right i env d),
     )

@@ -1,30 +1,30 @@
 -- The objects of the declarations in a well-typed module are right. Each type, variable and parameter has the type that
 -- its written type denotes there. A procedure has the parameters of its heading.
 use Rattle.std.proofs.Common.{◌≡◌, ℕ, ◌+◌, true, List, [], ◌∷◌, ◌++◌, map, Some, None, Option, option_and_then, refl, sym, ap, ◌∙◌, subst, append_assoc}
-use Rattle.ob0_tree.specs.Parsed.{named_tree_of, tree_of}
+use Rattle.ob0_tree.specs.ParsedModule.{named_tree_of, tree_of}
 use Rattle.ob0_tree.specs.Places.{text_at}
 use Rattle.ob0_tree.specs.Tree.{Tree, block, body, constant, declares, declares_constant, declares_procedure, declares_type, declares_types, declares_variable, declares_variables, end, formals, further_section, has_body, item, items, listed, maybe, module_text, more, no_formals, none, one, procedure, section, some_formals, then_section, type_name, type_names, value_section, variable, variable_section, variables, written_type}
-use Rattle.ob0_language_names.specs.Names.{Label, as_labels, as_names}
+use Rattle.ob0_language_names.specs.Names.{Label, naming_by_label, naming_by_spelling}
 use Rattle.ob0_language_names.specs.Parts.{block_constants, block_statements, block_types, block_variables, formal_sections, further_names, module_block, section_type, section_types, section_variables}
 use Rattle.ob0_scope_table.specs.Resolution.{IsResolution, Resolution, ordinal_in}
-use Rattle.ob0_language_names.specs.Scopes.{as_label}
-use Rattle.ob0_language_types.specs.Bindings.{block_bindings, declared_object, module_bindings, procedures_bindings, since}
+use Rattle.ob0_language_names.specs.Scopes.{label_from_ordinal}
+use Rattle.ob0_language_types.specs.Bindings.{block_bindings, declared_object, module_bindings, procedures_bindings, bindings_since}
 use Rattle.ob0_language_types.specs.Declaring.{declare_block}
-use Rattle.ob0_scope_table.specs.InLabels.{in_labels, label_in}
-use Rattle.ob0_language_types.proofs.Bound.{since-append, bind_typed-append}
-use Rattle.ob0_language_types.specs.Declarations.{after_types, after_variables, declare_constants, declare_first, declare_types, formals_constructors, procedure_constructors}
+use Rattle.ob0_scope_table.specs.LabelledTrees.{tree_with_labels, label_at_token}
+use Rattle.ob0_language_types.proofs.Bound.{bindings_since-append, bind_typed_parameters-append}
+use Rattle.ob0_language_types.specs.Declarations.{constructor_after_types, constructor_after_variables, declare_constants, declare_first, declare_types, formals_constructor_count, procedure_constructor_count}
 use Rattle.ob0_language_types.specs.Environments.{meanings, outermost}
 use Rattle.ob0_language_types.specs.Expressions.{Meanings, Object, a_constant, a_type, a_variable}
-use Rattle.ob0_language_types.specs.Typing.{constant_value, constructors, denoted}
-use Rattle.ob0_language_types.specs.WellTyped.{Formal, Mode, Signature, TypeEnvironment, TypedParameter, WellTyped, bind_names, bind_typed, block_fits, by_place, by_value, declare_typed, fits_over, heading, procedures_fit, typed_parameters}
+use Rattle.ob0_language_types.specs.Typing.{constant_value, constructor_count, denoted}
+use Rattle.ob0_language_types.specs.WellTyped.{FormalParameter, Mode, Signature, TypeEnvironment, TypedParameter, WellTyped, bind_names, bind_typed_parameters, block_fits, by_place, by_value, declare_typed, fits_over, bind_procedure, procedures_fit, typed_parameters}
 use Rattle.ob0_language_types.proofs.Literals.{some_inverse}
-use Rattle.ob0_language_types.proofs.Proved.{fits_by_ordinal-holds}
+use Rattle.ob0_language_types.proofs.Proved.{numbering_keeps_type_check-holds}
 use Rattle.ob0_language_types.proofs.TypedElsewhere.{then_some}
 use Rattle.ob0_language_types.proofs.ConstantsDeclared.{block-listed, block-parts}
 use Rattle.ob0_types_fields.proofs.DeclaredInOrder.{Right, at_label, right_split}
 use Rattle.ob0_types_fields.proofs.OwnedModules.{bindings_right, procedure-parts}
-use Rattle.ob0_types_fields.specs.FieldTypes.{first_listed}
-use Rattle.ob0_types_fields.specs.Owned.{token_objects}
+use Rattle.ob0_types_fields.specs.FieldTypes.{first_name_listed}
+use Rattle.ob0_types_fields.specs.Owned.{meanings_by_token}
 use Rattle.ob0_language_values.specs.Values.{Shape}
 
 abbrev parameter_of : Mode → Shape → Label → TypedParameter Label
@@ -35,13 +35,13 @@ module _ (r : Resolution) where
   objects = declared_object (named_tree_of r.module_read)
 
   abbrev pub meaning : Meanings ℕ Shape Signature
-  meaning = token_objects objects r
+  meaning = meanings_by_token objects r
 
   -- holds if a written type denotes this type at its place
   pub record Denotes (u : Tree ℕ written_type) (s : Shape) : Type 0 where
     pub env : TypeEnvironment Label
     pub ordinal : ℕ
-    pub denotes : denoted (meanings as_labels env) ordinal (in_labels r u) ≡ Some s
+    pub denotes : denoted (meanings naming_by_label env) ordinal (tree_with_labels r u) ≡ Some s
 
   -- ---- properties of each declaration
 
@@ -52,11 +52,11 @@ module _ (r : Resolution) where
   -- holds if the first of the names that are declared together in each group has the group's type
   abbrev pub VariablesAreTyped : Tree ℕ (items variable) → Type 0
   VariablesAreTyped end = Unit {0}
-  VariablesAreTyped (more (declares_variable ns u) gs) = ((s : Shape) × (meaning.object_for (first_listed ns) ≡ Some (a_variable s)) × Denotes u s) × VariablesAreTyped gs
+  VariablesAreTyped (more (declares_variable ns u) gs) = ((s : Shape) × (meaning.object_for (first_name_listed ns) ≡ Some (a_variable s)) × Denotes u s) × VariablesAreTyped gs
 
   abbrev pub first_parameter : Tree ℕ section → ℕ
-  first_parameter (value_section ns u) = first_listed ns
-  first_parameter (variable_section ns u) = first_listed ns
+  first_parameter (value_section ns u) = first_name_listed ns
+  first_parameter (variable_section ns u) = first_name_listed ns
 
   abbrev pub FormalsAreTyped : Tree ℕ (items further_section) → Type 0
   FormalsAreTyped end = Unit {0}
@@ -99,33 +99,33 @@ module _ (r : Resolution) where
   put_weaker env after P Q f p = record { bound = p.bound; is = p.is; says = λ right. f (p.says right) }
 
   -- A token has the object that its label is bound to.
-  has_object : (x : ℕ) (o : Object Shape Signature) → at_label objects (label_in r x) ≡ Some o → meaning.object_for x ≡ Some o
+  has_object : (x : ℕ) (o : Object Shape Signature) → at_label objects (label_at_token r x) ≡ Some o → meaning.object_for x ≡ Some o
   has_object x o h = go (ordinal_in r.ordinals x) h
     where
-      go : (k : Option ℕ) → at_label objects (as_label as_names k (text_at r.module_read.source x)) ≡ Some o → option_and_then objects k ≡ Some o
+      go : (k : Option ℕ) → at_label objects (label_from_ordinal naming_by_spelling k (text_at r.module_read.source x)) ≡ Some o → option_and_then objects k ≡ Some o
       go None e = e
       go (Some k) e = e
 
   -- ---- declarations
 
-  constants-put : (env : TypeEnvironment Label) (cs : Tree Label (items constant)) (after : TypeEnvironment Label) → declare_constants as_labels env cs ≡ Some after → Put env after (Unit {0})
+  constants-put : (env : TypeEnvironment Label) (cs : Tree Label (items constant)) (after : TypeEnvironment Label) → declare_constants naming_by_label env cs ≡ Some after → Put env after (Unit {0})
   unfolding declare_constants
   constants-put env end after h = subst (λ e. Put env e (Unit {0})) (some_inverse h) (put_nothing env (Unit {0}) tt)
   constants-put env (more (declares_constant x e) cs) after h =
-      let found = then_some (constant_value (meanings as_labels env) e) (λ v. declare_constants as_labels ((x, a_constant v) ∷ env) cs) after h in
+      let found = then_some (constant_value (meanings naming_by_label env) e) (λ v. declare_constants naming_by_label ((x, a_constant v) ∷ env) cs) after h in
       let mid : TypeEnvironment Label = (x, a_constant found.0) ∷ env in
       put_weaker env after _ (Unit {0}) (λ p. tt) (put_more env mid after _ _ (put_one env x (a_constant found.0)) (constants-put mid cs after found.2))
 
-  types-put : (env : TypeEnvironment Label) (k : ℕ) (ds : Tree ℕ (items type_name)) (after : TypeEnvironment Label) → declare_types as_labels env k (in_labels r ds) ≡ Some after → Put env after (TypesAreTyped ds)
+  types-put : (env : TypeEnvironment Label) (k : ℕ) (ds : Tree ℕ (items type_name)) (after : TypeEnvironment Label) → declare_types naming_by_label env k (tree_with_labels r ds) ≡ Some after → Put env after (TypesAreTyped ds)
   unfolding declare_types
   types-put env k end after h = subst (λ e. Put env e (Unit {0})) (some_inverse h) (put_nothing env (Unit {0}) tt)
   types-put env k (more (declares_type x u) ds) after h =
-      let n : ℕ = k + constructors (in_labels r u) in
-      let found = then_some (denoted (meanings as_labels env) k (in_labels r u)) (λ s. declare_types as_labels ((label_in r x, a_type s) ∷ env) n (in_labels r ds)) after h in
-      let mid : TypeEnvironment Label = (label_in r x, a_type found.0) ∷ env in
+      let n : ℕ = k + constructor_count (tree_with_labels r u) in
+      let found = then_some (denoted (meanings naming_by_label env) k (tree_with_labels r u)) (λ s. declare_types naming_by_label ((label_at_token r x, a_type s) ∷ env) n (tree_with_labels r ds)) after h in
+      let mid : TypeEnvironment Label = (label_at_token r x, a_type found.0) ∷ env in
       put_weaker env after _ (TypesAreTyped (more (declares_type x u) ds))
       (λ p. ((found.0, has_object x (a_type found.0) p.0, record { env = env; ordinal = k; denotes = found.1 }), p.1))
-      (put_more env mid after _ _ (put_one env (label_in r x) (a_type found.0)) (types-put mid n ds after found.2))
+      (put_more env mid after _ _ (put_one env (label_at_token r x) (a_type found.0)) (types-put mid n ds after found.2))
 
   names-put : (env : TypeEnvironment Label) (xs : List Label) (o : Object Shape Signature) → Put env (bind_names xs o env) (Unit {0})
   names-put env [] o = put_nothing env (Unit {0}) tt
@@ -133,89 +133,89 @@ module _ (r : Resolution) where
       let mid : TypeEnvironment Label = (x, o) ∷ env in
       put_weaker env (bind_names xs o mid) _ (Unit {0}) (λ p. tt) (put_more env mid (bind_names xs o mid) _ _ (put_one env x o) (names-put mid xs o))
 
-  variables-put : (env : TypeEnvironment Label) (k : ℕ) (gs : Tree ℕ (items variable)) (after : TypeEnvironment Label) → declare_typed as_labels k (in_labels r gs) env ≡ Some after → Put env after (VariablesAreTyped gs)
+  variables-put : (env : TypeEnvironment Label) (k : ℕ) (gs : Tree ℕ (items variable)) (after : TypeEnvironment Label) → declare_typed naming_by_label k (tree_with_labels r gs) env ≡ Some after → Put env after (VariablesAreTyped gs)
   unfolding declare_typed
   variables-put env k end after h = subst (λ e. Put env e (Unit {0})) (some_inverse h) (put_nothing env (Unit {0}) tt)
   variables-put env k (more (declares_variable (listed x rest) u) gs) after h =
-      let n : ℕ = k + constructors (in_labels r u) in
-      let others : List Label = further_names (in_labels r rest) in
-      let found = then_some (denoted (meanings as_labels env) k (in_labels r u)) (λ s. declare_typed as_labels n (in_labels r gs) (bind_names others (a_variable s) ((label_in r x, a_variable s) ∷ env))) after h in
+      let n : ℕ = k + constructor_count (tree_with_labels r u) in
+      let others : List Label = further_names (tree_with_labels r rest) in
+      let found = then_some (denoted (meanings naming_by_label env) k (tree_with_labels r u)) (λ s. declare_typed naming_by_label n (tree_with_labels r gs) (bind_names others (a_variable s) ((label_at_token r x, a_variable s) ∷ env))) after h in
       let o : Object Shape Signature = a_variable found.0 in
-      let first : TypeEnvironment Label = (label_in r x, o) ∷ env in
+      let first : TypeEnvironment Label = (label_at_token r x, o) ∷ env in
       let mid : TypeEnvironment Label = bind_names others o first in
       put_weaker env after _ (VariablesAreTyped (more (declares_variable (listed x rest) u) gs))
       (λ p. ((found.0, has_object x o p.0.0, record { env = env; ordinal = k; denotes = found.1 }), p.1))
-      (put_more env mid after _ _ (put_more env first mid _ _ (put_one env (label_in r x) o) (names-put first others o)) (variables-put mid n gs after found.2))
+      (put_more env mid after _ _ (put_more env first mid _ _ (put_one env (label_at_token r x) o) (names-put first others o)) (variables-put mid n gs after found.2))
 
-  type_section-put : (env : TypeEnvironment Label) (k : ℕ) (ts : Tree ℕ (maybe type_names)) (after : TypeEnvironment Label) → declare_types as_labels env k (section_types (in_labels r ts)) ≡ Some after → Put env after (TypesAreTyped (section_types ts))
+  type_section-put : (env : TypeEnvironment Label) (k : ℕ) (ts : Tree ℕ (maybe type_names)) (after : TypeEnvironment Label) → declare_types naming_by_label env k (section_types (tree_with_labels r ts)) ≡ Some after → Put env after (TypesAreTyped (section_types ts))
   type_section-put env k none after h = types-put env k end after h
   type_section-put env k (one (declares_types ts)) after h = types-put env k ts after h
 
-  variable_section-put : (env : TypeEnvironment Label) (k : ℕ) (vs : Tree ℕ (maybe variables)) (after : TypeEnvironment Label) → declare_typed as_labels k (section_variables (in_labels r vs)) env ≡ Some after → Put env after (VariablesAreTyped (section_variables vs))
+  variable_section-put : (env : TypeEnvironment Label) (k : ℕ) (vs : Tree ℕ (maybe variables)) (after : TypeEnvironment Label) → declare_typed naming_by_label k (section_variables (tree_with_labels r vs)) env ≡ Some after → Put env after (VariablesAreTyped (section_variables vs))
   variable_section-put env k none after h = variables-put env k end after h
   variable_section-put env k (one (declares_variables vs)) after h = variables-put env k vs after h
 
-  firsts : (env : TypeEnvironment Label) (k : ℕ) (b : Tree Label block) (after : TypeEnvironment Label) → declare_first as_labels env k b ≡ Some after
-      → (mid : TypeEnvironment Label) × (declare_constants as_labels env (block_constants b) ≡ Some mid) × (declare_types as_labels mid k (block_types b) ≡ Some after)
+  firsts : (env : TypeEnvironment Label) (k : ℕ) (b : Tree Label block) (after : TypeEnvironment Label) → declare_first naming_by_label env k b ≡ Some after
+      → (mid : TypeEnvironment Label) × (declare_constants naming_by_label env (block_constants b) ≡ Some mid) × (declare_types naming_by_label mid k (block_types b) ≡ Some after)
   unfolding declare_first
-  firsts env k b after h = then_some (declare_constants as_labels env (block_constants b)) (λ e. declare_types as_labels e k (block_types b)) after h
+  firsts env k b after h = then_some (declare_constants naming_by_label env (block_constants b)) (λ e. declare_types naming_by_label e k (block_types b)) after h
 
-  block-put : (env : TypeEnvironment Label) (k : ℕ) (b : Tree ℕ block) (inner : TypeEnvironment Label) → declare_block as_labels env k (in_labels r b) ≡ Some inner → Put env inner (TypesAreTyped (block_types b) × VariablesAreTyped (block_variables b))
+  block-put : (env : TypeEnvironment Label) (k : ℕ) (b : Tree ℕ block) (inner : TypeEnvironment Label) → declare_block naming_by_label env k (tree_with_labels r b) ≡ Some inner → Put env inner (TypesAreTyped (block_types b) × VariablesAreTyped (block_variables b))
   block-put env k (has_body (declares cs ts vs ps) statements) inner h =
-      let b : Tree Label block = in_labels r (has_body (declares cs ts vs ps) statements) in
-      let two = then_some (declare_first as_labels env k b) (declare_typed as_labels (after_types k b) (block_variables b)) inner h in
+      let b : Tree Label block = tree_with_labels r (has_body (declares cs ts vs ps) statements) in
+      let two = then_some (declare_first naming_by_label env k b) (declare_typed naming_by_label (constructor_after_types k b) (block_variables b)) inner h in
       let one = firsts env k b two.0 two.1 in
       let c = constants-put env (block_constants b) one.0 one.1 in
       let t = type_section-put one.0 k ts two.0 one.2 in
-      let v = variable_section-put two.0 (after_types k b) vs inner two.2 in
+      let v = variable_section-put two.0 (constructor_after_types k b) vs inner two.2 in
       put_weaker env inner _ _ (λ p. (p.0.1, p.1)) (put_more env two.0 inner _ _ (put_more env one.0 two.0 _ _ c t) v)
 
   -- ---- headings
 
-  bind_typed-both : (ps qs : List (TypedParameter Label)) (env : TypeEnvironment Label) → bind_typed (ps ++ qs) env ≡ bind_typed qs (bind_typed ps env)
-  bind_typed-both [] qs env = refl
-  bind_typed-both (p ∷ ps) qs env = bind_typed-both ps qs ((p.name, a_variable p.formal.shape) ∷ env)
+  bind_typed_parameters-both : (ps qs : List (TypedParameter Label)) (env : TypeEnvironment Label) → bind_typed_parameters (ps ++ qs) env ≡ bind_typed_parameters qs (bind_typed_parameters ps env)
+  bind_typed_parameters-both [] qs env = refl
+  bind_typed_parameters-both (p ∷ ps) qs env = bind_typed_parameters-both ps qs ((p.name, a_variable p.formal.shape) ∷ env)
 
   -- The first parameter is bound to a variable of its type.
-  first-bound : (x : Label) (f : Formal) (ps : List (TypedParameter Label)) → Right objects (bind_typed (record { name = x; formal = f } ∷ ps) []) → at_label objects x ≡ Some (a_variable f.shape)
+  first-bound : (x : Label) (f : FormalParameter) (ps : List (TypedParameter Label)) → Right objects (bind_typed_parameters (record { name = x; formal = f } ∷ ps) []) → at_label objects x ≡ Some (a_variable f.shape)
   first-bound x f ps right =
       let one : TypeEnvironment Label = (x, a_variable f.shape) ∷ [] in
-      (right_split objects (bind_typed ps []) one (subst (Right objects) (bind_typed-append ps [] one) right)).1.0
+      (right_split objects (bind_typed_parameters ps []) one (subst (Right objects) (bind_typed_parameters-append ps [] one) right)).1.0
 
   -- A section of parameters has its types if the later sections have theirs.
   section-typed : (env : TypeEnvironment Label) (k : ℕ) (mode : Mode) (x : ℕ) (others : List Label) (u : Tree ℕ written_type) (fs : Tree ℕ (items further_section)) (qs : List (TypedParameter Label))
       → option_and_then
-      (λ s. option_and_then (λ rest. Some (map (parameter_of mode s) (label_in r x ∷ others) ++ rest))
-      (typed_parameters as_labels (bind_names (label_in r x ∷ others) (a_variable s) env) (k + constructors (in_labels r u)) (in_labels r fs)))
-      (denoted (meanings as_labels env) k (in_labels r u))
+      (λ s. option_and_then (λ rest. Some (map (parameter_of mode s) (label_at_token r x ∷ others) ++ rest))
+      (typed_parameters naming_by_label (bind_names (label_at_token r x ∷ others) (a_variable s) env) (k + constructor_count (tree_with_labels r u)) (tree_with_labels r fs)))
+      (denoted (meanings naming_by_label env) k (tree_with_labels r u))
       ≡ Some qs
-      → ((e : TypeEnvironment Label) (ps : List (TypedParameter Label)) → typed_parameters as_labels e (k + constructors (in_labels r u)) (in_labels r fs) ≡ Some ps → Right objects (bind_typed ps []) → FormalsAreTyped fs)
-      → Right objects (bind_typed qs []) → ((s : Shape) × (meaning.object_for x ≡ Some (a_variable s)) × Denotes u s) × FormalsAreTyped fs
+      → ((e : TypeEnvironment Label) (ps : List (TypedParameter Label)) → typed_parameters naming_by_label e (k + constructor_count (tree_with_labels r u)) (tree_with_labels r fs) ≡ Some ps → Right objects (bind_typed_parameters ps []) → FormalsAreTyped fs)
+      → Right objects (bind_typed_parameters qs []) → ((s : Shape) × (meaning.object_for x ≡ Some (a_variable s)) × Denotes u s) × FormalsAreTyped fs
   section-typed env k mode x others u fs qs h later right =
-      let n : ℕ = k + constructors (in_labels r u) in
-      let xs : List Label = label_in r x ∷ others in
-      let one = then_some (denoted (meanings as_labels env) k (in_labels r u)) (λ s. option_and_then (λ rest. Some (map (parameter_of mode s) xs ++ rest)) (typed_parameters as_labels (bind_names xs (a_variable s) env) n (in_labels r fs))) qs h in
+      let n : ℕ = k + constructor_count (tree_with_labels r u) in
+      let xs : List Label = label_at_token r x ∷ others in
+      let one = then_some (denoted (meanings naming_by_label env) k (tree_with_labels r u)) (λ s. option_and_then (λ rest. Some (map (parameter_of mode s) xs ++ rest)) (typed_parameters naming_by_label (bind_names xs (a_variable s) env) n (tree_with_labels r fs))) qs h in
       let s : Shape = one.0 in
-      let two = then_some (typed_parameters as_labels (bind_names xs (a_variable s) env) n (in_labels r fs)) (λ rest. Some (map (parameter_of mode s) xs ++ rest)) qs one.2 in
+      let two = then_some (typed_parameters naming_by_label (bind_names xs (a_variable s) env) n (tree_with_labels r fs)) (λ rest. Some (map (parameter_of mode s) xs ++ rest)) qs one.2 in
       let here : List (TypedParameter Label) = map (parameter_of mode s) xs in
       let rest : List (TypedParameter Label) = two.0 in
-      let all : Right objects (bind_typed (here ++ rest) []) = subst (λ ps. Right objects (bind_typed ps [])) (sym (some_inverse two.2)) right in
-      let parts = right_split objects (bind_typed rest []) (bind_typed here [])
-      (subst (Right objects) (bind_typed-both here rest [] ∙ bind_typed-append rest [] (bind_typed here [])) all) in (
-        (s, has_object x (a_variable s) (first-bound (label_in r x) (record { mode = mode; shape = s }) (map (parameter_of mode s) others) parts.1), record { env = env; ordinal = k; denotes = one.1 }),
+      let all : Right objects (bind_typed_parameters (here ++ rest) []) = subst (λ ps. Right objects (bind_typed_parameters ps [])) (sym (some_inverse two.2)) right in
+      let parts = right_split objects (bind_typed_parameters rest []) (bind_typed_parameters here [])
+      (subst (Right objects) (bind_typed_parameters-both here rest [] ∙ bind_typed_parameters-append rest [] (bind_typed_parameters here [])) all) in (
+        (s, has_object x (a_variable s) (first-bound (label_at_token r x) (record { mode = mode; shape = s }) (map (parameter_of mode s) others) parts.1), record { env = env; ordinal = k; denotes = one.1 }),
         later (bind_names xs (a_variable s) env) rest two.1 parts.0,
       )
 
-  formals-typed : (env : TypeEnvironment Label) (k : ℕ) (fs : Tree ℕ (items further_section)) (qs : List (TypedParameter Label)) → typed_parameters as_labels env k (in_labels r fs) ≡ Some qs → Right objects (bind_typed qs []) → FormalsAreTyped fs
+  formals-typed : (env : TypeEnvironment Label) (k : ℕ) (fs : Tree ℕ (items further_section)) (qs : List (TypedParameter Label)) → typed_parameters naming_by_label env k (tree_with_labels r fs) ≡ Some qs → Right objects (bind_typed_parameters qs []) → FormalsAreTyped fs
   unfolding typed_parameters
   formals-typed env k end qs h right = tt
   formals-typed env k (more (then_section (value_section (listed x others) u)) fs) qs h right =
-      section-typed env k by_value x (further_names (in_labels r others)) u fs qs h (λ e ps. formals-typed e (k + constructors (in_labels r u)) fs ps) right
+      section-typed env k by_value x (further_names (tree_with_labels r others)) u fs qs h (λ e ps. formals-typed e (k + constructor_count (tree_with_labels r u)) fs ps) right
   formals-typed env k (more (then_section (variable_section (listed x others) u)) fs) qs h right =
-      section-typed env k by_place x (further_names (in_labels r others)) u fs qs h (λ e ps. formals-typed e (k + constructors (in_labels r u)) fs ps) right
+      section-typed env k by_place x (further_names (tree_with_labels r others)) u fs qs h (λ e ps. formals-typed e (k + constructor_count (tree_with_labels r u)) fs ps) right
 
-  formal_section-typed : (env : TypeEnvironment Label) (k : ℕ) (fs : Tree ℕ (maybe formals)) (qs : List (TypedParameter Label)) → typed_parameters as_labels env k (formal_sections (in_labels r fs)) ≡ Some qs
-      → Right objects (bind_typed qs []) → FormalsAreTyped (formal_sections fs)
+  formal_section-typed : (env : TypeEnvironment Label) (k : ℕ) (fs : Tree ℕ (maybe formals)) (qs : List (TypedParameter Label)) → typed_parameters naming_by_label env k (formal_sections (tree_with_labels r fs)) ≡ Some qs
+      → Right objects (bind_typed_parameters qs []) → FormalsAreTyped (formal_sections fs)
   formal_section-typed env k none qs h right = tt
   formal_section-typed env k (one no_formals) qs h right = tt
   formal_section-typed env k (one (some_formals f fs)) qs h right = formals-typed env k (more (then_section f) fs) qs h right
@@ -223,45 +223,45 @@ module _ (r : Resolution) where
   -- ---- blocks and procedures
 
   mutual
-    block-typed : (env : TypeEnvironment Label) (k : ℕ) (b : Tree ℕ block) → block_fits as_labels env k (in_labels r b) ≡ true → Right objects (block_bindings as_labels env k (in_labels r b)) → BlockIsTyped b
+    block-typed : (env : TypeEnvironment Label) (k : ℕ) (b : Tree ℕ block) → block_fits naming_by_label env k (tree_with_labels r b) ≡ true → Right objects (block_bindings naming_by_label env k (tree_with_labels r b)) → BlockIsTyped b
     block-typed env k (has_body (declares cs ts vs ps) statements) h right =
         let b : Tree ℕ block = has_body (declares cs ts vs ps) statements in
-        let b' : Tree Label block = in_labels r b in
+        let b' : Tree Label block = tree_with_labels r b in
         let parts = block-parts env k b' h in
         let inner : TypeEnvironment Label = parts.0 in
         let put = block-put env k b inner parts.1 in
-        let listed : block_bindings as_labels env k b' ≡ procedures_bindings as_labels inner (after_variables k b') (in_labels r ps) ++ put.bound =
+        let listed : block_bindings naming_by_label env k b' ≡ procedures_bindings naming_by_label inner (constructor_after_variables k b') (tree_with_labels r ps) ++ put.bound =
         block-listed env k b' inner parts.1
-        ∙ ap (λ e. procedures_bindings as_labels inner (after_variables k b') (in_labels r ps) ++ e) (ap (since env) put.is ∙ since-append put.bound env) in
-        let two = right_split objects (procedures_bindings as_labels inner (after_variables k b') (in_labels r ps)) put.bound (subst (Right objects) listed right) in
-        (put.says two.1, procedures-typed inner (after_variables k b') (block_statements b') ps parts.2 two.0)
+        ∙ ap (λ e. procedures_bindings naming_by_label inner (constructor_after_variables k b') (tree_with_labels r ps) ++ e) (ap (bindings_since env) put.is ∙ bindings_since-append put.bound env) in
+        let two = right_split objects (procedures_bindings naming_by_label inner (constructor_after_variables k b') (tree_with_labels r ps)) put.bound (subst (Right objects) listed right) in
+        (put.says two.1, procedures-typed inner (constructor_after_variables k b') (block_statements b') ps parts.2 two.0)
 
-    procedures-typed : (env : TypeEnvironment Label) (k : ℕ) (statements : Tree Label (maybe body)) (ps : Tree ℕ (items procedure)) → procedures_fit as_labels env k statements (in_labels r ps) ≡ true
-        → Right objects (procedures_bindings as_labels env k (in_labels r ps)) → ProceduresAreTyped ps
+    procedures-typed : (env : TypeEnvironment Label) (k : ℕ) (statements : Tree Label (maybe body)) (ps : Tree ℕ (items procedure)) → procedures_fit naming_by_label env k statements (tree_with_labels r ps) ≡ true
+        → Right objects (procedures_bindings naming_by_label env k (tree_with_labels r ps)) → ProceduresAreTyped ps
     procedures-typed env k statements end h right = tt
     procedures-typed env k statements (more (declares_procedure x fs b closing) rest) h right =
-        let x' : Label = label_in r x in
-        let fs' : Tree Label (maybe formals) = in_labels r fs in
-        let b' : Tree Label block = in_labels r b in
-        let rest' : Tree Label (items procedure) = in_labels r rest in
-        let n : ℕ = k + procedure_constructors (declares_procedure x' fs' b' (label_in r closing)) in
-        let parts = procedure-parts env k statements x' fs' b' (label_in r closing) rest' h in
+        let x' : Label = label_at_token r x in
+        let fs' : Tree Label (maybe formals) = tree_with_labels r fs in
+        let b' : Tree Label block = tree_with_labels r b in
+        let rest' : Tree Label (items procedure) = tree_with_labels r rest in
+        let n : ℕ = k + procedure_constructor_count (declares_procedure x' fs' b' (label_at_token r closing)) in
+        let parts = procedure-parts env k statements x' fs' b' (label_at_token r closing) rest' h in
         let qs : List (TypedParameter Label) = parts.0 in
         let fit = parts.2 in
-        let own : TypeEnvironment Label = heading x' qs [] in
-        let inside : TypeEnvironment Label = block_bindings as_labels (bind_typed qs (heading x' qs env)) (k + formals_constructors (formal_sections fs')) b' in
-        let two = right_split objects (procedures_bindings as_labels (heading x' qs env) n rest') (inside ++ bind_typed qs own) (subst (Right objects) fit.listed right) in
-        let three = right_split objects inside (bind_typed qs own) two.1 in
-        let four = right_split objects (bind_typed qs []) own (subst (Right objects) (bind_typed-append qs [] own) three.1) in (
-          (formal_section-typed env k fs qs parts.1 four.0, block-typed (bind_typed qs (heading x' qs env)) (k + formals_constructors (formal_sections fs')) b fit.block_right three.0),
-          procedures-typed (heading x' qs env) n statements rest fit.rest_right two.0,
+        let own : TypeEnvironment Label = bind_procedure x' qs [] in
+        let inside : TypeEnvironment Label = block_bindings naming_by_label (bind_typed_parameters qs (bind_procedure x' qs env)) (k + formals_constructor_count (formal_sections fs')) b' in
+        let two = right_split objects (procedures_bindings naming_by_label (bind_procedure x' qs env) n rest') (inside ++ bind_typed_parameters qs own) (subst (Right objects) fit.listed right) in
+        let three = right_split objects inside (bind_typed_parameters qs own) two.1 in
+        let four = right_split objects (bind_typed_parameters qs []) own (subst (Right objects) (bind_typed_parameters-append qs [] own) three.1) in (
+          (formal_section-typed env k fs qs parts.1 four.0, block-typed (bind_typed_parameters qs (bind_procedure x' qs env)) (k + formals_constructor_count (formal_sections fs')) b fit.block_right three.0),
+          procedures-typed (bind_procedure x' qs env) n statements rest fit.rest_right two.0,
         )
 
   pub module-typed : IsResolution r → WellTyped (named_tree_of r.module_read) → BlockIsTyped (module_block (tree_of r.module_read))
   unfolding WellTyped fits_over
   module-typed is well =
       let m = named_tree_of r.module_read in
-      let t : Tree Label module_text = in_labels r (tree_of r.module_read) in
-      let fits : fits_over as_labels t ≡ true = ap (fits_over as_labels) (sym is.numbering) ∙ (sym (fits_by_ordinal-holds m) ∙ well.1) in
-      let right : Right objects (module_bindings as_labels t) = subst (λ z. Right objects (module_bindings as_labels z)) is.numbering (bindings_right r well) in
-      block-typed (outermost as_labels) 0 (module_block (tree_of r.module_read)) fits (right_split objects (block_bindings as_labels (outermost as_labels) 0 (module_block t)) (outermost as_labels) right).0
+      let t : Tree Label module_text = tree_with_labels r (tree_of r.module_read) in
+      let fits : fits_over naming_by_label t ≡ true = ap (fits_over naming_by_label) (sym is.numbering) ∙ (sym (numbering_keeps_type_check-holds m) ∙ well.1) in
+      let right : Right objects (module_bindings naming_by_label t) = subst (λ z. Right objects (module_bindings naming_by_label z)) is.numbering (bindings_right r well) in
+      block-typed (outermost naming_by_label) 0 (module_block (tree_of r.module_read)) fits (right_split objects (block_bindings naming_by_label (outermost naming_by_label) 0 (module_block t)) (outermost naming_by_label) right).0

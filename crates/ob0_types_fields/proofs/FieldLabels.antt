@@ -1,10 +1,10 @@
 -- The names of fields are labels with only a spelling in a numbered tree, so they are unbound.
 use Rattle.std.proofs.Common.{ℕ, suc, None, List, [], ◌∷◌}
 use Rattle.ob0_tree.specs.Tree.{Tree, array_type, block, declares, declares_procedure, declares_type, declares_types, declares_variable, declares_variables, end, fields, formals, further_fields, further_name, further_section, has_body, is_module, item, items, listed, maybe, module_text, more, named_type, names, no_fields, no_formals, none, one, procedure, record_type, section, some_fields, some_formals, then_fields, then_name, then_section, type_name, type_names, value_section, variable, variable_section, variables, written_type}
-use Rattle.ob0_language_names.specs.Mapping.{with_names}
-use Rattle.ob0_language_names.specs.Names.{Label, Name, as_names, as_written, declared}
-use Rattle.ob0_language_names.specs.Parts.{formal_names, formal_sections, further_names, module_block, names_listed, procedure_name, section_names, section_type, section_types, section_variables}
-use Rattle.ob0_language_names.specs.Scopes.{Scope, after_names, after_procedure, as_label, declare_names, first_procedure, first_type, first_variable, label_of, numbered, predeclared_scope, procedures_scope, relabel_block, relabel_formals, relabel_procedure, relabel_procedures, relabel_section, relabel_sections, relabel_type_section, relabel_types, relabel_uses, relabel_variable_section, relabel_variables, types_scope, variables_scope}
+use Rattle.ob0_language_names.specs.Mapping.{map_names}
+use Rattle.ob0_language_names.specs.Names.{Label, Name, naming_by_spelling, as_written, declared}
+use Rattle.ob0_language_names.specs.Parts.{formal_names, formal_sections, further_names, module_block, names_in_list, procedure_name, section_names, section_type, section_types, section_variables}
+use Rattle.ob0_language_names.specs.Scopes.{Scope, ordinal_after_names, ordinal_after_procedure, label_from_ordinal, declare_names, first_procedure_ordinal, first_type_ordinal, first_variable_ordinal, label_of, numbered, predeclared_scope, procedures_scope, relabel_block, relabel_formals, relabel_procedure, relabel_procedures, relabel_section, relabel_sections, relabel_type_section, relabel_types, relabel_uses, relabel_variable_section, relabel_variables, types_scope, variables_scope}
 
 abbrev pub IsWritten : Label → Type 0
 IsWritten (declared k) = ⊥
@@ -22,7 +22,7 @@ abbrev mutual
 
   pub GroupPlain : Tree Label fields → Type 0
   GroupPlain no_fields = Unit {0}
-  GroupPlain (some_fields ns t) = AllWritten (names_listed ns) × TypePlain t
+  GroupPlain (some_fields ns t) = AllWritten (names_in_list ns) × TypePlain t
 
   pub GroupsPlain : Tree Label (items further_fields) → Type 0
   GroupsPlain end = Unit {0}
@@ -54,75 +54,75 @@ abbrev mutual
 -- ---- the numbered tree
 
 abbrev label : Name → Label
-label x = as_label as_names None x
+label x = label_from_ordinal naming_by_spelling None x
 
 module _ (look : Name → Label) where
-  further-plain : (ns : Tree Name (items further_name)) → AllWritten (further_names (with_names look label ns))
+  further-plain : (ns : Tree Name (items further_name)) → AllWritten (further_names (map_names look label ns))
   further-plain end = tt
   further-plain (more (then_name x) rest) = (tt, further-plain rest)
 
-  names-plain : (ns : Tree Name names) → AllWritten (names_listed (with_names look label ns))
+  names-plain : (ns : Tree Name names) → AllWritten (names_in_list (map_names look label ns))
   names-plain (listed x rest) = (tt, further-plain rest)
 
   mutual
-    type-plain : (u : Tree Name written_type) → TypePlain (with_names look label u)
+    type-plain : (u : Tree Name written_type) → TypePlain (map_names look label u)
     type-plain (named_type x) = tt
     type-plain (array_type e t) = type-plain t
     type-plain (record_type g rest) = (group-plain g, groups-plain rest)
 
-    group-plain : (g : Tree Name fields) → GroupPlain (with_names look label g)
+    group-plain : (g : Tree Name fields) → GroupPlain (map_names look label g)
     group-plain no_fields = tt
     group-plain (some_fields ns t) = (names-plain ns, type-plain t)
 
-    groups-plain : (gs : Tree Name (items further_fields)) → GroupsPlain (with_names look label gs)
+    groups-plain : (gs : Tree Name (items further_fields)) → GroupsPlain (map_names look label gs)
     groups-plain end = tt
     groups-plain (more (then_fields g) rest) = (group-plain g, groups-plain rest)
 
-uses-plain : (scope : Scope Name) (u : Tree Name written_type) → TypePlain (relabel_uses as_names (as_label as_names) scope u)
-uses-plain scope u = type-plain (label_of as_names (as_label as_names) scope) u
+uses-plain : (scope : Scope Name) (u : Tree Name written_type) → TypePlain (relabel_uses naming_by_spelling (label_from_ordinal naming_by_spelling) scope u)
+uses-plain scope u = type-plain (label_of naming_by_spelling (label_from_ordinal naming_by_spelling) scope) u
 
-types-plain : (scope : Scope Name) (k : ℕ) (ds : Tree Name (items type_name)) → TypesPlain (relabel_types as_names (as_label as_names) scope k ds)
+types-plain : (scope : Scope Name) (k : ℕ) (ds : Tree Name (items type_name)) → TypesPlain (relabel_types naming_by_spelling (label_from_ordinal naming_by_spelling) scope k ds)
 types-plain scope k end = tt
 types-plain scope k (more (declares_type x u) ds) = (uses-plain scope u, types-plain ((x, k) ∷ scope) (suc k) ds)
 
-type_section-plain : (scope : Scope Name) (k : ℕ) (ts : Tree Name (maybe type_names)) → TypesPlain (section_types (relabel_type_section as_names (as_label as_names) scope k ts))
+type_section-plain : (scope : Scope Name) (k : ℕ) (ts : Tree Name (maybe type_names)) → TypesPlain (section_types (relabel_type_section naming_by_spelling (label_from_ordinal naming_by_spelling) scope k ts))
 type_section-plain scope k none = tt
 type_section-plain scope k (one (declares_types ts)) = types-plain scope k ts
 
-variables-plain : (scope : Scope Name) (k : ℕ) (gs : Tree Name (items variable)) → VariablesPlain (relabel_variables as_names (as_label as_names) scope k gs)
+variables-plain : (scope : Scope Name) (k : ℕ) (gs : Tree Name (items variable)) → VariablesPlain (relabel_variables naming_by_spelling (label_from_ordinal naming_by_spelling) scope k gs)
 variables-plain scope k end = tt
-variables-plain scope k (more (declares_variable ns u) gs) = (uses-plain scope u, variables-plain (declare_names k (names_listed ns) scope) (after_names k (names_listed ns)) gs)
+variables-plain scope k (more (declares_variable ns u) gs) = (uses-plain scope u, variables-plain (declare_names k (names_in_list ns) scope) (ordinal_after_names k (names_in_list ns)) gs)
 
-variable_section-plain : (scope : Scope Name) (k : ℕ) (vs : Tree Name (maybe variables)) → VariablesPlain (section_variables (relabel_variable_section as_names (as_label as_names) scope k vs))
+variable_section-plain : (scope : Scope Name) (k : ℕ) (vs : Tree Name (maybe variables)) → VariablesPlain (section_variables (relabel_variable_section naming_by_spelling (label_from_ordinal naming_by_spelling) scope k vs))
 variable_section-plain scope k none = tt
 variable_section-plain scope k (one (declares_variables vs)) = variables-plain scope k vs
 
-section-plain : (scope : Scope Name) (k : ℕ) (f : Tree Name section) → TypePlain (section_type (relabel_section as_names (as_label as_names) scope k f))
+section-plain : (scope : Scope Name) (k : ℕ) (f : Tree Name section) → TypePlain (section_type (relabel_section naming_by_spelling (label_from_ordinal naming_by_spelling) scope k f))
 section-plain scope k (value_section ns u) = uses-plain scope u
 section-plain scope k (variable_section ns u) = uses-plain scope u
 
-sections-plain : (scope : Scope Name) (k : ℕ) (fs : Tree Name (items further_section)) → SectionsPlain (relabel_sections as_names (as_label as_names) scope k fs)
+sections-plain : (scope : Scope Name) (k : ℕ) (fs : Tree Name (items further_section)) → SectionsPlain (relabel_sections naming_by_spelling (label_from_ordinal naming_by_spelling) scope k fs)
 sections-plain scope k end = tt
-sections-plain scope k (more (then_section f) fs) = (section-plain scope k f, sections-plain (declare_names k (section_names f) scope) (after_names k (section_names f)) fs)
+sections-plain scope k (more (then_section f) fs) = (section-plain scope k f, sections-plain (declare_names k (section_names f) scope) (ordinal_after_names k (section_names f)) fs)
 
-formals-plain : (scope : Scope Name) (k : ℕ) (fs : Tree Name (maybe formals)) → SectionsPlain (formal_sections (relabel_formals as_names (as_label as_names) scope k fs))
+formals-plain : (scope : Scope Name) (k : ℕ) (fs : Tree Name (maybe formals)) → SectionsPlain (formal_sections (relabel_formals naming_by_spelling (label_from_ordinal naming_by_spelling) scope k fs))
 formals-plain scope k none = tt
 formals-plain scope k (one no_formals) = tt
-formals-plain scope k (one (some_formals f fs)) = (section-plain scope k f, sections-plain (declare_names k (section_names f) scope) (after_names k (section_names f)) fs)
+formals-plain scope k (one (some_formals f fs)) = (section-plain scope k f, sections-plain (declare_names k (section_names f) scope) (ordinal_after_names k (section_names f)) fs)
 
 mutual
-  block-plain : (scope : Scope Name) (k : ℕ) (b : Tree Name block) → BlockPlain (relabel_block as_names (as_label as_names) scope k b)
+  block-plain : (scope : Scope Name) (k : ℕ) (b : Tree Name block) → BlockPlain (relabel_block naming_by_spelling (label_from_ordinal naming_by_spelling) scope k b)
   block-plain scope k (has_body (declares cs ts vs ps) statements) =
       let b : Tree Name block = has_body (declares cs ts vs ps) statements in
-      ((type_section-plain (types_scope k b scope) (first_type k b) ts, variable_section-plain (variables_scope k b scope) (first_variable k b) vs), procedures-plain (procedures_scope k b scope) (first_procedure k b) ps)
+      ((type_section-plain (types_scope k b scope) (first_type_ordinal k b) ts, variable_section-plain (variables_scope k b scope) (first_variable_ordinal k b) vs), procedures-plain (procedures_scope k b scope) (first_procedure_ordinal k b) ps)
 
-  procedures-plain : (scope : Scope Name) (k : ℕ) (ps : Tree Name (items procedure)) → ProceduresPlain (relabel_procedures as_names (as_label as_names) scope k ps)
+  procedures-plain : (scope : Scope Name) (k : ℕ) (ps : Tree Name (items procedure)) → ProceduresPlain (relabel_procedures naming_by_spelling (label_from_ordinal naming_by_spelling) scope k ps)
   procedures-plain scope k end = tt
-  procedures-plain scope k (more p rest) = (procedure-plain scope k p, procedures-plain ((procedure_name p, k) ∷ scope) (after_procedure (suc k) p) rest)
+  procedures-plain scope k (more p rest) = (procedure-plain scope k p, procedures-plain ((procedure_name p, k) ∷ scope) (ordinal_after_procedure (suc k) p) rest)
 
-  procedure-plain : (scope : Scope Name) (k : ℕ) (p : Tree Name (item procedure)) → ProcedurePlain (relabel_procedure as_names (as_label as_names) scope k p)
+  procedure-plain : (scope : Scope Name) (k : ℕ) (p : Tree Name (item procedure)) → ProcedurePlain (relabel_procedure naming_by_spelling (label_from_ordinal naming_by_spelling) scope k p)
   procedure-plain scope k (declares_procedure x fs b closing) =
-      (formals-plain scope (suc k) fs, block-plain (declare_names (suc k) (formal_names (formal_sections fs)) ((x, k) ∷ scope)) (after_names (suc k) (formal_names (formal_sections fs))) b)
+      (formals-plain scope (suc k) fs, block-plain (declare_names (suc k) (formal_names (formal_sections fs)) ((x, k) ∷ scope)) (ordinal_after_names (suc k) (formal_names (formal_sections fs))) b)
 
 pub numbered-plain : (m : Tree Name module_text) → BlockPlain (module_block (numbered m))
-numbered-plain (is_module x b closing) = block-plain (predeclared_scope as_names) 7 b
+numbered-plain (is_module x b closing) = block-plain (predeclared_scope naming_by_spelling) 7 b

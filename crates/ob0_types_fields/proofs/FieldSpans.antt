@@ -12,13 +12,13 @@ use Rattle.ob0_scan.specs.declared.lexeme.Span.{Span}
 use Rattle.ob0_scan.specs.declared.lexeme.TokenKind.TheVariants as kind
 use Rattle.ob0_scan.specs.declared.lexeme.Token.{Token}
 use Rattle.ob0_scan.specs.Lexed.{Lexeme}
-use Rattle.ob0_scan.specs.Scanned.{IsScan, Scanned, span_from, token_at, tokens_from}
-use Rattle.ob0_tree.specs.Order.{Ascending}
+use Rattle.ob0_scan.specs.TextWithTokens.{IsScan, TextWithTokens, span_from, token_at, tokens_from}
+use Rattle.ob0_tree.specs.Order.{AreAscending}
 use Rattle.ob0_scope_table.specs.Resolution.{span_at}
-use Rattle.ob0_scope_table.specs.Spans.{span_in}
+use Rattle.ob0_scope_table.specs.Spans.{span_or_empty}
 use Rattle.ob0_scope_table.specs.Spans.{is_on}
 use Rattle.ob0_types_fields.specs.declared.field_name.FieldName.{FieldName}
-use Rattle.ob0_types_fields.specs.Identifiers.{AreInTextOrder, field_on, tokens_of}
+use Rattle.ob0_types_fields.specs.Identifiers.{AreInTextOrder, field_at_offset, tokens_of}
 
 -- ---- the tokens of a text
 
@@ -57,25 +57,25 @@ apart from (t ∷ ts) (suc i) (suc j) d h less within = apart t.span.end ts i j 
 
 -- ---- identifiers in text order
 
-abbrev start_of : Scanned → FieldName → ℕ
+abbrev start_of : TextWithTokens → FieldName → ℕ
 start_of source x = (span_at source x.token).start
 
-abbrev end_of : Scanned → FieldName → ℕ
+abbrev end_of : TextWithTokens → FieldName → ℕ
 end_of source x = (span_at source x.token).end
 
 module _ (f : ℕ → ℕ) (n : ℕ) (each : (i j : ℕ) → i ≤ j → j < n → f i ≤ f j) where
-  among : (xs : List FieldName) (low i : ℕ) (d : FieldName) → Ascending low (tokens_of xs) n → i < length xs → (low ≤ (get_or xs i d).token) × ((get_or xs i d).token < n)
+  among : (xs : List FieldName) (low i : ℕ) (d : FieldName) → AreAscending low (tokens_of xs) n → i < length xs → (low ≤ (get_or xs i d).token) × ((get_or xs i d).token < n)
   among [] low i d h less = absurd (omega (arith, less))
   among (x ∷ xs) low zero d h less = (h.0, high_enough (tokens_of xs) (x.token + 1) h.1 (omega arith))
     where
-      high_enough : (ys : List ℕ) (at : ℕ) → Ascending at ys n → x.token + 1 ≤ at → x.token < n
+      high_enough : (ys : List ℕ) (at : ℕ) → AreAscending at ys n → x.token + 1 ≤ at → x.token < n
       high_enough [] at h low = omega (arith, h, low)
       high_enough (y ∷ ys) at h low = high_enough ys (y + 1) h.1 (omega (arith, h.0, low))
   among (x ∷ xs) low (suc i) d h less =
       let later = among xs (x.token + 1) i d h.1 (omega (arith, less)) in
       (omega (arith, h.0, later.0), later.1)
 
-  rising : (xs : List FieldName) (low : ℕ) → Ascending low (tokens_of xs) n → IsNonDecreasingBy (λ x. f x.token) xs
+  rising : (xs : List FieldName) (low : ℕ) → AreAscending low (tokens_of xs) n → IsNonDecreasingBy (λ x. f x.token) xs
   rising [] low h i j d le less = absurd (omega (arith, less))
   rising (x ∷ xs) low h zero zero d le less = omega arith
   rising (x ∷ xs) low h (suc i) zero d le less = absurd (omega (arith, le))
@@ -87,12 +87,12 @@ module _ (f : ℕ → ℕ) (n : ℕ) (each : (i j : ℕ) → i ≤ j → j < n �
 nothing : Token
 nothing = record { kind = kind.Identifier; span = record { start = 0; end = 0 } }
 
-module _ (source : Scanned) (scan : IsScan source) where
+module _ (source : TextWithTokens) (scan : IsScan source) where
   follow : Follow 0 source.tokens
   follow = subst (Follow 0) (sym scan.tokens) (follow_from 0 scan.lexemes)
 
   read : (i : ℕ) → i < length source.tokens → span_at source i ≡ (get_or source.tokens i nothing).span
-  read i less = ap span_in (slice_get-get_or source.tokens i nothing less)
+  read i less = ap span_or_empty (slice_get-get_or source.tokens i nothing less)
 
   in_order : (i j : ℕ) → i ≤ j → j < length source.tokens → ((span_at source i).start ≤ (span_at source j).start) × ((span_at source i).end ≤ (span_at source j).end)
   in_order i j le less = ⊎_elim
@@ -119,11 +119,11 @@ module _ (source : Scanned) (scan : IsScan source) where
 -- ---- binary search
 
 -- returns the identifier if it contains a place or ends there
-abbrev pub on_place : Scanned → ℕ → Option FieldName → Option FieldName
+abbrev pub on_place : TextWithTokens → ℕ → Option FieldName → Option FieldName
 on_place source offset None = None
 on_place source offset (Some x) = if is_on offset (span_at source x.token) then Some x else None
 
-module _ (source : Scanned) (offset : ℕ) where
+module _ (source : TextWithTokens) (offset : ℕ) where
   off_before : (x : FieldName) → nat_lt (end_of source x) offset ≡ true → is_on offset (span_at source x.token) ≡ false
   off_before x before = one (is_on offset (span_at source x.token)) refl
     where
@@ -138,18 +138,18 @@ module _ (source : Scanned) (offset : ℕ) where
       one false e = refl
       one true e = absurd (omega (arith, leb-true (start_of source x) offset (and_parts (nat_le (start_of source x) offset) (nat_le offset (end_of source x)) e).0, following))
 
-  none_following : (xs : List FieldName) → ((i : ℕ) (d : FieldName) → i < length xs → offset < start_of source (get_or xs i d)) → field_on source offset xs ≡ None
+  none_following : (xs : List FieldName) → ((i : ℕ) (d : FieldName) → i < length xs → offset < start_of source (get_or xs i d)) → field_at_offset source offset xs ≡ None
   none_following [] h = refl
   none_following (x ∷ xs) h =
-      ap (λ b. if b then Some x else field_on source offset xs) (off_following x (h zero x (omega arith)))
+      ap (λ b. if b then Some x else field_at_offset source offset xs) (off_following x (h zero x (omega arith)))
       ∙ none_following xs (λ i d less. h (suc i) d (omega (arith, less)))
 
   pub halved : (xs : List FieldName) (k : ℕ) → IsNonDecreasingBy (start_of source) xs → IsPartitionPoint (λ x. nat_lt (end_of source x) offset ≡ true) (λ x. nat_lt (end_of source x) offset ≡ false) xs k → k ≤ length xs
-      → on_place source offset (slice_get xs k) ≡ field_on source offset xs
+      → on_place source offset (slice_get xs k) ≡ field_at_offset source offset xs
   halved [] k rise point within = refl
   halved (x ∷ xs) zero rise point within = one (is_on offset (span_at source x.token)) refl
     where
-      one : (b : Bool) → is_on offset (span_at source x.token) ≡ b → (if b then Some x else None) ≡ (if b then Some x else field_on source offset xs)
+      one : (b : Bool) → is_on offset (span_at source x.token) ≡ b → (if b then Some x else None) ≡ (if b then Some x else field_at_offset source offset xs)
       one true e = refl
       one false e =
           let reached : offset ≤ end_of source x = ltb-false (end_of source x) offset (point.1 zero x (omega arith) (omega arith)) in
@@ -164,4 +164,4 @@ module _ (source : Scanned) (offset : ℕ) where
       (λ i j d le less. rise (suc i) (suc j) d (omega (arith, le)) (omega (arith, less)))
       (λ i d low less. point.0 (suc i) d (omega arith) (omega (arith, less)), λ i d low less. point.1 (suc i) d (omega (arith, low)) (omega (arith, less)))
       (omega (arith, within))
-      ∙ sym (ap (λ b. if b then Some x else field_on source offset xs) (off_before x (point.0 zero x (omega arith) (omega arith))))
+      ∙ sym (ap (λ b. if b then Some x else field_at_offset source offset xs) (off_before x (point.0 zero x (omega arith) (omega arith))))

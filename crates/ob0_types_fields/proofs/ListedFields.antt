@@ -2,38 +2,38 @@
 use Rattle.std.proofs.Common.{◌≡◌, ◌==◌, ℕ, Bool, true, false, List, [], ◌∷◌, length, is_some, if◌then◌else◌, refl, sym, ap, ◌∙◌, true≢false, eqb-true, All}
 use Rattle.std.proofs.lemmas.List.{nil_from_length}
 use Rattle.std.proofs.lemmas.List.Elements.{All-head}
-use Rattle.ob0_tree.specs.Parsed.{Parsed, named_tree_of, tree_of}
+use Rattle.ob0_tree.specs.ParsedModule.{ParsedModule, named_tree_of, tree_of}
 use Rattle.ob0_tree.specs.Places.{text_at}
 use Rattle.ob0_scope_table.specs.Resolution.{IsResolution, Resolution}
 use Rattle.ob0_language_types.specs.Bindings.{declared_object}
-use Rattle.ob0_types_table.specs.KnownTables.{Tables, declared_in}
+use Rattle.ob0_types_table.specs.KnownTables.{Tables, declared_object_in}
 use Rattle.ob0_language_types.specs.WellTyped.{WellTyped}
 use Rattle.ob0_types_fields.specs.declared.field_name.FieldName.{FieldName}
-use Rattle.ob0_types_fields.specs.Identifiers.{declared_fields, declaring_field, field_identifiers, first, tokens_among}
-use Rattle.ob0_types_fields.specs.Listed.{AreFields, listed_by}
-use Rattle.ob0_types_fields.specs.Owned.{marked_module, token_objects}
-use Rattle.ob0_types_fields.proofs.FieldsDeclared.{fields_declared-holds}
-use Rattle.ob0_types_fields.proofs.MarkedFields.{module-fields}
+use Rattle.ob0_types_fields.specs.Identifiers.{declared_fields, field_declaring_token, field_identifiers, first, tokens_of_field}
+use Rattle.ob0_types_fields.specs.FieldLists.{AreFieldListsOf, field_lists_of}
+use Rattle.ob0_types_fields.specs.Owned.{fields_in_module, meanings_by_token}
+use Rattle.ob0_types_fields.proofs.FieldsAreDeclared.{fields_are_declared-holds}
+use Rattle.ob0_types_fields.proofs.WalkFindsAllFields.{module-fields}
 
-none_selected : (m : Parsed) (xs : List FieldName) → declared_fields m ≡ [] → All (λ x. is_some (declaring_field m x.owner (text_at m.source x.token)) ≡ true) xs → xs ≡ []
+none_selected : (m : ParsedModule) (xs : List FieldName) → declared_fields m ≡ [] → All (λ x. is_some (field_declaring_token m x.owner (text_at m.source x.token)) ≡ true) xs → xs ≡ []
 none_selected m [] none all = refl
 none_selected m (x ∷ xs) none all =
-    absurd (true≢false (sym (All-head (λ y. is_some (declaring_field m y.owner (text_at m.source y.token)) ≡ true) x xs all)
-    ∙ ap (λ (declared : List FieldName). is_some (first (tokens_among m.source x.owner (text_at m.source x.token) declared))) none))
+    absurd (true≢false (sym (All-head (λ y. is_some (field_declaring_token m y.owner (text_at m.source y.token)) ≡ true) x xs all)
+    ∙ ap (λ (declared : List FieldName). is_some (first (tokens_of_field m.source x.owner (text_at m.source x.token) declared))) none))
 
 pub listed_fields : (r : Resolution) → IsResolution r → WellTyped (named_tree_of r.module_read)
-    → (t : Tables) → ((k : ℕ) → declared_in t k ≡ declared_object (named_tree_of r.module_read) k) → AreFields r (listed_by t r)
+    → (t : Tables) → ((k : ℕ) → declared_object_in t k ≡ declared_object (named_tree_of r.module_read) k) → AreFieldListsOf r (field_lists_of t r)
 listed_fields r named fits t holds = (refl, one (length (declared_fields r.module_read) == 0) refl)
   where
-    m : Parsed
+    m : ParsedModule
     m = r.module_read
 
-    found : marked_module (token_objects (declared_in t) r) (tree_of m) ≡ field_identifiers r
+    found : fields_in_module (meanings_by_token (declared_object_in t) r) (tree_of m) ≡ field_identifiers r
     found =
-        (λ i. marked_module (token_objects (λ k. holds k i) r) (tree_of m))
-        ∙ sym (module-fields (token_objects (declared_object (named_tree_of m)) r) (tree_of m))
+        (λ i. fields_in_module (meanings_by_token (λ k. holds k i) r) (tree_of m))
+        ∙ sym (module-fields (meanings_by_token (declared_object (named_tree_of m)) r) (tree_of m))
 
     one : (b : Bool) → (length (declared_fields m) == 0) ≡ b
-        → (if b then [] else marked_module (token_objects (declared_in t) r) (tree_of m)) ≡ field_identifiers r
-    one true e = sym (none_selected m (field_identifiers r) (nil_from_length (declared_fields m) (eqb-true (length (declared_fields m)) 0 e)) (fields_declared-holds r named fits))
+        → (if b then [] else fields_in_module (meanings_by_token (declared_object_in t) r) (tree_of m)) ≡ field_identifiers r
+    one true e = sym (none_selected m (field_identifiers r) (nil_from_length (declared_fields m) (eqb-true (length (declared_fields m)) 0 e)) (fields_are_declared-holds r named fits))
     one false e = found

@@ -6,18 +6,18 @@ use Rattle.ob0_tree.specs.View.{items_of}
 use Rattle.ob0_language_types.specs.Expressions.{Meanings}
 use Rattle.ob0_language_types.specs.WellTyped.{Signature}
 use Rattle.ob0_types_fields.specs.declared.field_name.FieldName.{FieldName}
-use Rattle.ob0_types_fields.specs.Owned.{marked_tree}
+use Rattle.ob0_types_fields.specs.Owned.{fields_in_tree}
 use Rattle.ob0_language_values.specs.Values.{Shape}
 
 -- holds if the fields so far, followed by the fields of the remaining items, are the fields at the start followed by
 -- the fields of all items
 pub record Walking {A : Type 0} {i : Item} (f : A → Tree ℕ (item i)) (m : Meanings ℕ Shape Signature) (start : List FieldName) (xs : List A) (done : ℕ) (out : List FieldName) : Type 0 where
-  pub so_far : out ++ marked_tree m (items_of f (drop done xs)) ≡ start ++ marked_tree m (items_of f xs)
+  pub so_far : out ++ fields_in_tree m (items_of f (drop done xs)) ≡ start ++ fields_in_tree m (items_of f xs)
 
 pub walk_ends : {A : Type 0} {i : Item} {f : A → Tree ℕ (item i)} {m : Meanings ℕ Shape Signature} {start : List FieldName} {xs : List A} {done : ℕ} {out : List FieldName}
-    → Walking f m start xs done out → length xs ≤ done → out ≡ start ++ marked_tree m (items_of f xs)
+    → Walking f m start xs done out → length xs ≤ done → out ≡ start ++ fields_in_tree m (items_of f xs)
 walk_ends {f = f} {m = m} {xs = xs} {done = done} {out = out} w all =
-    sym (append-nil out) ∙ sym (ap (λ ys. out ++ marked_tree m (items_of f ys)) (drop_all done xs all)) ∙ w.so_far
+    sym (append-nil out) ∙ sym (ap (λ ys. out ++ fields_in_tree m (items_of f ys)) (drop_all done xs all)) ∙ w.so_far
 
 -- Two parts that are appended one after another are appended together.
 pub after_two : {X : Type 0} (start a b : List X) {out more c : List X} → out ≡ start ++ a → more ≡ out ++ b → b ≡ c → more ≡ start ++ (a ++ c)

@@ -3,12 +3,12 @@
 use Rattle.std.proofs.Common.{◌≡◌, ℕ, ◌+◌, List, ◌++◌, Option, option_and_then, refl, ap}
 use Rattle.ob0_tree.specs.Tree.{Sort, Tree, adds, array_type, assigns, begins, block, branches, calls, compares, declares, declares_constant, declares_constants, declares_procedure, declares_type, declares_types, declares_variable, declares_variables, designator, else_branch, elsif_branch, empty, end, field, has_body, index, integer, is_module, item, items, listed, more, multiplies, named_type, negation, no_arguments, no_fields, no_formals, none, one, parenthesised, procedure, product, record_type, relates, repeat_loop, runs, selector, some_arguments, some_fields, some_formals, sum, then_argument, then_fields, then_name, then_section, then_statement, value_section, variable_section, while_loop}
 use Rattle.ob0_language_names.specs.Parts.{formal_sections, section_types, section_variables}
-use Rattle.ob0_language_types.specs.Declarations.{after_formals, after_types, after_variables, procedure_constructors}
+use Rattle.ob0_language_types.specs.Declarations.{constructor_after_formals, constructor_after_types, constructor_after_variables, procedure_constructor_count}
 use Rattle.ob0_language_types.specs.Expressions.{Meanings}
 use Rattle.ob0_language_types.specs.Typing.{element_type, field_type, object_type}
 use Rattle.ob0_language_values.specs.Values.{Shape, integer_shape}
-use Rattle.ob0_scope_table.specs.BodyAlone.{EachToken}
-use Rattle.ob0_types_fields.specs.Owned.{marked_block, marked_field, marked_path, marked_procedure, marked_procedures, marked_sections, marked_tree, marked_types, marked_variables, owner}
+use Rattle.ob0_scope_table.specs.TokenProperty.{EachTokenHas}
+use Rattle.ob0_types_fields.specs.Owned.{fields_in_block, field_if_owned, fields_in_path, fields_in_procedure, fields_in_procedures, fields_in_sections, fields_in_tree, fields_in_types, fields_in_variables, owner}
 
 -- holds if the names at a token have the same meaning and spelling
 pub record MeansSame {Q : Type 0} (m n : Meanings ℕ Shape Q) (token : ℕ) : Type 0 where
@@ -23,7 +23,7 @@ module _ {Q : Type 0} (m n : Meanings ℕ Shape Q) where
   Same token = MeansSame m n token
 
   mutual
-    pub tree_same : {s : Sort} (t : Tree ℕ s) → EachToken Same t → marked_tree m t ≡ marked_tree n t
+    pub tree_same : {s : Sort} (t : Tree ℕ s) → EachTokenHas Same t → fields_in_tree m t ≡ fields_in_tree n t
     tree_same none h = refl
     tree_same (one a) h = tree_same a h
     tree_same end h = refl
@@ -79,25 +79,25 @@ module _ {Q : Type 0} (m n : Meanings ℕ Shape Q) where
     tree_same (is_module a b c) h = refl
 
     -- Selectors select the same fields from a value of the same type.
-    path_same : (s t : Option Shape) → s ≡ t → (path : Tree ℕ (items selector)) → EachToken Same path → marked_path m s path ≡ marked_path n t path
+    path_same : (s t : Option Shape) → s ≡ t → (path : Tree ℕ (items selector)) → EachTokenHas Same path → fields_in_path m s path ≡ fields_in_path n t path
     path_same s t e end h = refl
     path_same s t e (more (field x) rest) h =
-        both_same (λ i. marked_field x (owner (e i) (h.0.written i)))
+        both_same (λ i. field_if_owned x (owner (e i) (h.0.written i)))
         (path_same (option_and_then (λ u. field_type u (m.written x)) s) (option_and_then (λ u. field_type u (n.written x)) t) (λ i. option_and_then (λ u. field_type u (h.0.written i)) (e i)) rest h.1)
     path_same s t e (more (index a) rest) h =
         both_same (tree_same a h.0)
         (path_same (option_and_then (λ u. element_type u integer_shape) s) (option_and_then (λ u. element_type u integer_shape) t) (ap (option_and_then (λ u. element_type u integer_shape)) e) rest h.1)
 
   mutual
-    pub block_same : (k : ℕ) (b : Tree ℕ block) → EachToken Same b → marked_block m k b ≡ marked_block n k b
+    pub block_same : (k : ℕ) (b : Tree ℕ block) → EachTokenHas Same b → fields_in_block m k b ≡ fields_in_block n k b
     block_same k (has_body (declares cs ts vs ps) statements) h =
-        both_same (ap (λ l. marked_types k (section_types ts) ++ (marked_variables (after_types k (has_body (declares cs ts vs ps) statements)) (section_variables vs) ++ l)) (procedures_same (after_variables k (has_body (declares cs ts vs ps) statements)) ps h.0.3))
+        both_same (ap (λ l. fields_in_types k (section_types ts) ++ (fields_in_variables (constructor_after_types k (has_body (declares cs ts vs ps) statements)) (section_variables vs) ++ l)) (procedures_same (constructor_after_variables k (has_body (declares cs ts vs ps) statements)) ps h.0.3))
         (tree_same statements h.1)
 
-    pub procedures_same : (k : ℕ) (ps : Tree ℕ (items procedure)) → EachToken Same ps → marked_procedures m k ps ≡ marked_procedures n k ps
+    pub procedures_same : (k : ℕ) (ps : Tree ℕ (items procedure)) → EachTokenHas Same ps → fields_in_procedures m k ps ≡ fields_in_procedures n k ps
     procedures_same k end h = refl
-    procedures_same k (more p rest) h = both_same (procedure_same k p h.0) (procedures_same (k + procedure_constructors p) rest h.1)
+    procedures_same k (more p rest) h = both_same (procedure_same k p h.0) (procedures_same (k + procedure_constructor_count p) rest h.1)
 
-    pub procedure_same : (k : ℕ) (p : Tree ℕ (item procedure)) → EachToken Same p → marked_procedure m k p ≡ marked_procedure n k p
+    pub procedure_same : (k : ℕ) (p : Tree ℕ (item procedure)) → EachTokenHas Same p → fields_in_procedure m k p ≡ fields_in_procedure n k p
     procedure_same k (declares_procedure x fs b closing) h =
-        ap (λ l. marked_sections k (formal_sections fs) ++ l) (block_same (after_formals k (declares_procedure x fs b closing)) b h.2)
+        ap (λ l. fields_in_sections k (formal_sections fs) ++ l) (block_same (constructor_after_formals k (declares_procedure x fs b closing)) b h.2)

@@ -2,30 +2,30 @@
 -- are the identifiers of the module without these statements.
 use Rattle.std.proofs.Common.{◌≡◌, ℕ, zero, suc, ◌+◌, List, [], ◌∷◌, ◌++◌, None, Option, refl, ap, ◌∙◌, sym, append_assoc, append-nil}
 use Rattle.ob0_tree.specs.Tree.{Tree, block, declares, declares_procedure, end, has_body, is_module, item, items, module_text, more, procedure}
-use Rattle.ob0_language_types.specs.Declarations.{after_formals, after_types, after_variables, block_constructors, formals_constructors, procedure_constructors, procedures_constructors, types_constructors, variables_constructors}
+use Rattle.ob0_language_types.specs.Declarations.{constructor_after_formals, constructor_after_types, constructor_after_variables, block_constructor_count, formals_constructor_count, procedure_constructor_count, procedures_constructor_count, types_constructor_count, variables_constructor_count}
 use Rattle.ob0_language_types.specs.Expressions.{Meanings}
 use Rattle.ob0_language_names.specs.Parts.{formal_sections, section_types, section_variables}
 use Rattle.ob0_language_values.specs.Values.{Shape}
-use Rattle.ob0_scope_table.specs.BodyReplaced.{Way, block_without, body_among, body_at, body_in, body_inside, closing_among, closing_at, closing_in, closing_inside, procedure_without, procedures_without, without}
-use Rattle.ob0_types_fields.specs.Owned.{owned, owned_block, owned_formals, owned_module, owned_procedure, owned_procedures, owned_type_section, owned_variable_section, unowned}
+use Rattle.ob0_scope_table.specs.BodyReplaced.{WayToBody, block_without, body_among, body_at, body_in, body_inside, closing_name_in_procedures, closing_name_in_module, closing_name_in_block, closing_name_in_procedure, procedure_without, procedures_without, module_without_body}
+use Rattle.ob0_types_fields.specs.Owned.{owners_in_tree, owners_in_block, owners_in_formals, owners_in_module, owners_in_procedure, owners_in_procedures, owners_in_type_section, owners_in_variable_section, identifiers_without_owners}
 
 -- ---- leaving out statements doesn't change the number of words ARRAY and RECORD
 
 module _ {N : Type 0} where
   mutual
-    pub block_counted : (way : Way) (b : Tree N block) → block_constructors (block_without way b) ≡ block_constructors b
+    pub block_counted : (way : WayToBody) (b : Tree N block) → block_constructor_count (block_without way b) ≡ block_constructor_count b
     block_counted [] (has_body (declares cs ts vs ps) statements) = refl
     block_counted (k ∷ way) (has_body (declares cs ts vs ps) statements) =
-        ap (λ n. types_constructors (section_types ts) + (variables_constructors (section_variables vs) + n)) (procedures_counted k way ps)
+        ap (λ n. types_constructor_count (section_types ts) + (variables_constructor_count (section_variables vs) + n)) (procedures_counted k way ps)
 
-    pub procedures_counted : (k : ℕ) (way : Way) (ps : Tree N (items procedure)) → procedures_constructors (procedures_without k way ps) ≡ procedures_constructors ps
+    pub procedures_counted : (k : ℕ) (way : WayToBody) (ps : Tree N (items procedure)) → procedures_constructor_count (procedures_without k way ps) ≡ procedures_constructor_count ps
     procedures_counted zero way end = refl
     procedures_counted (suc k) way end = refl
-    procedures_counted zero way (more p rest) = ap (λ n. n + procedures_constructors rest) (procedure_counted way p)
-    procedures_counted (suc k) way (more p rest) = ap (λ n. procedure_constructors p + n) (procedures_counted k way rest)
+    procedures_counted zero way (more p rest) = ap (λ n. n + procedures_constructor_count rest) (procedure_counted way p)
+    procedures_counted (suc k) way (more p rest) = ap (λ n. procedure_constructor_count p + n) (procedures_counted k way rest)
 
-    pub procedure_counted : (way : Way) (p : Tree N (item procedure)) → procedure_constructors (procedure_without way p) ≡ procedure_constructors p
-    procedure_counted way (declares_procedure x fs b closing) = ap (λ n. formals_constructors (formal_sections fs) + n) (block_counted way b)
+    pub procedure_counted : (way : WayToBody) (p : Tree N (item procedure)) → procedure_constructor_count (procedure_without way p) ≡ procedure_constructor_count p
+    procedure_counted way (declares_procedure x fs b closing) = ap (λ n. formals_constructor_count (formal_sections fs) + n) (block_counted way b)
 
 -- ---- before and after
 
@@ -71,58 +71,58 @@ closed own = (own, None) ∷ []
 
 module _ {Q : Type 0} (m : Meanings ℕ Shape Q) where
   mutual
-    pub block_split : (way : Way) (k own : ℕ) (b : Tree ℕ block)
-        → IsAround (owned_block m k b ++ closed own) (owned_block m k (block_without way b) ++ closed own) (owned m None (body_in way b)) (closing_in way own b)
+    pub block_split : (way : WayToBody) (k own : ℕ) (b : Tree ℕ block)
+        → IsAround (owners_in_block m k b ++ closed own) (owners_in_block m k (block_without way b) ++ closed own) (owners_in_tree m None (body_in way b)) (closing_name_in_block way own b)
     block_split [] k own (has_body (declares cs ts vs ps) statements) =
         let b : Tree ℕ block = has_body (declares cs ts vs ps) statements in
-        let D : List (ℕ × Option ℕ) = unowned cs ++ (owned_type_section k ts ++ (owned_variable_section (after_types k b) vs ++ owned_procedures m (after_variables k b) ps)) in
-        record { before = D; after = []; whole = append_assoc D (owned m None statements) (closed own); left = ap (λ l. l ++ closed own) (append-nil D) }
+        let D : List (ℕ × Option ℕ) = identifiers_without_owners cs ++ (owners_in_type_section k ts ++ (owners_in_variable_section (constructor_after_types k b) vs ++ owners_in_procedures m (constructor_after_variables k b) ps)) in
+        record { before = D; after = []; whole = append_assoc D (owners_in_tree m None statements) (closed own); left = ap (λ l. l ++ closed own) (append-nil D) }
     block_split (j ∷ way) k own (has_body (declares cs ts vs ps) statements) =
         let b : Tree ℕ block = has_body (declares cs ts vs ps) statements in
-        let inner : List (ℕ × Option ℕ) = owned m None (body_among j way ps) in
-        let c : ℕ = closing_among j way own ps in
-        let C : List (ℕ × Option ℕ) = unowned cs in
-        let T : List (ℕ × Option ℕ) = owned_type_section k ts in
-        let V : List (ℕ × Option ℕ) = owned_variable_section (after_types k b) vs in
-        let S : List (ℕ × Option ℕ) = owned m None statements in
-        let full : List (ℕ × Option ℕ) = owned_procedures m (after_variables k b) ps in
-        let less : List (ℕ × Option ℕ) = owned_procedures m (after_variables k b) (procedures_without j way ps) in
+        let inner : List (ℕ × Option ℕ) = owners_in_tree m None (body_among j way ps) in
+        let c : ℕ = closing_name_in_procedures j way own ps in
+        let C : List (ℕ × Option ℕ) = identifiers_without_owners cs in
+        let T : List (ℕ × Option ℕ) = owners_in_type_section k ts in
+        let V : List (ℕ × Option ℕ) = owners_in_variable_section (constructor_after_types k b) vs in
+        let S : List (ℕ × Option ℕ) = owners_in_tree m None statements in
+        let full : List (ℕ × Option ℕ) = owners_in_procedures m (constructor_after_variables k b) ps in
+        let less : List (ℕ × Option ℕ) = owners_in_procedures m (constructor_after_variables k b) (procedures_without j way ps) in
         as_these inner c (regrouped C T V full S (closed own)) (regrouped C T V less S (closed own))
         (in_front (T ++ (V ++ (full ++ (S ++ closed own)))) (T ++ (V ++ (less ++ (S ++ closed own)))) inner C c
         (in_front (V ++ (full ++ (S ++ closed own))) (V ++ (less ++ (S ++ closed own))) inner T c
         (in_front (full ++ (S ++ closed own)) (less ++ (S ++ closed own)) inner V c
-        (procedures_split j way (after_variables k b) own ps S))))
+        (procedures_split j way (constructor_after_variables k b) own ps S))))
 
-    pub procedures_split : (j : ℕ) (way : Way) (k own : ℕ) (ps : Tree ℕ (items procedure)) (tail : List (ℕ × Option ℕ))
-        → IsAround (owned_procedures m k ps ++ (tail ++ closed own)) (owned_procedures m k (procedures_without j way ps) ++ (tail ++ closed own)) (owned m None (body_among j way ps)) (closing_among j way own ps)
+    pub procedures_split : (j : ℕ) (way : WayToBody) (k own : ℕ) (ps : Tree ℕ (items procedure)) (tail : List (ℕ × Option ℕ))
+        → IsAround (owners_in_procedures m k ps ++ (tail ++ closed own)) (owners_in_procedures m k (procedures_without j way ps) ++ (tail ++ closed own)) (owners_in_tree m None (body_among j way ps)) (closing_name_in_procedures j way own ps)
     procedures_split zero way k own end tail = record { before = tail; after = []; whole = refl; left = refl }
     procedures_split (suc j) way k own end tail = record { before = tail; after = []; whole = refl; left = refl }
     procedures_split zero way k own (more p rest) tail =
-        let inner : List (ℕ × Option ℕ) = owned m None (body_inside way p) in
-        let c : ℕ = closing_inside way p in
-        let R : List (ℕ × Option ℕ) = owned_procedures m (k + procedure_constructors p) rest in
+        let inner : List (ℕ × Option ℕ) = owners_in_tree m None (body_inside way p) in
+        let c : ℕ = closing_name_in_procedure way p in
+        let R : List (ℕ × Option ℕ) = owners_in_procedures m (k + procedure_constructor_count p) rest in
         let last : List (ℕ × Option ℕ) = tail ++ closed own in
-        as_these inner c (append_assoc (owned_procedure m k p) R last)
-        ((λ i. (owned_procedure m k (procedure_without way p) ++ owned_procedures m (k + procedure_counted way p i) rest) ++ last) ∙ append_assoc (owned_procedure m k (procedure_without way p)) R last)
-        (followed_by (owned_procedure m k p) (owned_procedure m k (procedure_without way p)) inner (R ++ last) c (procedure_split way k p))
+        as_these inner c (append_assoc (owners_in_procedure m k p) R last)
+        ((λ i. (owners_in_procedure m k (procedure_without way p) ++ owners_in_procedures m (k + procedure_counted way p i) rest) ++ last) ∙ append_assoc (owners_in_procedure m k (procedure_without way p)) R last)
+        (followed_by (owners_in_procedure m k p) (owners_in_procedure m k (procedure_without way p)) inner (R ++ last) c (procedure_split way k p))
     procedures_split (suc j) way k own (more p rest) tail =
-        let inner : List (ℕ × Option ℕ) = owned m None (body_among j way rest) in
-        let c : ℕ = closing_among j way own rest in
-        let P : List (ℕ × Option ℕ) = owned_procedure m k p in
-        let n : ℕ = k + procedure_constructors p in
-        let full : List (ℕ × Option ℕ) = owned_procedures m n rest in
-        let less : List (ℕ × Option ℕ) = owned_procedures m n (procedures_without j way rest) in
+        let inner : List (ℕ × Option ℕ) = owners_in_tree m None (body_among j way rest) in
+        let c : ℕ = closing_name_in_procedures j way own rest in
+        let P : List (ℕ × Option ℕ) = owners_in_procedure m k p in
+        let n : ℕ = k + procedure_constructor_count p in
+        let full : List (ℕ × Option ℕ) = owners_in_procedures m n rest in
+        let less : List (ℕ × Option ℕ) = owners_in_procedures m n (procedures_without j way rest) in
         let last : List (ℕ × Option ℕ) = tail ++ closed own in
         as_these inner c (append_assoc P full last) (append_assoc P less last)
         (in_front (full ++ last) (less ++ last) inner P c (procedures_split j way n own rest tail))
 
-    pub procedure_split : (way : Way) (k : ℕ) (p : Tree ℕ (item procedure))
-        → IsAround (owned_procedure m k p) (owned_procedure m k (procedure_without way p)) (owned m None (body_inside way p)) (closing_inside way p)
+    pub procedure_split : (way : WayToBody) (k : ℕ) (p : Tree ℕ (item procedure))
+        → IsAround (owners_in_procedure m k p) (owners_in_procedure m k (procedure_without way p)) (owners_in_tree m None (body_inside way p)) (closing_name_in_procedure way p)
     procedure_split way k (declares_procedure x fs b closing) =
-        let j : ℕ = after_formals k (declares_procedure x fs b closing) in
-        let head : List (ℕ × Option ℕ) = (x, None) ∷ owned_formals k fs in
-        in_front (owned_block m j b ++ closed closing) (owned_block m j (block_without way b) ++ closed closing) (owned m None (body_in way b)) head (closing_in way closing b) (block_split way j closing b)
+        let j : ℕ = constructor_after_formals k (declares_procedure x fs b closing) in
+        let head : List (ℕ × Option ℕ) = (x, None) ∷ owners_in_formals k fs in
+        in_front (owners_in_block m j b ++ closed closing) (owners_in_block m j (block_without way b) ++ closed closing) (owners_in_tree m None (body_in way b)) head (closing_name_in_block way closing b) (block_split way j closing b)
 
-  pub module_split : (way : Way) (t : Tree ℕ module_text) → IsAround (owned_module m t) (owned_module m (without way t)) (owned m None (body_at way t)) (closing_at way t)
+  pub module_split : (way : WayToBody) (t : Tree ℕ module_text) → IsAround (owners_in_module m t) (owners_in_module m (module_without_body way t)) (owners_in_tree m None (body_at way t)) (closing_name_in_module way t)
   module_split way (is_module x b closing) =
-      in_front (owned_block m 0 b ++ closed closing) (owned_block m 0 (block_without way b) ++ closed closing) (owned m None (body_in way b)) ((x, None) ∷ []) (closing_in way closing b) (block_split way 0 closing b)
+      in_front (owners_in_block m 0 b ++ closed closing) (owners_in_block m 0 (block_without way b) ++ closed closing) (owners_in_tree m None (body_in way b)) ((x, None) ∷ []) (closing_name_in_block way closing b) (block_split way 0 closing b)

@@ -7,13 +7,13 @@ use Rattle.ob0_tree.specs.Tree.{Sort, Tree, Item, item, adds, array_type, assign
 use Rattle.ob0_language_names.specs.Names.{Name}
 use Rattle.ob0_language_types.specs.Expressions.{Meanings}
 use Rattle.ob0_language_types.specs.Typing.{field_type, object_type}
-use Rattle.ob0_language_types.specs.WellTyped.{Typed}
+use Rattle.ob0_language_types.specs.WellTyped.{TypeMeanings}
 use Rattle.ob0_language_values.specs.Values.{Shape}
-use Rattle.ob0_language_fields.specs.Fields.{type_after, selected_record, refield}
-use Rattle.ob0_types_fields.specs.Owners.{of_records}
-use Rattle.ob0_types_fields.specs.Owned.{HasOwners, owned, owner, after_selector, unowned, unowned_among}
+use Rattle.ob0_language_fields.specs.Fields.{select_type, record_ordinal, rename_fields}
+use Rattle.ob0_types_fields.specs.Owners.{field_names_by_record}
+use Rattle.ob0_types_fields.specs.Owned.{GivesListedOwners, owners_in_tree, owner, type_after_selector, identifiers_without_owners, unowned_identifiers}
 
-pub owners_split : (at : ℕ → Option ℕ) (xs ys : List (ℕ × Option ℕ)) → HasOwners at (xs ++ ys) → HasOwners at xs × HasOwners at ys
+pub owners_split : (at : ℕ → Option ℕ) (xs ys : List (ℕ × Option ℕ)) → GivesListedOwners at (xs ++ ys) → GivesListedOwners at xs × GivesListedOwners at ys
 owners_split at [] ys h = (tt, h)
 owners_split at (x ∷ xs) ys h = let rest = owners_split at xs ys h.1 in ((h.0, rest.0), rest.1)
 
@@ -26,128 +26,128 @@ none_split : (at : ℕ → Option ℕ) (xs ys : List (Role × ℕ)) → AllNone 
 none_split at [] ys h = (tt, h)
 none_split at (x ∷ xs) ys h = let rest = none_split at xs ys h.1 in ((h.0, rest.0), rest.1)
 
-all_none : (at : ℕ → Option ℕ) (xs : List (Role × ℕ)) → HasOwners at (unowned_among xs) → AllNone at xs
+all_none : (at : ℕ → Option ℕ) (xs : List (Role × ℕ)) → GivesListedOwners at (unowned_identifiers xs) → AllNone at xs
 all_none at [] h = tt
 all_none at (x ∷ xs) h = (h.0, all_none at xs h.1)
 
-unowned-mapped : (l : ℕ → Name → Name) (at : ℕ → Option ℕ) (text : ℕ → Name) (value : ℕ → ℕ) (r : Role) {s : Sort} (t : Tree ℕ s) → AllNone at (identifiers r t) → mapped text value t ≡ mapped (λ j. of_records l (at j) (text j)) value t
-unowned-mapped l at text value r none h = refl
-unowned-mapped l at text value r (one a) h = λ i. one (unowned-mapped l at text value r a h i)
-unowned-mapped l at text value r end h = refl
-unowned-mapped l at text value r (more a b) h =
+identifiers_without_owners-mapped : (l : ℕ → Name → Name) (at : ℕ → Option ℕ) (text : ℕ → Name) (value : ℕ → ℕ) (r : Role) {s : Sort} (t : Tree ℕ s) → AllNone at (identifiers r t) → mapped text value t ≡ mapped (λ j. field_names_by_record l (at j) (text j)) value t
+identifiers_without_owners-mapped l at text value r none h = refl
+identifiers_without_owners-mapped l at text value r (one a) h = λ i. one (identifiers_without_owners-mapped l at text value r a h i)
+identifiers_without_owners-mapped l at text value r end h = refl
+identifiers_without_owners-mapped l at text value r (more a b) h =
     let s0 = none_split at (identifiers r a) (identifiers r b) h in
-    λ i. more (unowned-mapped l at text value r a s0.0 i) (unowned-mapped l at text value r b s0.1 i)
-unowned-mapped l at text value r (compares a b) h =
+    λ i. more (identifiers_without_owners-mapped l at text value r a s0.0 i) (identifiers_without_owners-mapped l at text value r b s0.1 i)
+identifiers_without_owners-mapped l at text value r (compares a b) h =
     let s0 = none_split at (identifiers r a) (identifiers r b) h in
-    λ i. compares (unowned-mapped l at text value r a s0.0 i) (unowned-mapped l at text value r b s0.1 i)
-unowned-mapped l at text value r (relates a b) h = λ i. relates a (unowned-mapped l at text value r b h i)
-unowned-mapped l at text value r (sum a b c) h =
+    λ i. compares (identifiers_without_owners-mapped l at text value r a s0.0 i) (identifiers_without_owners-mapped l at text value r b s0.1 i)
+identifiers_without_owners-mapped l at text value r (relates a b) h = λ i. relates a (identifiers_without_owners-mapped l at text value r b h i)
+identifiers_without_owners-mapped l at text value r (sum a b c) h =
     let s0 = none_split at (identifiers r b) (identifiers r c) h in
-    λ i. sum a (unowned-mapped l at text value r b s0.0 i) (unowned-mapped l at text value r c s0.1 i)
-unowned-mapped l at text value r (adds a b) h = λ i. adds a (unowned-mapped l at text value r b h i)
-unowned-mapped l at text value r (product a b) h =
+    λ i. sum a (identifiers_without_owners-mapped l at text value r b s0.0 i) (identifiers_without_owners-mapped l at text value r c s0.1 i)
+identifiers_without_owners-mapped l at text value r (adds a b) h = λ i. adds a (identifiers_without_owners-mapped l at text value r b h i)
+identifiers_without_owners-mapped l at text value r (product a b) h =
     let s0 = none_split at (identifiers r a) (identifiers r b) h in
-    λ i. product (unowned-mapped l at text value r a s0.0 i) (unowned-mapped l at text value r b s0.1 i)
-unowned-mapped l at text value r (multiplies a b) h = λ i. multiplies a (unowned-mapped l at text value r b h i)
-unowned-mapped l at text value r (designator a b) h = λ i. designator (of_records l (sym h.0 i) (text a)) (unowned-mapped l at text value r b h.1 i)
-unowned-mapped l at text value r (integer a) h = refl
-unowned-mapped l at text value r (parenthesised a) h = λ i. parenthesised (unowned-mapped l at text value r a h i)
-unowned-mapped l at text value r (negation a) h = λ i. negation (unowned-mapped l at text value r a h i)
-unowned-mapped l at text value r (field a) h = λ i. field (of_records l (sym h.0 i) (text a))
-unowned-mapped l at text value r (index a) h = λ i. index (unowned-mapped l at text value r a h i)
-unowned-mapped l at text value r empty h = refl
-unowned-mapped l at text value r (assigns a b c) h =
+    λ i. product (identifiers_without_owners-mapped l at text value r a s0.0 i) (identifiers_without_owners-mapped l at text value r b s0.1 i)
+identifiers_without_owners-mapped l at text value r (multiplies a b) h = λ i. multiplies a (identifiers_without_owners-mapped l at text value r b h i)
+identifiers_without_owners-mapped l at text value r (designator a b) h = λ i. designator (field_names_by_record l (sym h.0 i) (text a)) (identifiers_without_owners-mapped l at text value r b h.1 i)
+identifiers_without_owners-mapped l at text value r (integer a) h = refl
+identifiers_without_owners-mapped l at text value r (parenthesised a) h = λ i. parenthesised (identifiers_without_owners-mapped l at text value r a h i)
+identifiers_without_owners-mapped l at text value r (negation a) h = λ i. negation (identifiers_without_owners-mapped l at text value r a h i)
+identifiers_without_owners-mapped l at text value r (field a) h = λ i. field (field_names_by_record l (sym h.0 i) (text a))
+identifiers_without_owners-mapped l at text value r (index a) h = λ i. index (identifiers_without_owners-mapped l at text value r a h i)
+identifiers_without_owners-mapped l at text value r empty h = refl
+identifiers_without_owners-mapped l at text value r (assigns a b c) h =
     let s0 = none_split at (identifiers r b) (identifiers r c) h.1 in
-    λ i. assigns (of_records l (sym h.0 i) (text a)) (unowned-mapped l at text value r b s0.0 i) (unowned-mapped l at text value r c s0.1 i)
-unowned-mapped l at text value r (calls a b) h = λ i. calls (of_records l (sym h.0 i) (text a)) (unowned-mapped l at text value r b h.1 i)
-unowned-mapped l at text value r (branches a b c d) h =
+    λ i. assigns (field_names_by_record l (sym h.0 i) (text a)) (identifiers_without_owners-mapped l at text value r b s0.0 i) (identifiers_without_owners-mapped l at text value r c s0.1 i)
+identifiers_without_owners-mapped l at text value r (calls a b) h = λ i. calls (field_names_by_record l (sym h.0 i) (text a)) (identifiers_without_owners-mapped l at text value r b h.1 i)
+identifiers_without_owners-mapped l at text value r (branches a b c d) h =
     let s0 = none_split at (identifiers r a) (identifiers r b ++ (identifiers r c ++ (identifiers r d))) h in
     let s1 = none_split at (identifiers r b) (identifiers r c ++ (identifiers r d)) s0.1 in
     let s2 = none_split at (identifiers r c) (identifiers r d) s1.1 in
-    λ i. branches (unowned-mapped l at text value r a s0.0 i) (unowned-mapped l at text value r b s1.0 i) (unowned-mapped l at text value r c s2.0 i) (unowned-mapped l at text value r d s2.1 i)
-unowned-mapped l at text value r (while_loop a b) h =
+    λ i. branches (identifiers_without_owners-mapped l at text value r a s0.0 i) (identifiers_without_owners-mapped l at text value r b s1.0 i) (identifiers_without_owners-mapped l at text value r c s2.0 i) (identifiers_without_owners-mapped l at text value r d s2.1 i)
+identifiers_without_owners-mapped l at text value r (while_loop a b) h =
     let s0 = none_split at (identifiers r a) (identifiers r b) h in
-    λ i. while_loop (unowned-mapped l at text value r a s0.0 i) (unowned-mapped l at text value r b s0.1 i)
-unowned-mapped l at text value r (repeat_loop a b) h =
+    λ i. while_loop (identifiers_without_owners-mapped l at text value r a s0.0 i) (identifiers_without_owners-mapped l at text value r b s0.1 i)
+identifiers_without_owners-mapped l at text value r (repeat_loop a b) h =
     let s0 = none_split at (identifiers r a) (identifiers r b) h in
-    λ i. repeat_loop (unowned-mapped l at text value r a s0.0 i) (unowned-mapped l at text value r b s0.1 i)
-unowned-mapped l at text value r no_arguments h = refl
-unowned-mapped l at text value r (some_arguments a b) h =
+    λ i. repeat_loop (identifiers_without_owners-mapped l at text value r a s0.0 i) (identifiers_without_owners-mapped l at text value r b s0.1 i)
+identifiers_without_owners-mapped l at text value r no_arguments h = refl
+identifiers_without_owners-mapped l at text value r (some_arguments a b) h =
     let s0 = none_split at (identifiers r a) (identifiers r b) h in
-    λ i. some_arguments (unowned-mapped l at text value r a s0.0 i) (unowned-mapped l at text value r b s0.1 i)
-unowned-mapped l at text value r (then_argument a) h = λ i. then_argument (unowned-mapped l at text value r a h i)
-unowned-mapped l at text value r (runs a b) h =
+    λ i. some_arguments (identifiers_without_owners-mapped l at text value r a s0.0 i) (identifiers_without_owners-mapped l at text value r b s0.1 i)
+identifiers_without_owners-mapped l at text value r (then_argument a) h = λ i. then_argument (identifiers_without_owners-mapped l at text value r a h i)
+identifiers_without_owners-mapped l at text value r (runs a b) h =
     let s0 = none_split at (identifiers r a) (identifiers r b) h in
-    λ i. runs (unowned-mapped l at text value r a s0.0 i) (unowned-mapped l at text value r b s0.1 i)
-unowned-mapped l at text value r (then_statement a) h = λ i. then_statement (unowned-mapped l at text value r a h i)
-unowned-mapped l at text value r (elsif_branch a b) h =
+    λ i. runs (identifiers_without_owners-mapped l at text value r a s0.0 i) (identifiers_without_owners-mapped l at text value r b s0.1 i)
+identifiers_without_owners-mapped l at text value r (then_statement a) h = λ i. then_statement (identifiers_without_owners-mapped l at text value r a h i)
+identifiers_without_owners-mapped l at text value r (elsif_branch a b) h =
     let s0 = none_split at (identifiers r a) (identifiers r b) h in
-    λ i. elsif_branch (unowned-mapped l at text value r a s0.0 i) (unowned-mapped l at text value r b s0.1 i)
-unowned-mapped l at text value r (else_branch a) h = λ i. else_branch (unowned-mapped l at text value r a h i)
-unowned-mapped l at text value r (listed a b) h = λ i. listed (of_records l (sym h.0 i) (text a)) (unowned-mapped l at text value r b h.1 i)
-unowned-mapped l at text value r (then_name a) h = λ i. then_name (of_records l (sym h.0 i) (text a))
-unowned-mapped l at text value r (named_type a) h = λ i. named_type (of_records l (sym h.0 i) (text a))
-unowned-mapped l at text value r (array_type a b) h =
+    λ i. elsif_branch (identifiers_without_owners-mapped l at text value r a s0.0 i) (identifiers_without_owners-mapped l at text value r b s0.1 i)
+identifiers_without_owners-mapped l at text value r (else_branch a) h = λ i. else_branch (identifiers_without_owners-mapped l at text value r a h i)
+identifiers_without_owners-mapped l at text value r (listed a b) h = λ i. listed (field_names_by_record l (sym h.0 i) (text a)) (identifiers_without_owners-mapped l at text value r b h.1 i)
+identifiers_without_owners-mapped l at text value r (then_name a) h = λ i. then_name (field_names_by_record l (sym h.0 i) (text a))
+identifiers_without_owners-mapped l at text value r (named_type a) h = λ i. named_type (field_names_by_record l (sym h.0 i) (text a))
+identifiers_without_owners-mapped l at text value r (array_type a b) h =
     let s0 = none_split at (identifiers r a) (identifiers r b) h in
-    λ i. array_type (unowned-mapped l at text value r a s0.0 i) (unowned-mapped l at text value r b s0.1 i)
-unowned-mapped l at text value r (record_type a b) h =
+    λ i. array_type (identifiers_without_owners-mapped l at text value r a s0.0 i) (identifiers_without_owners-mapped l at text value r b s0.1 i)
+identifiers_without_owners-mapped l at text value r (record_type a b) h =
     let s0 = none_split at (identifiers r a) (identifiers r b) h in
-    λ i. record_type (unowned-mapped l at text value r a s0.0 i) (unowned-mapped l at text value r b s0.1 i)
-unowned-mapped l at text value r no_fields h = refl
-unowned-mapped l at text value r (some_fields a b) h =
+    λ i. record_type (identifiers_without_owners-mapped l at text value r a s0.0 i) (identifiers_without_owners-mapped l at text value r b s0.1 i)
+identifiers_without_owners-mapped l at text value r no_fields h = refl
+identifiers_without_owners-mapped l at text value r (some_fields a b) h =
     let s0 = none_split at (identifiers role.FieldName a) (identifiers r b) h in
-    λ i. some_fields (unowned-mapped l at text value role.FieldName a s0.0 i) (unowned-mapped l at text value r b s0.1 i)
-unowned-mapped l at text value r (then_fields a) h = λ i. then_fields (unowned-mapped l at text value r a h i)
-unowned-mapped l at text value r no_formals h = refl
-unowned-mapped l at text value r (some_formals a b) h =
+    λ i. some_fields (identifiers_without_owners-mapped l at text value role.FieldName a s0.0 i) (identifiers_without_owners-mapped l at text value r b s0.1 i)
+identifiers_without_owners-mapped l at text value r (then_fields a) h = λ i. then_fields (identifiers_without_owners-mapped l at text value r a h i)
+identifiers_without_owners-mapped l at text value r no_formals h = refl
+identifiers_without_owners-mapped l at text value r (some_formals a b) h =
     let s0 = none_split at (identifiers r a) (identifiers r b) h in
-    λ i. some_formals (unowned-mapped l at text value r a s0.0 i) (unowned-mapped l at text value r b s0.1 i)
-unowned-mapped l at text value r (value_section a b) h =
+    λ i. some_formals (identifiers_without_owners-mapped l at text value r a s0.0 i) (identifiers_without_owners-mapped l at text value r b s0.1 i)
+identifiers_without_owners-mapped l at text value r (value_section a b) h =
     let s0 = none_split at (identifiers role.Declaring a) (identifiers r b) h in
-    λ i. value_section (unowned-mapped l at text value role.Declaring a s0.0 i) (unowned-mapped l at text value r b s0.1 i)
-unowned-mapped l at text value r (variable_section a b) h =
+    λ i. value_section (identifiers_without_owners-mapped l at text value role.Declaring a s0.0 i) (identifiers_without_owners-mapped l at text value r b s0.1 i)
+identifiers_without_owners-mapped l at text value r (variable_section a b) h =
     let s0 = none_split at (identifiers role.Declaring a) (identifiers r b) h in
-    λ i. variable_section (unowned-mapped l at text value role.Declaring a s0.0 i) (unowned-mapped l at text value r b s0.1 i)
-unowned-mapped l at text value r (then_section a) h = λ i. then_section (unowned-mapped l at text value r a h i)
-unowned-mapped l at text value r (declares_constant a b) h = λ i. declares_constant (of_records l (sym h.0 i) (text a)) (unowned-mapped l at text value r b h.1 i)
-unowned-mapped l at text value r (declares_constants a) h = λ i. declares_constants (unowned-mapped l at text value r a h i)
-unowned-mapped l at text value r (declares_type a b) h = λ i. declares_type (of_records l (sym h.0 i) (text a)) (unowned-mapped l at text value r b h.1 i)
-unowned-mapped l at text value r (declares_types a) h = λ i. declares_types (unowned-mapped l at text value r a h i)
-unowned-mapped l at text value r (declares_variable a b) h =
+    λ i. variable_section (identifiers_without_owners-mapped l at text value role.Declaring a s0.0 i) (identifiers_without_owners-mapped l at text value r b s0.1 i)
+identifiers_without_owners-mapped l at text value r (then_section a) h = λ i. then_section (identifiers_without_owners-mapped l at text value r a h i)
+identifiers_without_owners-mapped l at text value r (declares_constant a b) h = λ i. declares_constant (field_names_by_record l (sym h.0 i) (text a)) (identifiers_without_owners-mapped l at text value r b h.1 i)
+identifiers_without_owners-mapped l at text value r (declares_constants a) h = λ i. declares_constants (identifiers_without_owners-mapped l at text value r a h i)
+identifiers_without_owners-mapped l at text value r (declares_type a b) h = λ i. declares_type (field_names_by_record l (sym h.0 i) (text a)) (identifiers_without_owners-mapped l at text value r b h.1 i)
+identifiers_without_owners-mapped l at text value r (declares_types a) h = λ i. declares_types (identifiers_without_owners-mapped l at text value r a h i)
+identifiers_without_owners-mapped l at text value r (declares_variable a b) h =
     let s0 = none_split at (identifiers role.Declaring a) (identifiers r b) h in
-    λ i. declares_variable (unowned-mapped l at text value role.Declaring a s0.0 i) (unowned-mapped l at text value r b s0.1 i)
-unowned-mapped l at text value r (declares_variables a) h = λ i. declares_variables (unowned-mapped l at text value r a h i)
-unowned-mapped l at text value r (declares_procedure a b c d) h =
+    λ i. declares_variable (identifiers_without_owners-mapped l at text value role.Declaring a s0.0 i) (identifiers_without_owners-mapped l at text value r b s0.1 i)
+identifiers_without_owners-mapped l at text value r (declares_variables a) h = λ i. declares_variables (identifiers_without_owners-mapped l at text value r a h i)
+identifiers_without_owners-mapped l at text value r (declares_procedure a b c d) h =
     let s0 = none_split at (identifiers r b) (identifiers r c ++ ((role.ClosingName, d) ∷ [])) h.1 in
     let s1 = none_split at (identifiers r c) ((role.ClosingName, d) ∷ []) s0.1 in
-    λ i. declares_procedure (of_records l (sym h.0 i) (text a)) (unowned-mapped l at text value r b s0.0 i) (unowned-mapped l at text value r c s1.0 i) (of_records l (sym s1.1.0 i) (text d))
-unowned-mapped l at text value r (declares a b c d) h =
+    λ i. declares_procedure (field_names_by_record l (sym h.0 i) (text a)) (identifiers_without_owners-mapped l at text value r b s0.0 i) (identifiers_without_owners-mapped l at text value r c s1.0 i) (field_names_by_record l (sym s1.1.0 i) (text d))
+identifiers_without_owners-mapped l at text value r (declares a b c d) h =
     let s0 = none_split at (identifiers r a) (identifiers r b ++ (identifiers r c ++ (identifiers r d))) h in
     let s1 = none_split at (identifiers r b) (identifiers r c ++ (identifiers r d)) s0.1 in
     let s2 = none_split at (identifiers r c) (identifiers r d) s1.1 in
-    λ i. declares (unowned-mapped l at text value r a s0.0 i) (unowned-mapped l at text value r b s1.0 i) (unowned-mapped l at text value r c s2.0 i) (unowned-mapped l at text value r d s2.1 i)
-unowned-mapped l at text value r (begins a) h = λ i. begins (unowned-mapped l at text value r a h i)
-unowned-mapped l at text value r (has_body a b) h =
+    λ i. declares (identifiers_without_owners-mapped l at text value r a s0.0 i) (identifiers_without_owners-mapped l at text value r b s1.0 i) (identifiers_without_owners-mapped l at text value r c s2.0 i) (identifiers_without_owners-mapped l at text value r d s2.1 i)
+identifiers_without_owners-mapped l at text value r (begins a) h = λ i. begins (identifiers_without_owners-mapped l at text value r a h i)
+identifiers_without_owners-mapped l at text value r (has_body a b) h =
     let s0 = none_split at (identifiers r a) (identifiers r b) h in
-    λ i. has_body (unowned-mapped l at text value r a s0.0 i) (unowned-mapped l at text value r b s0.1 i)
-unowned-mapped l at text value r (is_module a b c) h =
+    λ i. has_body (identifiers_without_owners-mapped l at text value r a s0.0 i) (identifiers_without_owners-mapped l at text value r b s0.1 i)
+identifiers_without_owners-mapped l at text value r (is_module a b c) h =
     let s0 = none_split at (identifiers r b) ((role.ModuleName, c) ∷ []) h.1 in
-    λ i. is_module (of_records l (sym h.0 i) (text a)) (unowned-mapped l at text value r b s0.0 i) (of_records l (sym s0.1.0 i) (text c))
+    λ i. is_module (field_names_by_record l (sym h.0 i) (text a)) (identifiers_without_owners-mapped l at text value r b s0.0 i) (field_names_by_record l (sym s0.1.0 i) (text c))
 
 -- Rewriting a part without fields changes nothing.
-pub unowned-all : (l : ℕ → Name → Name) (at : ℕ → Option ℕ) (text : ℕ → Name) (value : ℕ → ℕ) {s : Sort} (t : Tree ℕ s) → HasOwners at (unowned t) → mapped text value t ≡ mapped (λ j. of_records l (at j) (text j)) value t
-unowned-all l at text value t h = unowned-mapped l at text value role.Declaring t (all_none at (identifiers role.Declaring t) h)
+pub identifiers_without_owners-all : (l : ℕ → Name → Name) (at : ℕ → Option ℕ) (text : ℕ → Name) (value : ℕ → ℕ) {s : Sort} (t : Tree ℕ s) → GivesListedOwners at (identifiers_without_owners t) → mapped text value t ≡ mapped (λ j. field_names_by_record l (at j) (text j)) value t
+identifiers_without_owners-all l at text value t h = identifiers_without_owners-mapped l at text value role.Declaring t (all_none at (identifiers role.Declaring t) h)
 
 -- holds if names have values of the same types by name and by token
-abbrev pub Alike : {P : Type 0} → Typed Name → Meanings ℕ Shape P → List ℕ → Type 0
+abbrev pub Alike : {P : Type 0} → TypeMeanings Name → Meanings ℕ Shape P → List ℕ → Type 0
 Alike meaning m [] = Unit {0}
 Alike meaning m (x ∷ xs) = (object_type (meaning.object_for (m.written x)) ≡ object_type (m.object_for x)) × Alike meaning m xs
 
-alike_split : {P : Type 0} (meaning : Typed Name) (m : Meanings ℕ Shape P) (xs ys : List ℕ) → Alike meaning m (xs ++ ys) → Alike meaning m xs × Alike meaning m ys
+alike_split : {P : Type 0} (meaning : TypeMeanings Name) (m : Meanings ℕ Shape P) (xs ys : List ℕ) → Alike meaning m (xs ++ ys) → Alike meaning m xs × Alike meaning m ys
 alike_split meaning m [] ys h = (tt, h)
 alike_split meaning m (x ∷ xs) ys h = let rest = alike_split meaning m xs ys h.1 in ((h.0, rest.0), rest.1)
 
-following-mapped : {P : Type 0} {i : Item} (m : Meanings ℕ Shape P) (value : ℕ → ℕ) (s : Option Shape) (t : Tree ℕ (item i)) → type_after s (mapped m.written value t) ≡ after_selector m s t
+following-mapped : {P : Type 0} {i : Item} (m : Meanings ℕ Shape P) (value : ℕ → ℕ) (s : Option Shape) (t : Tree ℕ (item i)) → select_type s (mapped m.written value t) ≡ type_after_selector m s t
 following-mapped m value s (relates a b) = refl
 following-mapped m value s (adds a b) = refl
 following-mapped m value s (multiplies a b) = refl
@@ -178,7 +178,7 @@ abbrev pub recorded : {P : Type 0} {s : Sort} → Meanings ℕ Shape P → Optio
 recorded m s none = []
 recorded m s (one a) = recorded m None a
 recorded m s end = []
-recorded m s (more a b) = recorded m s a ++ recorded m (after_selector m s a) b
+recorded m s (more a b) = recorded m s a ++ recorded m (type_after_selector m s a) b
 recorded m s (compares a b) = recorded m None a ++ (recorded m None b)
 recorded m s (relates a b) = recorded m None b
 recorded m s (sum a b c) = recorded m None b ++ (recorded m None c)
@@ -189,7 +189,7 @@ recorded m s (designator a b) = (a, None) ∷ (recorded m (object_type (m.object
 recorded m s (integer a) = []
 recorded m s (parenthesised a) = recorded m None a
 recorded m s (negation a) = recorded m None a
-recorded m s (field a) = (a, selected_record s) ∷ []
+recorded m s (field a) = (a, record_ordinal s) ∷ []
 recorded m s (index a) = recorded m None a
 recorded m s empty = []
 recorded m s (assigns a b c) = (a, None) ∷ (recorded m (object_type (m.object_for a)) b ++ (recorded m None c))
@@ -205,19 +205,19 @@ recorded m s (then_statement a) = recorded m None a
 recorded m s (elsif_branch a b) = recorded m None a ++ (recorded m None b)
 recorded m s (else_branch a) = recorded m None a
 recorded m s (begins a) = recorded m None a
-recorded m s t = unowned t
+recorded m s t = identifiers_without_owners t
 
 -- Rewriting the fields in a part of a statement is the same as rewriting each token according to the table.
-pub recorded-mapped : {P : Type 0} (l : ℕ → Name → Name) (at : ℕ → Option ℕ) (meaning : Typed Name) (m : Meanings ℕ Shape P) (value : ℕ → ℕ) (s : Option Shape) {sort : Sort} (t : Tree ℕ sort)
-    → HasOwners at (recorded m s t) → Alike meaning m (occurrences t) → refield (of_records l) meaning s (mapped m.written value t) ≡ mapped (λ j. of_records l (at j) (m.written j)) value t
+pub recorded-mapped : {P : Type 0} (l : ℕ → Name → Name) (at : ℕ → Option ℕ) (meaning : TypeMeanings Name) (m : Meanings ℕ Shape P) (value : ℕ → ℕ) (s : Option Shape) {sort : Sort} (t : Tree ℕ sort)
+    → GivesListedOwners at (recorded m s t) → Alike meaning m (occurrences t) → rename_fields (field_names_by_record l) meaning s (mapped m.written value t) ≡ mapped (λ j. field_names_by_record l (at j) (m.written j)) value t
 recorded-mapped l at meaning m value s none h e = refl
 recorded-mapped l at meaning m value s (one a) h e = λ i. one (recorded-mapped l at meaning m value None a h e i)
 recorded-mapped l at meaning m value s end h e = refl
 recorded-mapped l at meaning m value s (more a b) h e =
-    let p = owners_split at (recorded m s a) (recorded m (after_selector m s a) b) h in
+    let p = owners_split at (recorded m s a) (recorded m (type_after_selector m s a) b) h in
     let q = alike_split meaning m (occurrences a) (occurrences b) e in
     λ i. more (recorded-mapped l at meaning m value s a p.0 q.0 i)
-    ((ap (λ z. refield (of_records l) meaning z (mapped m.written value b)) (following-mapped m value s a) ∙ recorded-mapped l at meaning m value (after_selector m s a) b p.1 q.1) i)
+    ((ap (λ z. rename_fields (field_names_by_record l) meaning z (mapped m.written value b)) (following-mapped m value s a) ∙ recorded-mapped l at meaning m value (type_after_selector m s a) b p.1 q.1) i)
 recorded-mapped l at meaning m value s (compares a b) h e =
     let p0 = owners_split at (recorded m None a) (recorded m None b) h in
     let q0 = alike_split meaning m (occurrences a) (occurrences b) e in
@@ -233,18 +233,18 @@ recorded-mapped l at meaning m value s (product a b) h e =
     let q0 = alike_split meaning m (occurrences a) (occurrences b) e in
     λ i. product (recorded-mapped l at meaning m value None a p0.0 q0.0 i) (recorded-mapped l at meaning m value None b p0.1 q0.1 i)
 recorded-mapped l at meaning m value s (multiplies a b) h e = λ i. multiplies a (recorded-mapped l at meaning m value None b h e i)
-recorded-mapped l at meaning m value s (designator a b) h e = λ i. designator (of_records l (sym h.0 i) (m.written a)) ((ap (λ z. refield (of_records l) meaning z (mapped m.written value b)) e.0 ∙ recorded-mapped l at meaning m value (object_type (m.object_for a)) b h.1 e.1) i)
+recorded-mapped l at meaning m value s (designator a b) h e = λ i. designator (field_names_by_record l (sym h.0 i) (m.written a)) ((ap (λ z. rename_fields (field_names_by_record l) meaning z (mapped m.written value b)) e.0 ∙ recorded-mapped l at meaning m value (object_type (m.object_for a)) b h.1 e.1) i)
 recorded-mapped l at meaning m value s (integer a) h e = refl
 recorded-mapped l at meaning m value s (parenthesised a) h e = λ i. parenthesised (recorded-mapped l at meaning m value None a h e i)
 recorded-mapped l at meaning m value s (negation a) h e = λ i. negation (recorded-mapped l at meaning m value None a h e i)
-recorded-mapped l at meaning m value s (field a) h e = λ i. field (of_records l (sym h.0 i) (m.written a))
+recorded-mapped l at meaning m value s (field a) h e = λ i. field (field_names_by_record l (sym h.0 i) (m.written a))
 recorded-mapped l at meaning m value s (index a) h e = λ i. index (recorded-mapped l at meaning m value None a h e i)
 recorded-mapped l at meaning m value s empty h e = refl
 recorded-mapped l at meaning m value s (assigns a b c) h e =
     let p0 = owners_split at (recorded m (object_type (m.object_for a)) b) (recorded m None c) h.1 in
     let q0 = alike_split meaning m (occurrences b) (occurrences c) e.1 in
-    λ i. assigns (of_records l (sym h.0 i) (m.written a)) ((ap (λ z. refield (of_records l) meaning z (mapped m.written value b)) e.0 ∙ recorded-mapped l at meaning m value (object_type (m.object_for a)) b p0.0 q0.0) i) (recorded-mapped l at meaning m value None c p0.1 q0.1 i)
-recorded-mapped l at meaning m value s (calls a b) h e = λ i. calls (of_records l (sym h.0 i) (m.written a)) (recorded-mapped l at meaning m value None b h.1 e.1 i)
+    λ i. assigns (field_names_by_record l (sym h.0 i) (m.written a)) ((ap (λ z. rename_fields (field_names_by_record l) meaning z (mapped m.written value b)) e.0 ∙ recorded-mapped l at meaning m value (object_type (m.object_for a)) b p0.0 q0.0) i) (recorded-mapped l at meaning m value None c p0.1 q0.1 i)
+recorded-mapped l at meaning m value s (calls a b) h e = λ i. calls (field_names_by_record l (sym h.0 i) (m.written a)) (recorded-mapped l at meaning m value None b h.1 e.1 i)
 recorded-mapped l at meaning m value s (branches a b c d) h e =
     let p0 = owners_split at (recorded m None a) (recorded m None b ++ (recorded m None c ++ (recorded m None d))) h in
     let q0 = alike_split meaning m (occurrences a) (occurrences b ++ (occurrences c ++ (occurrences d))) e in
@@ -277,30 +277,30 @@ recorded-mapped l at meaning m value s (elsif_branch a b) h e =
     let q0 = alike_split meaning m (occurrences a) (occurrences b) e in
     λ i. elsif_branch (recorded-mapped l at meaning m value None a p0.0 q0.0 i) (recorded-mapped l at meaning m value None b p0.1 q0.1 i)
 recorded-mapped l at meaning m value s (else_branch a) h e = λ i. else_branch (recorded-mapped l at meaning m value None a h e i)
-recorded-mapped l at meaning m value s (listed a b) h e = unowned-all l at m.written value (listed a b) h
-recorded-mapped l at meaning m value s (then_name a) h e = unowned-all l at m.written value (then_name a) h
-recorded-mapped l at meaning m value s (named_type a) h e = unowned-all l at m.written value (named_type a) h
-recorded-mapped l at meaning m value s (array_type a b) h e = unowned-all l at m.written value (array_type a b) h
-recorded-mapped l at meaning m value s (record_type a b) h e = unowned-all l at m.written value (record_type a b) h
-recorded-mapped l at meaning m value s no_fields h e = unowned-all l at m.written value no_fields h
-recorded-mapped l at meaning m value s (some_fields a b) h e = unowned-all l at m.written value (some_fields a b) h
-recorded-mapped l at meaning m value s (then_fields a) h e = unowned-all l at m.written value (then_fields a) h
-recorded-mapped l at meaning m value s no_formals h e = unowned-all l at m.written value no_formals h
-recorded-mapped l at meaning m value s (some_formals a b) h e = unowned-all l at m.written value (some_formals a b) h
-recorded-mapped l at meaning m value s (value_section a b) h e = unowned-all l at m.written value (value_section a b) h
-recorded-mapped l at meaning m value s (variable_section a b) h e = unowned-all l at m.written value (variable_section a b) h
-recorded-mapped l at meaning m value s (then_section a) h e = unowned-all l at m.written value (then_section a) h
-recorded-mapped l at meaning m value s (declares_constant a b) h e = unowned-all l at m.written value (declares_constant a b) h
-recorded-mapped l at meaning m value s (declares_constants a) h e = unowned-all l at m.written value (declares_constants a) h
-recorded-mapped l at meaning m value s (declares_type a b) h e = unowned-all l at m.written value (declares_type a b) h
-recorded-mapped l at meaning m value s (declares_types a) h e = unowned-all l at m.written value (declares_types a) h
-recorded-mapped l at meaning m value s (declares_variable a b) h e = unowned-all l at m.written value (declares_variable a b) h
-recorded-mapped l at meaning m value s (declares_variables a) h e = unowned-all l at m.written value (declares_variables a) h
-recorded-mapped l at meaning m value s (declares_procedure a b c d) h e = unowned-all l at m.written value (declares_procedure a b c d) h
-recorded-mapped l at meaning m value s (declares a b c d) h e = unowned-all l at m.written value (declares a b c d) h
+recorded-mapped l at meaning m value s (listed a b) h e = identifiers_without_owners-all l at m.written value (listed a b) h
+recorded-mapped l at meaning m value s (then_name a) h e = identifiers_without_owners-all l at m.written value (then_name a) h
+recorded-mapped l at meaning m value s (named_type a) h e = identifiers_without_owners-all l at m.written value (named_type a) h
+recorded-mapped l at meaning m value s (array_type a b) h e = identifiers_without_owners-all l at m.written value (array_type a b) h
+recorded-mapped l at meaning m value s (record_type a b) h e = identifiers_without_owners-all l at m.written value (record_type a b) h
+recorded-mapped l at meaning m value s no_fields h e = identifiers_without_owners-all l at m.written value no_fields h
+recorded-mapped l at meaning m value s (some_fields a b) h e = identifiers_without_owners-all l at m.written value (some_fields a b) h
+recorded-mapped l at meaning m value s (then_fields a) h e = identifiers_without_owners-all l at m.written value (then_fields a) h
+recorded-mapped l at meaning m value s no_formals h e = identifiers_without_owners-all l at m.written value no_formals h
+recorded-mapped l at meaning m value s (some_formals a b) h e = identifiers_without_owners-all l at m.written value (some_formals a b) h
+recorded-mapped l at meaning m value s (value_section a b) h e = identifiers_without_owners-all l at m.written value (value_section a b) h
+recorded-mapped l at meaning m value s (variable_section a b) h e = identifiers_without_owners-all l at m.written value (variable_section a b) h
+recorded-mapped l at meaning m value s (then_section a) h e = identifiers_without_owners-all l at m.written value (then_section a) h
+recorded-mapped l at meaning m value s (declares_constant a b) h e = identifiers_without_owners-all l at m.written value (declares_constant a b) h
+recorded-mapped l at meaning m value s (declares_constants a) h e = identifiers_without_owners-all l at m.written value (declares_constants a) h
+recorded-mapped l at meaning m value s (declares_type a b) h e = identifiers_without_owners-all l at m.written value (declares_type a b) h
+recorded-mapped l at meaning m value s (declares_types a) h e = identifiers_without_owners-all l at m.written value (declares_types a) h
+recorded-mapped l at meaning m value s (declares_variable a b) h e = identifiers_without_owners-all l at m.written value (declares_variable a b) h
+recorded-mapped l at meaning m value s (declares_variables a) h e = identifiers_without_owners-all l at m.written value (declares_variables a) h
+recorded-mapped l at meaning m value s (declares_procedure a b c d) h e = identifiers_without_owners-all l at m.written value (declares_procedure a b c d) h
+recorded-mapped l at meaning m value s (declares a b c d) h e = identifiers_without_owners-all l at m.written value (declares a b c d) h
 recorded-mapped l at meaning m value s (begins a) h e = λ i. begins (recorded-mapped l at meaning m value None a h e i)
-recorded-mapped l at meaning m value s (has_body a b) h e = unowned-all l at m.written value (has_body a b) h
-recorded-mapped l at meaning m value s (is_module a b c) h e = unowned-all l at m.written value (is_module a b c) h
+recorded-mapped l at meaning m value s (has_body a b) h e = identifiers_without_owners-all l at m.written value (has_body a b) h
+recorded-mapped l at meaning m value s (is_module a b c) h e = identifiers_without_owners-all l at m.written value (is_module a b c) h
 
 -- holds if the values of names have the same types in both meanings
 abbrev pub SameTypes : {P Q : Type 0} → Meanings ℕ Shape P → Meanings ℕ Shape Q → List ℕ → Type 0
@@ -311,110 +311,110 @@ types_split : {P Q : Type 0} (m : Meanings ℕ Shape P) (n : Meanings ℕ Shape 
 types_split m n [] ys h = (tt, h)
 types_split m n (x ∷ xs) ys h = let rest = types_split m n xs ys h.1 in ((h.0, rest.0), rest.1)
 
-after_selector-same : {P Q : Type 0} {i : Item} (m : Meanings ℕ Shape P) (n : Meanings ℕ Shape Q) (same : (x : ℕ) → m.written x ≡ n.written x) (s : Option Shape) (t : Tree ℕ (item i)) → after_selector m s t ≡ after_selector n s t
-after_selector-same m n same s (relates a b) = refl
-after_selector-same m n same s (adds a b) = refl
-after_selector-same m n same s (multiplies a b) = refl
-after_selector-same m n same s (field a) = λ i. option_and_then (λ t. field_type t (same a i)) s
-after_selector-same m n same s (index a) = refl
-after_selector-same m n same s no_arguments = refl
-after_selector-same m n same s (some_arguments a b) = refl
-after_selector-same m n same s (then_argument a) = refl
-after_selector-same m n same s (then_statement a) = refl
-after_selector-same m n same s (elsif_branch a b) = refl
-after_selector-same m n same s (else_branch a) = refl
-after_selector-same m n same s (then_name a) = refl
-after_selector-same m n same s (then_fields a) = refl
-after_selector-same m n same s no_formals = refl
-after_selector-same m n same s (some_formals a b) = refl
-after_selector-same m n same s (then_section a) = refl
-after_selector-same m n same s (declares_constant a b) = refl
-after_selector-same m n same s (declares_constants a) = refl
-after_selector-same m n same s (declares_type a b) = refl
-after_selector-same m n same s (declares_types a) = refl
-after_selector-same m n same s (declares_variable a b) = refl
-after_selector-same m n same s (declares_variables a) = refl
-after_selector-same m n same s (declares_procedure a b c d) = refl
-after_selector-same m n same s (begins a) = refl
+type_after_selector-same : {P Q : Type 0} {i : Item} (m : Meanings ℕ Shape P) (n : Meanings ℕ Shape Q) (same : (x : ℕ) → m.written x ≡ n.written x) (s : Option Shape) (t : Tree ℕ (item i)) → type_after_selector m s t ≡ type_after_selector n s t
+type_after_selector-same m n same s (relates a b) = refl
+type_after_selector-same m n same s (adds a b) = refl
+type_after_selector-same m n same s (multiplies a b) = refl
+type_after_selector-same m n same s (field a) = λ i. option_and_then (λ t. field_type t (same a i)) s
+type_after_selector-same m n same s (index a) = refl
+type_after_selector-same m n same s no_arguments = refl
+type_after_selector-same m n same s (some_arguments a b) = refl
+type_after_selector-same m n same s (then_argument a) = refl
+type_after_selector-same m n same s (then_statement a) = refl
+type_after_selector-same m n same s (elsif_branch a b) = refl
+type_after_selector-same m n same s (else_branch a) = refl
+type_after_selector-same m n same s (then_name a) = refl
+type_after_selector-same m n same s (then_fields a) = refl
+type_after_selector-same m n same s no_formals = refl
+type_after_selector-same m n same s (some_formals a b) = refl
+type_after_selector-same m n same s (then_section a) = refl
+type_after_selector-same m n same s (declares_constant a b) = refl
+type_after_selector-same m n same s (declares_constants a) = refl
+type_after_selector-same m n same s (declares_type a b) = refl
+type_after_selector-same m n same s (declares_types a) = refl
+type_after_selector-same m n same s (declares_variable a b) = refl
+type_after_selector-same m n same s (declares_variables a) = refl
+type_after_selector-same m n same s (declares_procedure a b c d) = refl
+type_after_selector-same m n same s (begins a) = refl
 
-pub owned-alike : {P Q : Type 0} {sort : Sort} (m : Meanings ℕ Shape P) (n : Meanings ℕ Shape Q) (same : (x : ℕ) → m.written x ≡ n.written x) (s : Option Shape) (t : Tree ℕ sort) → SameTypes m n (occurrences t) → owned m s t ≡ owned n s t
-owned-alike m n same s none e = refl
-owned-alike m n same s (one a) e = λ i. owned-alike m n same None a e i
-owned-alike m n same s end e = refl
-owned-alike m n same s (more a b) e =
+pub owners_in_tree-alike : {P Q : Type 0} {sort : Sort} (m : Meanings ℕ Shape P) (n : Meanings ℕ Shape Q) (same : (x : ℕ) → m.written x ≡ n.written x) (s : Option Shape) (t : Tree ℕ sort) → SameTypes m n (occurrences t) → owners_in_tree m s t ≡ owners_in_tree n s t
+owners_in_tree-alike m n same s none e = refl
+owners_in_tree-alike m n same s (one a) e = λ i. owners_in_tree-alike m n same None a e i
+owners_in_tree-alike m n same s end e = refl
+owners_in_tree-alike m n same s (more a b) e =
     let q = types_split m n (occurrences a) (occurrences b) e in
-    λ i. owned-alike m n same s a q.0 i ++ (((λ i. owned m (after_selector-same m n same s a i) b) ∙ owned-alike m n same (after_selector n s a) b q.1) i)
-owned-alike m n same s (compares a b) e =
+    λ i. owners_in_tree-alike m n same s a q.0 i ++ (((λ i. owners_in_tree m (type_after_selector-same m n same s a i) b) ∙ owners_in_tree-alike m n same (type_after_selector n s a) b q.1) i)
+owners_in_tree-alike m n same s (compares a b) e =
     let q0 = types_split m n (occurrences a) (occurrences b) e in
-    λ i. owned-alike m n same None a q0.0 i ++ (owned-alike m n same None b q0.1 i)
-owned-alike m n same s (relates a b) e = λ i. owned-alike m n same None b e i
-owned-alike m n same s (sum a b c) e =
+    λ i. owners_in_tree-alike m n same None a q0.0 i ++ (owners_in_tree-alike m n same None b q0.1 i)
+owners_in_tree-alike m n same s (relates a b) e = λ i. owners_in_tree-alike m n same None b e i
+owners_in_tree-alike m n same s (sum a b c) e =
     let q0 = types_split m n (occurrences b) (occurrences c) e in
-    λ i. owned-alike m n same None b q0.0 i ++ (owned-alike m n same None c q0.1 i)
-owned-alike m n same s (adds a b) e = λ i. owned-alike m n same None b e i
-owned-alike m n same s (product a b) e =
+    λ i. owners_in_tree-alike m n same None b q0.0 i ++ (owners_in_tree-alike m n same None c q0.1 i)
+owners_in_tree-alike m n same s (adds a b) e = λ i. owners_in_tree-alike m n same None b e i
+owners_in_tree-alike m n same s (product a b) e =
     let q0 = types_split m n (occurrences a) (occurrences b) e in
-    λ i. owned-alike m n same None a q0.0 i ++ (owned-alike m n same None b q0.1 i)
-owned-alike m n same s (multiplies a b) e = λ i. owned-alike m n same None b e i
-owned-alike m n same s (designator a b) e = λ i. (a, None) ∷ (((ap (λ z. owned m z b) e.0 ∙ owned-alike m n same (object_type (n.object_for a)) b e.1) i))
-owned-alike m n same s (integer a) e = refl
-owned-alike m n same s (parenthesised a) e = λ i. owned-alike m n same None a e i
-owned-alike m n same s (negation a) e = λ i. owned-alike m n same None a e i
-owned-alike m n same s (field a) e = λ i. (a, owner s (same a i)) ∷ []
-owned-alike m n same s (index a) e = λ i. owned-alike m n same None a e i
-owned-alike m n same s empty e = refl
-owned-alike m n same s (assigns a b c) e =
+    λ i. owners_in_tree-alike m n same None a q0.0 i ++ (owners_in_tree-alike m n same None b q0.1 i)
+owners_in_tree-alike m n same s (multiplies a b) e = λ i. owners_in_tree-alike m n same None b e i
+owners_in_tree-alike m n same s (designator a b) e = λ i. (a, None) ∷ (((ap (λ z. owners_in_tree m z b) e.0 ∙ owners_in_tree-alike m n same (object_type (n.object_for a)) b e.1) i))
+owners_in_tree-alike m n same s (integer a) e = refl
+owners_in_tree-alike m n same s (parenthesised a) e = λ i. owners_in_tree-alike m n same None a e i
+owners_in_tree-alike m n same s (negation a) e = λ i. owners_in_tree-alike m n same None a e i
+owners_in_tree-alike m n same s (field a) e = λ i. (a, owner s (same a i)) ∷ []
+owners_in_tree-alike m n same s (index a) e = λ i. owners_in_tree-alike m n same None a e i
+owners_in_tree-alike m n same s empty e = refl
+owners_in_tree-alike m n same s (assigns a b c) e =
     let q0 = types_split m n (occurrences b) (occurrences c) e.1 in
-    λ i. (a, None) ∷ (((ap (λ z. owned m z b) e.0 ∙ owned-alike m n same (object_type (n.object_for a)) b q0.0) i) ++ (owned-alike m n same None c q0.1 i))
-owned-alike m n same s (calls a b) e = λ i. (a, None) ∷ (owned-alike m n same None b e.1 i)
-owned-alike m n same s (branches a b c d) e =
+    λ i. (a, None) ∷ (((ap (λ z. owners_in_tree m z b) e.0 ∙ owners_in_tree-alike m n same (object_type (n.object_for a)) b q0.0) i) ++ (owners_in_tree-alike m n same None c q0.1 i))
+owners_in_tree-alike m n same s (calls a b) e = λ i. (a, None) ∷ (owners_in_tree-alike m n same None b e.1 i)
+owners_in_tree-alike m n same s (branches a b c d) e =
     let q0 = types_split m n (occurrences a) (occurrences b ++ (occurrences c ++ (occurrences d))) e in
     let q1 = types_split m n (occurrences b) (occurrences c ++ (occurrences d)) q0.1 in
     let q2 = types_split m n (occurrences c) (occurrences d) q1.1 in
-    λ i. owned-alike m n same None a q0.0 i ++ (owned-alike m n same None b q1.0 i ++ (owned-alike m n same None c q2.0 i ++ (owned-alike m n same None d q2.1 i)))
-owned-alike m n same s (while_loop a b) e =
+    λ i. owners_in_tree-alike m n same None a q0.0 i ++ (owners_in_tree-alike m n same None b q1.0 i ++ (owners_in_tree-alike m n same None c q2.0 i ++ (owners_in_tree-alike m n same None d q2.1 i)))
+owners_in_tree-alike m n same s (while_loop a b) e =
     let q0 = types_split m n (occurrences a) (occurrences b) e in
-    λ i. owned-alike m n same None a q0.0 i ++ (owned-alike m n same None b q0.1 i)
-owned-alike m n same s (repeat_loop a b) e =
+    λ i. owners_in_tree-alike m n same None a q0.0 i ++ (owners_in_tree-alike m n same None b q0.1 i)
+owners_in_tree-alike m n same s (repeat_loop a b) e =
     let q0 = types_split m n (occurrences a) (occurrences b) e in
-    λ i. owned-alike m n same None a q0.0 i ++ (owned-alike m n same None b q0.1 i)
-owned-alike m n same s no_arguments e = refl
-owned-alike m n same s (some_arguments a b) e =
+    λ i. owners_in_tree-alike m n same None a q0.0 i ++ (owners_in_tree-alike m n same None b q0.1 i)
+owners_in_tree-alike m n same s no_arguments e = refl
+owners_in_tree-alike m n same s (some_arguments a b) e =
     let q0 = types_split m n (occurrences a) (occurrences b) e in
-    λ i. owned-alike m n same None a q0.0 i ++ (owned-alike m n same None b q0.1 i)
-owned-alike m n same s (then_argument a) e = λ i. owned-alike m n same None a e i
-owned-alike m n same s (runs a b) e =
+    λ i. owners_in_tree-alike m n same None a q0.0 i ++ (owners_in_tree-alike m n same None b q0.1 i)
+owners_in_tree-alike m n same s (then_argument a) e = λ i. owners_in_tree-alike m n same None a e i
+owners_in_tree-alike m n same s (runs a b) e =
     let q0 = types_split m n (occurrences a) (occurrences b) e in
-    λ i. owned-alike m n same None a q0.0 i ++ (owned-alike m n same None b q0.1 i)
-owned-alike m n same s (then_statement a) e = λ i. owned-alike m n same None a e i
-owned-alike m n same s (elsif_branch a b) e =
+    λ i. owners_in_tree-alike m n same None a q0.0 i ++ (owners_in_tree-alike m n same None b q0.1 i)
+owners_in_tree-alike m n same s (then_statement a) e = λ i. owners_in_tree-alike m n same None a e i
+owners_in_tree-alike m n same s (elsif_branch a b) e =
     let q0 = types_split m n (occurrences a) (occurrences b) e in
-    λ i. owned-alike m n same None a q0.0 i ++ (owned-alike m n same None b q0.1 i)
-owned-alike m n same s (else_branch a) e = λ i. owned-alike m n same None a e i
-owned-alike m n same s (listed a b) e = refl
-owned-alike m n same s (then_name a) e = refl
-owned-alike m n same s (named_type a) e = refl
-owned-alike m n same s (array_type a b) e = refl
-owned-alike m n same s (record_type a b) e = refl
-owned-alike m n same s no_fields e = refl
-owned-alike m n same s (some_fields a b) e = refl
-owned-alike m n same s (then_fields a) e = refl
-owned-alike m n same s no_formals e = refl
-owned-alike m n same s (some_formals a b) e = refl
-owned-alike m n same s (value_section a b) e = refl
-owned-alike m n same s (variable_section a b) e = refl
-owned-alike m n same s (then_section a) e = refl
-owned-alike m n same s (declares_constant a b) e = refl
-owned-alike m n same s (declares_constants a) e = refl
-owned-alike m n same s (declares_type a b) e = refl
-owned-alike m n same s (declares_types a) e = refl
-owned-alike m n same s (declares_variable a b) e = refl
-owned-alike m n same s (declares_variables a) e = refl
-owned-alike m n same s (declares_procedure a b c d) e = refl
-owned-alike m n same s (declares a b c d) e = refl
-owned-alike m n same s (begins a) e = λ i. owned-alike m n same None a e i
-owned-alike m n same s (has_body a b) e = refl
-owned-alike m n same s (is_module a b c) e = refl
+    λ i. owners_in_tree-alike m n same None a q0.0 i ++ (owners_in_tree-alike m n same None b q0.1 i)
+owners_in_tree-alike m n same s (else_branch a) e = λ i. owners_in_tree-alike m n same None a e i
+owners_in_tree-alike m n same s (listed a b) e = refl
+owners_in_tree-alike m n same s (then_name a) e = refl
+owners_in_tree-alike m n same s (named_type a) e = refl
+owners_in_tree-alike m n same s (array_type a b) e = refl
+owners_in_tree-alike m n same s (record_type a b) e = refl
+owners_in_tree-alike m n same s no_fields e = refl
+owners_in_tree-alike m n same s (some_fields a b) e = refl
+owners_in_tree-alike m n same s (then_fields a) e = refl
+owners_in_tree-alike m n same s no_formals e = refl
+owners_in_tree-alike m n same s (some_formals a b) e = refl
+owners_in_tree-alike m n same s (value_section a b) e = refl
+owners_in_tree-alike m n same s (variable_section a b) e = refl
+owners_in_tree-alike m n same s (then_section a) e = refl
+owners_in_tree-alike m n same s (declares_constant a b) e = refl
+owners_in_tree-alike m n same s (declares_constants a) e = refl
+owners_in_tree-alike m n same s (declares_type a b) e = refl
+owners_in_tree-alike m n same s (declares_types a) e = refl
+owners_in_tree-alike m n same s (declares_variable a b) e = refl
+owners_in_tree-alike m n same s (declares_variables a) e = refl
+owners_in_tree-alike m n same s (declares_procedure a b c d) e = refl
+owners_in_tree-alike m n same s (declares a b c d) e = refl
+owners_in_tree-alike m n same s (begins a) e = λ i. owners_in_tree-alike m n same None a e i
+owners_in_tree-alike m n same s (has_body a b) e = refl
+owners_in_tree-alike m n same s (is_module a b c) e = refl
 
 pub recorded-alike : {P Q : Type 0} {sort : Sort} (m : Meanings ℕ Shape P) (n : Meanings ℕ Shape Q) (same : (x : ℕ) → m.written x ≡ n.written x) (s : Option Shape) (t : Tree ℕ sort) → SameTypes m n (occurrences t) → recorded m s t ≡ recorded n s t
 recorded-alike m n same s none e = refl
@@ -422,7 +422,7 @@ recorded-alike m n same s (one a) e = λ i. recorded-alike m n same None a e i
 recorded-alike m n same s end e = refl
 recorded-alike m n same s (more a b) e =
     let q = types_split m n (occurrences a) (occurrences b) e in
-    λ i. recorded-alike m n same s a q.0 i ++ (((λ i. recorded m (after_selector-same m n same s a i) b) ∙ recorded-alike m n same (after_selector n s a) b q.1) i)
+    λ i. recorded-alike m n same s a q.0 i ++ (((λ i. recorded m (type_after_selector-same m n same s a i) b) ∙ recorded-alike m n same (type_after_selector n s a) b q.1) i)
 recorded-alike m n same s (compares a b) e =
     let q0 = types_split m n (occurrences a) (occurrences b) e in
     λ i. recorded-alike m n same None a q0.0 i ++ (recorded-alike m n same None b q0.1 i)

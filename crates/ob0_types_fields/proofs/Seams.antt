@@ -4,13 +4,13 @@ use Rattle.std.proofs.lemmas.List.Elements.{filter-append}
 use Rattle.std.proofs.lemmas.Bool.{le-leb}
 use Rattle.std.specs.List.{AllByRecursion, filter}
 use Rattle.ob0_tree.specs.declared.tree.Role.{Role}
-use Rattle.ob0_tree.specs.Order.{Ascending, names_only}
-use Rattle.ob0_tree.specs.FirstIdentifier.{first_of}
+use Rattle.ob0_tree.specs.Order.{AreAscending, names_without_roles}
+use Rattle.ob0_tree.specs.FirstIdentifier.{first_token_of}
 use Rattle.ob0_tree.proofs.Leaves.{ascending_bounds}
 use Rattle.ob0_types_fields.specs.declared.field_name.FieldName.{FieldName}
-use Rattle.ob0_types_fields.specs.Listed.{fields_from}
-use Rattle.ob0_types_fields.specs.Owned.{fields_among}
-use Rattle.ob0_types_fields.proofs.MarkedFields.{among-append}
+use Rattle.ob0_types_fields.specs.FieldLists.{fields_from}
+use Rattle.ob0_types_fields.specs.Owned.{fields_with_owners}
+use Rattle.ob0_types_fields.proofs.WalkFindsAllFields.{among-append}
 use Rattle.ob0_types_fields.proofs.OwnedTokens.{tokens}
 
 pub weaker : {X : Type 0} (P Q : X → Type 0) → ((x : X) → P x → Q x) → (xs : List X) → AllByRecursion P xs → AllByRecursion Q xs
@@ -21,17 +21,17 @@ weaker P Q f (x ∷ xs) h = (f x h.0, weaker P Q f xs h.1)
 
 record Cut (low : ℕ) (xs ys : List (ℕ × Option ℕ)) (high : ℕ) : Type 0 where
   pub middle : ℕ
-  pub first : Ascending low (tokens xs) middle
-  pub last : Ascending middle (tokens ys) high
+  pub first : AreAscending low (tokens xs) middle
+  pub last : AreAscending middle (tokens ys) high
 
-cut : (low : ℕ) (xs ys : List (ℕ × Option ℕ)) (high : ℕ) → Ascending low (tokens (xs ++ ys)) high → Cut low xs ys high
+cut : (low : ℕ) (xs ys : List (ℕ × Option ℕ)) (high : ℕ) → AreAscending low (tokens (xs ++ ys)) high → Cut low xs ys high
 cut low [] ys high h = record { middle = low; first = le_refl low; last = h }
 cut low (x ∷ xs) ys high h = let c = cut (x.0 + 1) xs ys high h.1 in record { middle = c.middle; first = (h.0, c.first); last = c.last }
 
 abbrev pub Between : ℕ → ℕ → ℕ × Option ℕ → Type 0
 Between low high x = (low ≤ x.0) × (x.0 < high)
 
-pub all_between : (low : ℕ) (xs : List (ℕ × Option ℕ)) (high : ℕ) → Ascending low (tokens xs) high → AllByRecursion (Between low high) xs
+pub all_between : (low : ℕ) (xs : List (ℕ × Option ℕ)) (high : ℕ) → AreAscending low (tokens xs) high → AllByRecursion (Between low high) xs
 all_between low [] high h = tt
 all_between low (x ∷ xs) high h =
     let top = ascending_bounds (x.0 + 1) (tokens xs) high h.1 in (
@@ -44,7 +44,7 @@ abbrev BeginsAt : ℕ → List (ℕ × Option ℕ) → Type 0
 BeginsAt first [] = ⊥
 BeginsAt first (x ∷ xs) = x.0 ≡ first
 
-begins_at : (first : ℕ) (xs : List (ℕ × Option ℕ)) (ids : List (Role × ℕ)) → tokens xs ≡ names_only ids → first_of ids ≡ Some first → BeginsAt first xs
+begins_at : (first : ℕ) (xs : List (ℕ × Option ℕ)) (ids : List (Role × ℕ)) → tokens xs ≡ names_without_roles ids → first_token_of ids ≡ Some first → BeginsAt first xs
 begins_at first [] [] e f = absurd (cc)
 begins_at first [] (i ∷ ids) e f = absurd (cc)
 begins_at first (x ∷ xs) [] e f = absurd (cc)
@@ -54,7 +54,7 @@ begins_at first (x ∷ xs) (i ∷ ids) e f = ap (number_or x.0) e ∙ ap (λ o. 
     number_or d [] = d
     number_or d (y ∷ ys) = y
 
-from_first : (low first : ℕ) (xs : List (ℕ × Option ℕ)) (high : ℕ) → BeginsAt first xs → Ascending low (tokens xs) high → (low ≤ first) × Ascending first (tokens xs) high
+from_first : (low first : ℕ) (xs : List (ℕ × Option ℕ)) (high : ℕ) → BeginsAt first xs → AreAscending low (tokens xs) high → (low ≤ first) × AreAscending first (tokens xs) high
 from_first low first [] high b h = absurd b
 from_first low first (x ∷ xs) high b h = (omega (arith, b, h.0), (omega (arith, b), h.1))
 
@@ -68,7 +68,7 @@ pub record AreBetween (before inner after : List (ℕ × Option ℕ)) (first clo
   pub closes : closing < top
 
 pub between : (before inner after : List (ℕ × Option ℕ)) (first closing top : ℕ) (ids : List (Role × ℕ))
-    → Ascending 0 (tokens (before ++ (inner ++ ((closing, None) ∷ after)))) top → tokens inner ≡ names_only ids → first_of ids ≡ Some first → AreBetween before inner after first closing top
+    → AreAscending 0 (tokens (before ++ (inner ++ ((closing, None) ∷ after)))) top → tokens inner ≡ names_without_roles ids → first_token_of ids ≡ Some first → AreBetween before inner after first closing top
 between before inner after first closing top ids h e f =
     let c = cut 0 before (inner ++ ((closing, None) ∷ after)) top h in
     let d = cut c.middle inner ((closing, None) ∷ after) top c.last in
@@ -83,7 +83,7 @@ between before inner after first closing top ids h e f =
       closes = (let le = ascending_bounds (closing + 1) (tokens after) top d.last.1 in omega (arith, le));
     }
   where
-    later : (first : ℕ) (xs : List (ℕ × Option ℕ)) (high : ℕ) → BeginsAt first xs → Ascending first (tokens xs) high → first < high
+    later : (first : ℕ) (xs : List (ℕ × Option ℕ)) (high : ℕ) → BeginsAt first xs → AreAscending first (tokens xs) high → first < high
     later first [] high b h = absurd b
     later first (x ∷ xs) high b h = let le = ascending_bounds (x.0 + 1) (tokens xs) high h.1 in omega (arith, le, h.0)
 
@@ -114,7 +114,7 @@ module _ (c : ℕ) (o : Option ℕ) where
 
 -- ---- fields
 
-pub among_each : (P : ℕ → Type 0) (xs : List (ℕ × Option ℕ)) → AllByRecursion (λ x. P x.0) xs → AllByRecursion (λ f. P f.token) (fields_among xs)
+pub among_each : (P : ℕ → Type 0) (xs : List (ℕ × Option ℕ)) → AllByRecursion (λ x. P x.0) xs → AllByRecursion (λ f. P f.token) (fields_with_owners xs)
 among_each P [] h = tt
 among_each P ((x, None) ∷ xs) h = among_each P xs h.1
 among_each P ((x, Some k) ∷ xs) h = (h.0, among_each P xs h.1)
@@ -137,8 +137,8 @@ module _ {X : Type 0} (p : X → Bool) where
   keeps_last xs ys zs h g f = filter-append p xs (ys ++ zs) ∙ (λ i. drops xs h i ++ (filter-append p ys zs ∙ (λ j. drops ys g j ++ keeps zs f j)) i)
 
 -- The fields among three joined lists are the fields of each, joined.
-pub fields_around : (before inner after : List (ℕ × Option ℕ)) (closing : ℕ) → fields_among (before ++ (inner ++ ((closing, None) ∷ after))) ≡ fields_among before ++ (fields_among inner ++ fields_among after)
-fields_around before inner after closing = among-append before (inner ++ ((closing, None) ∷ after)) ∙ ap (λ l. fields_among before ++ l) (among-append inner ((closing, None) ∷ after))
+pub fields_around : (before inner after : List (ℕ × Option ℕ)) (closing : ℕ) → fields_with_owners (before ++ (inner ++ ((closing, None) ∷ after))) ≡ fields_with_owners before ++ (fields_with_owners inner ++ fields_with_owners after)
+fields_around before inner after closing = among-append before (inner ++ ((closing, None) ∷ after)) ∙ ap (λ l. fields_with_owners before ++ l) (among-append inner ((closing, None) ∷ after))
 
 -- All fields are at or after token 0.
 pub all_from_start : (xs : List FieldName) → fields_from 0 xs ≡ xs

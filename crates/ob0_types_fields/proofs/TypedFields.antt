@@ -8,32 +8,32 @@ use Rattle.std.proofs.lemmas.List.{get_or-append-add, get_or_append_left}
 use Rattle.std.proofs.lemmas.List.Elements.{All-weaker}
 use Rattle.std.proofs.lemmas.Slice.Eq.{bytes_eq-Decides}
 use Rattle.std.specs.List.{AllByRecursion}
-use Rattle.ob0_tree.specs.Parsed.{named_tree_of, tree_of}
+use Rattle.ob0_tree.specs.ParsedModule.{named_tree_of, tree_of}
 use Rattle.ob0_tree.specs.Places.{text_at, value_at}
 use Rattle.ob0_tree.specs.Tree.{Tree, array_type, block, declares, declares_procedure, declares_type, declares_types, declares_variable, declares_variables, end, fields, formals, further_fields, further_name, further_section, has_body, item, items, listed, mapped, maybe, module_text, more, named_type, names, no_fields, no_formals, none, one, procedure, record_type, some_fields, some_formals, then_fields, then_name, then_section, type_name, type_names, value_section, variable, variable_section, variables, written_type}
-use Rattle.ob0_language_names.specs.DeclaredOnce.{are_distinct, block_once, fields_once, formals_once, group_fields, group_once, groups_fields, groups_once, is_among, procedure_once, procedures_once, types_once, variables_once}
-use Rattle.ob0_language_names.specs.Names.{Label, Name, as_labels, as_names, label_text, same_name}
-use Rattle.ob0_language_names.specs.Parts.{formal_names, formal_sections, further_names, module_block, names_listed, section_types, section_variables}
+use Rattle.ob0_language_names.specs.DeclaredOnce.{are_distinct, block_once, has_distinct_fields, formals_have_distinct_fields, group_fields, group_has_distinct_fields, further_group_fields, groups_have_distinct_fields, is_among, procedure_once, procedures_once, types_have_distinct_fields, variables_have_distinct_fields}
+use Rattle.ob0_language_names.specs.Names.{Label, Name, naming_by_label, naming_by_spelling, label_text, same_name}
+use Rattle.ob0_language_names.specs.Parts.{formal_names, formal_sections, further_names, module_block, names_in_list, section_types, section_variables}
 use Rattle.ob0_scope_table.specs.Resolution.{IsResolution, Resolution, ordinal_in}
-use Rattle.ob0_language_names.specs.Scopes.{as_label}
+use Rattle.ob0_language_names.specs.Scopes.{label_from_ordinal}
 use Rattle.ob0_language_names.proofs.NameEquality.{same_name-refl}
-use Rattle.ob0_language_types.specs.Declarations.{after_formals, after_types, after_variables, block_constructors, formals_constructors, procedure_constructors, procedures_constructors, types_constructors, variables_constructors}
+use Rattle.ob0_language_types.specs.Declarations.{constructor_after_formals, constructor_after_types, constructor_after_variables, block_constructor_count, formals_constructor_count, procedure_constructor_count, procedures_constructor_count, types_constructor_count, variables_constructor_count}
 use Rattle.ob0_language_types.specs.Environments.{meanings}
-use Rattle.ob0_scope_table.specs.InLabels.{in_labels, label_in}
-use Rattle.ob0_language_types.specs.Typing.{array_length, constant_value, constructors, denoted, denoted_group, denoted_groups, depth, element_type, group_constructors, groups_constructors, scalars, shape_of_field, type_declared, with_fields, within_limits}
+use Rattle.ob0_scope_table.specs.LabelledTrees.{tree_with_labels, label_at_token}
+use Rattle.ob0_language_types.specs.Typing.{array_length, constant_value, constructor_count, denoted, denoted_group, denoted_groups, depth, element_type, group_constructor_count, groups_constructor_count, scalars, shape_of_field, type_of_declaration, prepend_fields, check_limits}
 use Rattle.ob0_language_types.specs.WellTyped.{TypeEnvironment, WellTyped}
 use Rattle.ob0_language_types.proofs.Literals.{some_inverse}
 use Rattle.ob0_language_types.proofs.TypedElsewhere.{then_some}
-use Rattle.ob0_types_table.specs.FieldPlaces.{place_of_field}
-use Rattle.ob0_types_table.specs.declared.known.FieldOf.{FieldOf}
+use Rattle.ob0_types_table.specs.FieldPlaces.{position_of_field}
+use Rattle.ob0_types_table.specs.declared.known.FieldId.{FieldId}
 use Rattle.ob0_language_values.specs.Values.{FieldShapes, Shape, array_shape, integer_shape, next_field_shape, no_field_shape, record_shape}
-use Rattle.ob0_types_fields.specs.FieldTypes.{FieldsTyped, TypedField, constructed, typed_field_named, first_listed, typed_field}
+use Rattle.ob0_types_fields.specs.FieldTypes.{FieldsHaveTypes, TypedField, constructed_types, typed_field_with_name, first_name_listed, typed_field}
 use Rattle.ob0_types_fields.specs.declared.field_name.FieldName.{FieldName}
-use Rattle.ob0_types_fields.specs.Identifiers.{declared_fields, declared_in_block, declared_in_procedure, declared_in_procedures, declaring_field, field_identifiers, first, is_field, tokens_among}
-use Rattle.ob0_types_fields.specs.Owned.{marked_group, marked_groups, marked_names, marked_sections, marked_type, marked_types, marked_variables}
+use Rattle.ob0_types_fields.specs.Identifiers.{declared_fields, declared_in_block, declared_in_procedure, declared_in_procedures, field_declaring_token, field_identifiers, first, belongs_to_field, tokens_of_field}
+use Rattle.ob0_types_fields.specs.Owned.{fields_in_group, fields_in_groups, fields_at_tokens, fields_in_sections, fields_in_type, fields_in_types, fields_in_variables}
 use Rattle.ob0_types_fields.proofs.DeclaredTypes.{BlockIsTyped, Denotes, FormalsAreTyped, ProcedureIsTyped, ProceduresAreTyped, TypesAreTyped, VariablesAreTyped, meaning, module-typed}
 use Rattle.ob0_types_fields.proofs.FieldLabels.{AllWritten, BlockPlain, GroupPlain, GroupsPlain, IsWritten, ProcedurePlain, ProceduresPlain, SectionsPlain, TypePlain, TypesPlain, VariablesPlain, numbered-plain}
-use Rattle.ob0_types_fields.proofs.FieldsDeclared.{fields_declared-holds}
+use Rattle.ob0_types_fields.proofs.FieldsAreDeclared.{fields_are_declared-holds}
 
 -- ---- the fields of the record itself
 
@@ -70,105 +70,105 @@ distinct-apart y (x ∷ xs) ys h among = one (same_name y x) refl (distinct-apar
         absurd (true≢false (sym (subst (λ z. is_among z (xs ++ ys) ≡ true) same (among-right y xs ys among)) ∙ not_true (is_among x (xs ++ ys)) parts.0))
     one false e later = later
 
-with-among : (y : Name) (xs : List Name) (s : Shape) (later : FieldShapes) → is_among y xs ≡ true → shape_of_field (with_fields xs s later) y ≡ Some s
+with-among : (y : Name) (xs : List Name) (s : Shape) (later : FieldShapes) → is_among y xs ≡ true → shape_of_field (prepend_fields xs s later) y ≡ Some s
 with-among y [] s later h = absurd (true≢false (sym h))
 with-among y (x ∷ xs) s later h = one (same_name y x) h (with-among y xs s later)
   where
-    one : (b : Bool) → (b || is_among y xs) ≡ true → (is_among y xs ≡ true → shape_of_field (with_fields xs s later) y ≡ Some s) → (if b then Some s else shape_of_field (with_fields xs s later) y) ≡ Some s
+    one : (b : Bool) → (b || is_among y xs) ≡ true → (is_among y xs ≡ true → shape_of_field (prepend_fields xs s later) y ≡ Some s) → (if b then Some s else shape_of_field (prepend_fields xs s later) y) ≡ Some s
     one true e rest = refl
     one false e rest = rest e
 
-with-none : (y : Name) (xs : List Name) (s : Shape) (later : FieldShapes) → is_among y xs ≡ false → shape_of_field (with_fields xs s later) y ≡ shape_of_field later y
+with-none : (y : Name) (xs : List Name) (s : Shape) (later : FieldShapes) → is_among y xs ≡ false → shape_of_field (prepend_fields xs s later) y ≡ shape_of_field later y
 with-none y [] s later h = refl
 with-none y (x ∷ xs) s later h = one (same_name y x) h (with-none y xs s later)
   where
-    one : (b : Bool) → (b || is_among y xs) ≡ false → (is_among y xs ≡ false → shape_of_field (with_fields xs s later) y ≡ shape_of_field later y) → (if b then Some s else shape_of_field (with_fields xs s later) y) ≡ shape_of_field later y
+    one : (b : Bool) → (b || is_among y xs) ≡ false → (is_among y xs ≡ false → shape_of_field (prepend_fields xs s later) y ≡ shape_of_field later y) → (if b then Some s else shape_of_field (prepend_fields xs s later) y) ≡ shape_of_field later y
     one true e rest = absurd (true≢false e)
     one false e rest = rest e
 
-place-found : (fs : FieldShapes) (x : Name) (u : Shape) → shape_of_field fs x ≡ Some u → (i : ℕ) × (place_of_field fs x ≡ Some i)
+place-found : (fs : FieldShapes) (x : Name) (u : Shape) → shape_of_field fs x ≡ Some u → (i : ℕ) × (position_of_field fs x ≡ Some i)
 place-found no_field_shape x u h = absurd (cc)
 place-found (next_field_shape y s rest) x u h = one (same_name x y) h (place-found rest x u)
   where
-    one : (b : Bool) → (if b then Some s else shape_of_field rest x) ≡ Some u → (shape_of_field rest x ≡ Some u → (i : ℕ) × (place_of_field rest x ≡ Some i))
-        → (i : ℕ) × ((if b then Some 0 else option_map suc (place_of_field rest x)) ≡ Some i)
+    one : (b : Bool) → (if b then Some s else shape_of_field rest x) ≡ Some u → (shape_of_field rest x ≡ Some u → (i : ℕ) × (position_of_field rest x ≡ Some i))
+        → (i : ℕ) × ((if b then Some 0 else option_map suc (position_of_field rest x)) ≡ Some i)
     one true e later = (0, refl)
     one false e later = let found = later e in (suc found.0, ap (option_map suc) found.1)
 
-abbrev of_field : FieldOf → Shape → TypedField
+abbrev of_field : FieldId → Shape → TypedField
 of_field f t = record { field = f; shape = t }
 
-abbrev place_in : ℕ → ℕ → FieldOf
+abbrev place_in : ℕ → ℕ → FieldId
 place_in k i = record { ordinal = k; index = i }
 
-within-is : (s t : Shape) → within_limits s ≡ Some t → s ≡ t
+within-is : (s t : Shape) → check_limits s ≡ Some t → s ≡ t
 within-is s t = elim (nat_le (scalars s) 65536 && nat_le (depth s) 100) as (λ b. (if b then Some s else None) ≡ Some t → s ≡ t) [ true ↦ λ h. some_inverse h | false ↦ λ h. absurd (cc) ]
 
 -- ---- each ARRAY and RECORD constructs one type
 
 module _ (r : Resolution) where
   mutual
-    type-counted : (t : Option Shape) (u : Tree ℕ written_type) → length (constructed (meaning r) t u) ≡ constructors u
+    type-counted : (t : Option Shape) (u : Tree ℕ written_type) → length (constructed_types (meaning r) t u) ≡ constructor_count u
     type-counted t (named_type x) = refl
     type-counted t (array_type e u) = ap suc (type-counted (option_and_then (λ a. element_type a integer_shape) t) u)
     type-counted t (record_type g rest) =
-        ap suc (length-append (constructed (meaning r) t g) (constructed (meaning r) t rest) ∙ (λ i. group-counted t g i + groups-counted t rest i))
+        ap suc (length-append (constructed_types (meaning r) t g) (constructed_types (meaning r) t rest) ∙ (λ i. group-counted t g i + groups-counted t rest i))
 
-    group-counted : (t : Option Shape) (g : Tree ℕ fields) → length (constructed (meaning r) t g) ≡ group_constructors g
+    group-counted : (t : Option Shape) (g : Tree ℕ fields) → length (constructed_types (meaning r) t g) ≡ group_constructor_count g
     group-counted t no_fields = refl
     group-counted t (some_fields ns u) = type-counted _ u
 
-    groups-counted : (t : Option Shape) (gs : Tree ℕ (items further_fields)) → length (constructed (meaning r) t gs) ≡ groups_constructors gs
+    groups-counted : (t : Option Shape) (gs : Tree ℕ (items further_fields)) → length (constructed_types (meaning r) t gs) ≡ groups_constructor_count gs
     groups-counted t end = refl
     groups-counted t (more (then_fields g) rest) =
-        length-append (constructed (meaning r) t g) (constructed (meaning r) t rest) ∙ (λ i. group-counted t g i + groups-counted t rest i)
+        length-append (constructed_types (meaning r) t g) (constructed_types (meaning r) t rest) ∙ (λ i. group-counted t g i + groups-counted t rest i)
 
-  types-counted : (ds : Tree ℕ (items type_name)) → length (constructed (meaning r) None ds) ≡ types_constructors ds
+  types-counted : (ds : Tree ℕ (items type_name)) → length (constructed_types (meaning r) None ds) ≡ types_constructor_count ds
   types-counted end = refl
   types-counted (more (declares_type x u) ds) =
-      length-append (constructed (meaning r) None (declares_type x u)) (constructed (meaning r) None ds) ∙ (λ i. type-counted (type_declared ((meaning r).object_for x)) u i + types-counted ds i)
+      length-append (constructed_types (meaning r) None (declares_type x u)) (constructed_types (meaning r) None ds) ∙ (λ i. type-counted (type_of_declaration ((meaning r).object_for x)) u i + types-counted ds i)
 
-  variables-counted : (gs : Tree ℕ (items variable)) → length (constructed (meaning r) None gs) ≡ variables_constructors gs
+  variables-counted : (gs : Tree ℕ (items variable)) → length (constructed_types (meaning r) None gs) ≡ variables_constructor_count gs
   variables-counted end = refl
   variables-counted (more (declares_variable ns u) gs) =
-      length-append (constructed (meaning r) None (declares_variable ns u)) (constructed (meaning r) None gs) ∙ (λ i. type-counted (type_declared ((meaning r).object_for (first_listed ns))) u i + variables-counted gs i)
+      length-append (constructed_types (meaning r) None (declares_variable ns u)) (constructed_types (meaning r) None gs) ∙ (λ i. type-counted (type_of_declaration ((meaning r).object_for (first_name_listed ns))) u i + variables-counted gs i)
 
-  sections-counted : (fs : Tree ℕ (items further_section)) → length (constructed (meaning r) None fs) ≡ formals_constructors fs
+  sections-counted : (fs : Tree ℕ (items further_section)) → length (constructed_types (meaning r) None fs) ≡ formals_constructor_count fs
   sections-counted end = refl
   sections-counted (more (then_section (value_section ns u)) fs) =
-      length-append (constructed (meaning r) None (value_section ns u)) (constructed (meaning r) None fs) ∙ (λ i. type-counted (type_declared ((meaning r).object_for (first_listed ns))) u i + sections-counted fs i)
+      length-append (constructed_types (meaning r) None (value_section ns u)) (constructed_types (meaning r) None fs) ∙ (λ i. type-counted (type_of_declaration ((meaning r).object_for (first_name_listed ns))) u i + sections-counted fs i)
   sections-counted (more (then_section (variable_section ns u)) fs) =
-      length-append (constructed (meaning r) None (variable_section ns u)) (constructed (meaning r) None fs) ∙ (λ i. type-counted (type_declared ((meaning r).object_for (first_listed ns))) u i + sections-counted fs i)
+      length-append (constructed_types (meaning r) None (variable_section ns u)) (constructed_types (meaning r) None fs) ∙ (λ i. type-counted (type_of_declaration ((meaning r).object_for (first_name_listed ns))) u i + sections-counted fs i)
 
-  type_section-counted : (ts : Tree ℕ (maybe type_names)) → length (constructed (meaning r) None ts) ≡ types_constructors (section_types ts)
+  type_section-counted : (ts : Tree ℕ (maybe type_names)) → length (constructed_types (meaning r) None ts) ≡ types_constructor_count (section_types ts)
   type_section-counted none = refl
   type_section-counted (one (declares_types ts)) = types-counted ts
 
-  variable_section-counted : (vs : Tree ℕ (maybe variables)) → length (constructed (meaning r) None vs) ≡ variables_constructors (section_variables vs)
+  variable_section-counted : (vs : Tree ℕ (maybe variables)) → length (constructed_types (meaning r) None vs) ≡ variables_constructor_count (section_variables vs)
   variable_section-counted none = refl
   variable_section-counted (one (declares_variables vs)) = variables-counted vs
 
-  formal_section-counted : (fs : Tree ℕ (maybe formals)) → length (constructed (meaning r) None fs) ≡ formals_constructors (formal_sections fs)
+  formal_section-counted : (fs : Tree ℕ (maybe formals)) → length (constructed_types (meaning r) None fs) ≡ formals_constructor_count (formal_sections fs)
   formal_section-counted none = refl
   formal_section-counted (one no_formals) = refl
   formal_section-counted (one (some_formals (value_section ns u) fs)) = sections-counted (more (then_section (value_section ns u)) fs)
   formal_section-counted (one (some_formals (variable_section ns u) fs)) = sections-counted (more (then_section (variable_section ns u)) fs)
 
   mutual
-    block-counted : (b : Tree ℕ block) → length (constructed (meaning r) None b) ≡ block_constructors b
+    block-counted : (b : Tree ℕ block) → length (constructed_types (meaning r) None b) ≡ block_constructor_count b
     block-counted (has_body (declares cs ts vs ps) statements) =
-        length-append (constructed (meaning r) None ts) (constructed (meaning r) None vs ++ constructed (meaning r) None ps)
-        ∙ ((λ i. type_section-counted ts i + length-append (constructed (meaning r) None vs) (constructed (meaning r) None ps) i)
-        ∙ (λ i. types_constructors (section_types ts) + (variable_section-counted vs i + procedures-counted ps i)))
+        length-append (constructed_types (meaning r) None ts) (constructed_types (meaning r) None vs ++ constructed_types (meaning r) None ps)
+        ∙ ((λ i. type_section-counted ts i + length-append (constructed_types (meaning r) None vs) (constructed_types (meaning r) None ps) i)
+        ∙ (λ i. types_constructor_count (section_types ts) + (variable_section-counted vs i + procedures-counted ps i)))
 
-    procedures-counted : (ps : Tree ℕ (items procedure)) → length (constructed (meaning r) None ps) ≡ procedures_constructors ps
+    procedures-counted : (ps : Tree ℕ (items procedure)) → length (constructed_types (meaning r) None ps) ≡ procedures_constructor_count ps
     procedures-counted end = refl
     procedures-counted (more p rest) =
-        length-append (constructed (meaning r) None p) (constructed (meaning r) None rest) ∙ (λ i. procedure-counted p i + procedures-counted rest i)
+        length-append (constructed_types (meaning r) None p) (constructed_types (meaning r) None rest) ∙ (λ i. procedure-counted p i + procedures-counted rest i)
 
-    procedure-counted : (p : Tree ℕ (item procedure)) → length (constructed (meaning r) None p) ≡ procedure_constructors p
+    procedure-counted : (p : Tree ℕ (item procedure)) → length (constructed_types (meaning r) None p) ≡ procedure_constructor_count p
     procedure-counted (declares_procedure x fs b closing) =
-        length-append (constructed (meaning r) None fs) (constructed (meaning r) None b) ∙ (λ i. formal_section-counted fs i + block-counted b i)
+        length-append (constructed_types (meaning r) None fs) (constructed_types (meaning r) None b) ∙ (λ i. formal_section-counted fs i + block-counted b i)
 
 -- ---- fields of the constructed types
 
@@ -177,7 +177,7 @@ pub record Has (made : List (Option Shape)) (k ordinal : ℕ) (x : Name) : Type 
   pub place : ℕ
   pub is_at : ordinal ≡ k + place
   pub within : place < length made
-  pub typed : is_some (option_and_then (λ s. typed_field_named s x) (get_or made place None)) ≡ true
+  pub typed : is_some (option_and_then (λ s. typed_field_with_name s x) (get_or made place None)) ≡ true
 
 has-before : (made later : List (Option Shape)) (k ordinal : ℕ) (x : Name) → Has made k ordinal x → Has (made ++ later) k ordinal x
 has-before made later k ordinal x h =
@@ -185,7 +185,7 @@ has-before made later k ordinal x h =
       place = h.place;
       is_at = h.is_at;
       within = omega (arith, h.within, length-append made later);
-      typed = ap (λ t. is_some (option_and_then (λ s. typed_field_named s x) t)) (get_or_append_left made later None h.place h.within) ∙ h.typed;
+      typed = ap (λ t. is_some (option_and_then (λ s. typed_field_with_name s x) t)) (get_or_append_left made later None h.place h.within) ∙ h.typed;
     }
 
 has-later : (made later : List (Option Shape)) (k ordinal : ℕ) (x : Name) → Has later (k + length made) ordinal x → Has (made ++ later) k ordinal x
@@ -194,7 +194,7 @@ has-later made later k ordinal x h =
       place = length made + h.place;
       is_at = omega (arith, h.is_at);
       within = omega (arith, h.within, length-append made later);
-      typed = ap (λ t. is_some (option_and_then (λ s. typed_field_named s x) t)) (get_or-append-add made later h.place None) ∙ h.typed;
+      typed = ap (λ t. is_some (option_and_then (λ s. typed_field_with_name s x) t)) (get_or-append-add made later h.place None) ∙ h.typed;
     }
 
 has-next : (t : Option Shape) (made : List (Option Shape)) (k ordinal : ℕ) (x : Name) → Has made (suc k) ordinal x → Has (t ∷ made) k ordinal x
@@ -217,18 +217,18 @@ module _ (r : Resolution) where
   value x = value_at r.module_read.source x
 
   -- The spelling of a field's label is the spelling of its token.
-  written-text : (x : ℕ) → IsWritten (label_in r x) → label_text (label_in r x) ≡ text x
+  written-text : (x : ℕ) → IsWritten (label_at_token r x) → label_text (label_at_token r x) ≡ text x
   written-text x h = go (ordinal_in r.ordinals x) h
     where
-      go : (o : Option ℕ) → IsWritten (as_label as_names o (text x)) → label_text (as_label as_names o (text x)) ≡ text x
+      go : (o : Option ℕ) → IsWritten (label_from_ordinal naming_by_spelling o (text x)) → label_text (label_from_ordinal naming_by_spelling o (text x)) ≡ text x
       go None h = refl
       go (Some k) h = absurd h
 
-  further-texts : (ns : Tree ℕ (items further_name)) → AllWritten (further_names (in_labels r ns)) → map label_text (further_names (in_labels r ns)) ≡ further_names (mapped text value ns)
+  further-texts : (ns : Tree ℕ (items further_name)) → AllWritten (further_names (tree_with_labels r ns)) → map label_text (further_names (tree_with_labels r ns)) ≡ further_names (mapped text value ns)
   further-texts end h = refl
   further-texts (more (then_name x) rest) h = λ i. written-text x h.0 i ∷ further-texts rest h.1 i
 
-  texts : (ns : Tree ℕ names) → AllWritten (names_listed (in_labels r ns)) → map label_text (names_listed (in_labels r ns)) ≡ names_listed (mapped text value ns)
+  texts : (ns : Tree ℕ names) → AllWritten (names_in_list (tree_with_labels r ns)) → map label_text (names_in_list (tree_with_labels r ns)) ≡ names_in_list (mapped text value ns)
   texts (listed x rest) h = λ i. written-text x h.0 i ∷ further-texts rest h.1 i
 
   -- holds if the record of an identifier has a field with its name
@@ -237,7 +237,7 @@ module _ (r : Resolution) where
 
   -- holds if an identifier is a field of the record itself, or of a type within it
   abbrev InRecord : Shape → ℕ → List (Option Shape) → ℕ → FieldName → Type 0
-  InRecord s j made k x = ((x.owner ≡ j) × (is_some (typed_field_named s (text x.token)) ≡ true)) ⊎ HasField made k x
+  InRecord s j made k x = ((x.owner ≡ j) × (is_some (typed_field_with_name s (text x.token)) ≡ true)) ⊎ HasField made k x
 
   in-before : (s : Shape) (j : ℕ) (made later : List (Option Shape)) (k : ℕ) (x : FieldName) → InRecord s j made k x → InRecord s j (made ++ later) k x
   in-before s j made later k x (inl own) = inl own
@@ -267,25 +267,25 @@ module _ (r : Resolution) where
 
   module _ (o : ℕ) (all : FieldShapes) where
     -- A name that has a type in a record is a field of the record.
-    name-typed : (x : Name) (s : Shape) → shape_of_field all x ≡ Some s → is_some (typed_field_named (record_shape o all) x) ≡ true
+    name-typed : (x : Name) (s : Shape) → shape_of_field all x ≡ Some s → is_some (typed_field_with_name (record_shape o all) x) ≡ true
     name-typed x s typed =
         let place = place-found all x s typed in
         λ i. is_some (option_and_then (λ f. option_map (of_field f) (typed i)) (option_map (place_in o) (place.1 i)))
 
-    own-names : (j k : ℕ) (made : List (Option Shape)) (xs : List ℕ) → AllByRecursion (λ x. is_some (typed_field_named (record_shape o all) (text x)) ≡ true) xs → AllByRecursion (InRecord (record_shape o all) j made k) (marked_names j xs)
+    own-names : (j k : ℕ) (made : List (Option Shape)) (xs : List ℕ) → AllByRecursion (λ x. is_some (typed_field_with_name (record_shape o all) (text x)) ≡ true) xs → AllByRecursion (InRecord (record_shape o all) j made k) (fields_at_tokens j xs)
     own-names j k made [] h = tt
     own-names j k made (x ∷ xs) h = (inl (refl, h.0), own-names j k made xs h.1)
 
     further-have : (ns : Tree ℕ (items further_name)) (before : List Name) (s : Shape) → ((y : Name) → is_among y (before ++ further_names (mapped text value ns)) ≡ true → shape_of_field all y ≡ Some s)
-        → AllByRecursion (λ x. is_some (typed_field_named (record_shape o all) (text x)) ≡ true) (further_names ns)
+        → AllByRecursion (λ x. is_some (typed_field_with_name (record_shape o all) (text x)) ≡ true) (further_names ns)
     further-have end before s has = tt
     further-have (more (then_name x) rest) before s has = (
       name-typed (text x) s (has (text x) (among-right (text x) before (text x ∷ further_names (mapped text value rest)) (ap (λ b. b || is_among (text x) (further_names (mapped text value rest))) (same_name-refl (text x))))),
       further-have rest [] s (λ y among. has y (among-right y before (text x ∷ further_names (mapped text value rest)) (or_right (same_name y (text x)) (is_among y (further_names (mapped text value rest))) among))),
     )
 
-    names-have : (ns : Tree ℕ names) (s : Shape) → ((y : Name) → is_among y (names_listed (mapped text value ns)) ≡ true → shape_of_field all y ≡ Some s)
-        → AllByRecursion (λ x. is_some (typed_field_named (record_shape o all) (text x)) ≡ true) (names_listed ns)
+    names-have : (ns : Tree ℕ names) (s : Shape) → ((y : Name) → is_among y (names_in_list (mapped text value ns)) ≡ true → shape_of_field all y ≡ Some s)
+        → AllByRecursion (λ x. is_some (typed_field_with_name (record_shape o all) (text x)) ≡ true) (names_in_list ns)
     names-have (listed x rest) s has = (
       name-typed (text x) s (has (text x) (ap (λ b. b || is_among (text x) (further_names (mapped text value rest))) (same_name-refl (text x)))),
       further-have rest (text x ∷ []) s has,
@@ -296,186 +296,186 @@ module _ (r : Resolution) where
     Agree own fs = (y : Name) → is_among y own ≡ true → shape_of_field all y ≡ shape_of_field fs y
 
   -- A name that isn't in a group is found in the fields after the group.
-  following-group : (env : TypeEnvironment Label) (k : ℕ) (later fs : FieldShapes) (g : Tree ℕ fields) → denoted_group (meanings as_labels env) k later (in_labels r g) ≡ Some fs → GroupPlain (in_labels r g)
+  following-group : (env : TypeEnvironment Label) (k : ℕ) (later fs : FieldShapes) (g : Tree ℕ fields) → denoted_group (meanings naming_by_label env) k later (tree_with_labels r g) ≡ Some fs → GroupPlain (tree_with_labels r g)
       → (others : List Name) → are_distinct (group_fields (mapped text value g) ++ others) ≡ true → (y : Name) → is_among y others ≡ true → shape_of_field fs y ≡ shape_of_field later y
   unfolding denoted
   following-group env k later fs no_fields h plain others distinct y among = ap (λ z. shape_of_field z y) (sym (some_inverse h))
   following-group env k later fs (some_fields ns t) h plain others distinct y among =
-      let one = then_some (denoted (meanings as_labels env) k (in_labels r t)) (λ s. Some (with_fields (map label_text (names_listed (in_labels r ns))) s later)) fs h in
-      let own : List Name = names_listed (mapped text value ns) in
-      ap (λ z. shape_of_field z y) (sym (some_inverse one.2) ∙ ap (λ xs. with_fields xs one.0 later) (texts ns plain.0)) ∙ with-none y own one.0 later (distinct-apart y own others distinct among)
+      let one = then_some (denoted (meanings naming_by_label env) k (tree_with_labels r t)) (λ s. Some (prepend_fields (map label_text (names_in_list (tree_with_labels r ns))) s later)) fs h in
+      let own : List Name = names_in_list (mapped text value ns) in
+      ap (λ z. shape_of_field z y) (sym (some_inverse one.2) ∙ ap (λ xs. prepend_fields xs one.0 later) (texts ns plain.0)) ∙ with-none y own one.0 later (distinct-apart y own others distinct among)
 
   mutual
     unfolding denoted
 
-    type-have : (env : TypeEnvironment Label) (k : ℕ) (u : Tree ℕ written_type) (s : Shape) → denoted (meanings as_labels env) k (in_labels r u) ≡ Some s → TypePlain (in_labels r u) → fields_once (mapped text value u) ≡ true
-        → (j : ℕ) → AllByRecursion (HasField (constructed (meaning r) (Some s) u) j) (marked_type j u)
+    type-have : (env : TypeEnvironment Label) (k : ℕ) (u : Tree ℕ written_type) (s : Shape) → denoted (meanings naming_by_label env) k (tree_with_labels r u) ≡ Some s → TypePlain (tree_with_labels r u) → has_distinct_fields (mapped text value u) ≡ true
+        → (j : ℕ) → AllByRecursion (HasField (constructed_types (meaning r) (Some s) u) j) (fields_in_type j u)
     type-have env k (named_type x) s h plain once j = tt
     type-have env k (array_type e t) s h plain once j =
-        let one = then_some (constant_value (meanings as_labels env) (in_labels r e)) (λ v. option_and_then (λ n. option_and_then (λ a. within_limits (array_shape k n a)) (denoted (meanings as_labels env) (suc k) (in_labels r t))) (array_length v)) s h in
-        let two = then_some (array_length one.0) (λ n. option_and_then (λ a. within_limits (array_shape k n a)) (denoted (meanings as_labels env) (suc k) (in_labels r t))) s one.2 in
-        let three = then_some (denoted (meanings as_labels env) (suc k) (in_labels r t)) (λ a. within_limits (array_shape k two.0 a)) s two.2 in
-        let inner : List (Option Shape) = constructed (meaning r) (Some three.0) t in
-        subst (λ z. AllByRecursion (HasField (constructed (meaning r) (Some z) (array_type e t)) j) (marked_type (suc j) t)) (within-is (array_shape k two.0 three.0) s three.2)
-        (each-weaker (HasField inner (suc j)) (HasField (Some (array_shape k two.0 three.0) ∷ inner) j) (λ x h. has-next (Some (array_shape k two.0 three.0)) inner j x.owner (text x.token) h) (marked_type (suc j) t) (type-have env (suc k) t three.0 three.1 plain once (suc j)))
+        let one = then_some (constant_value (meanings naming_by_label env) (tree_with_labels r e)) (λ v. option_and_then (λ n. option_and_then (λ a. check_limits (array_shape k n a)) (denoted (meanings naming_by_label env) (suc k) (tree_with_labels r t))) (array_length v)) s h in
+        let two = then_some (array_length one.0) (λ n. option_and_then (λ a. check_limits (array_shape k n a)) (denoted (meanings naming_by_label env) (suc k) (tree_with_labels r t))) s one.2 in
+        let three = then_some (denoted (meanings naming_by_label env) (suc k) (tree_with_labels r t)) (λ a. check_limits (array_shape k two.0 a)) s two.2 in
+        let inner : List (Option Shape) = constructed_types (meaning r) (Some three.0) t in
+        subst (λ z. AllByRecursion (HasField (constructed_types (meaning r) (Some z) (array_type e t)) j) (fields_in_type (suc j) t)) (within-is (array_shape k two.0 three.0) s three.2)
+        (each-weaker (HasField inner (suc j)) (HasField (Some (array_shape k two.0 three.0) ∷ inner) j) (λ x h. has-next (Some (array_shape k two.0 three.0)) inner j x.owner (text x.token) h) (fields_in_type (suc j) t) (type-have env (suc k) t three.0 three.1 plain once (suc j)))
     type-have env k (record_type g rest) s h plain once j =
-        let n : ℕ = suc k + group_constructors (in_labels r g) in
+        let n : ℕ = suc k + group_constructor_count (tree_with_labels r g) in
         let own : List Name = group_fields (mapped text value g) in
-        let others : List Name = groups_fields (mapped text value rest) in
-        let one = then_some (denoted_groups (meanings as_labels env) n (in_labels r rest)) (λ later. option_and_then (λ fs. within_limits (record_shape k fs)) (denoted_group (meanings as_labels env) (suc k) later (in_labels r g))) s h in
-        let two = then_some (denoted_group (meanings as_labels env) (suc k) one.0 (in_labels r g)) (λ fs. within_limits (record_shape k fs)) s one.2 in
+        let others : List Name = further_group_fields (mapped text value rest) in
+        let one = then_some (denoted_groups (meanings naming_by_label env) n (tree_with_labels r rest)) (λ later. option_and_then (λ fs. check_limits (record_shape k fs)) (denoted_group (meanings naming_by_label env) (suc k) later (tree_with_labels r g))) s h in
+        let two = then_some (denoted_group (meanings naming_by_label env) (suc k) one.0 (tree_with_labels r g)) (λ fs. check_limits (record_shape k fs)) s one.2 in
         let all : FieldShapes = two.0 in
         let z : Shape = record_shape k all in
-        let o1 = and_parts (are_distinct (own ++ others)) (group_once (mapped text value g) && groups_once (mapped text value rest)) once in
-        let o2 = and_parts (group_once (mapped text value g)) (groups_once (mapped text value rest)) o1.1 in
-        let first : List (Option Shape) = constructed (meaning r) (Some z) g in
-        let later : List (Option Shape) = constructed (meaning r) (Some z) rest in
-        let xs : List FieldName = marked_group j (suc j) g in
-        let ys : List FieldName = marked_groups j (suc j + group_constructors g) rest in
-        subst (λ y. AllByRecursion (HasField (constructed (meaning r) (Some y) (record_type g rest)) j) (xs ++ ys)) (within-is z s two.2)
+        let o1 = and_parts (are_distinct (own ++ others)) (group_has_distinct_fields (mapped text value g) && groups_have_distinct_fields (mapped text value rest)) once in
+        let o2 = and_parts (group_has_distinct_fields (mapped text value g)) (groups_have_distinct_fields (mapped text value rest)) o1.1 in
+        let first : List (Option Shape) = constructed_types (meaning r) (Some z) g in
+        let later : List (Option Shape) = constructed_types (meaning r) (Some z) rest in
+        let xs : List FieldName = fields_in_group j (suc j) g in
+        let ys : List FieldName = fields_in_groups j (suc j + group_constructor_count g) rest in
+        subst (λ y. AllByRecursion (HasField (constructed_types (meaning r) (Some y) (record_type g rest)) j) (xs ++ ys)) (within-is z s two.2)
         (each-weaker (InRecord z j (first ++ later) (suc j)) (HasField (Some z ∷ (first ++ later)) j) (λ x h. of-record z j (first ++ later) x h) (xs ++ ys)
-        (groups-have z j first later (suc j) (suc j + group_constructors g) xs ys (ap (λ c. suc j + c) (sym (group-counted r (Some z) g)))
+        (groups-have z j first later (suc j) (suc j + group_constructor_count g) xs ys (ap (λ c. suc j + c) (sym (group-counted r (Some z) g)))
         (group-has env (suc k) k all one.0 all g two.1 plain.0 o2.0 (λ y among. refl) j (suc j))
-        (groups-all env n k all one.0 rest one.1 plain.1 o2.1 (distinct-right own others o1.0) (λ y among. following-group env (suc k) one.0 all g two.1 plain.0 others o1.0 y among) j (suc j + group_constructors g))))
+        (groups-all env n k all one.0 rest one.1 plain.1 o2.1 (distinct-right own others o1.0) (λ y among. following-group env (suc k) one.0 all g two.1 plain.0 others o1.0 y among) j (suc j + group_constructor_count g))))
 
-    group-has : (env : TypeEnvironment Label) (k o : ℕ) (all later fs : FieldShapes) (g : Tree ℕ fields) → denoted_group (meanings as_labels env) k later (in_labels r g) ≡ Some fs → GroupPlain (in_labels r g) → group_once (mapped text value g) ≡ true
-        → Agree o all (group_fields (mapped text value g)) fs → (j n : ℕ) → AllByRecursion (InRecord (record_shape o all) j (constructed (meaning r) (Some (record_shape o all)) g) n) (marked_group j n g)
+    group-has : (env : TypeEnvironment Label) (k o : ℕ) (all later fs : FieldShapes) (g : Tree ℕ fields) → denoted_group (meanings naming_by_label env) k later (tree_with_labels r g) ≡ Some fs → GroupPlain (tree_with_labels r g) → group_has_distinct_fields (mapped text value g) ≡ true
+        → Agree o all (group_fields (mapped text value g)) fs → (j n : ℕ) → AllByRecursion (InRecord (record_shape o all) j (constructed_types (meaning r) (Some (record_shape o all)) g) n) (fields_in_group j n g)
     group-has env k o all later fs no_fields h plain once agree j n = tt
     group-has env k o all later fs (some_fields (listed x rest) t) h plain once agree j n =
         let ns : Tree ℕ names = listed x rest in
-        let own : List Name = names_listed (mapped text value ns) in
-        let one = then_some (denoted (meanings as_labels env) k (in_labels r t)) (λ s. Some (with_fields (map label_text (names_listed (in_labels r ns))) s later)) fs h in
-        let is : fs ≡ with_fields own one.0 later = sym (some_inverse one.2) ∙ ap (λ xs. with_fields xs one.0 later) (texts ns plain.0) in
+        let own : List Name = names_in_list (mapped text value ns) in
+        let one = then_some (denoted (meanings naming_by_label env) k (tree_with_labels r t)) (λ s. Some (prepend_fields (map label_text (names_in_list (tree_with_labels r ns))) s later)) fs h in
+        let is : fs ≡ prepend_fields own one.0 later = sym (some_inverse one.2) ∙ ap (λ xs. prepend_fields xs one.0 later) (texts ns plain.0) in
         let has : (y : Name) → is_among y own ≡ true → shape_of_field all y ≡ Some one.0 = λ y among. agree y among ∙ (ap (λ z. shape_of_field z y) is ∙ with-among y own one.0 later among) in
         let first : shape_of_field all (text x) ≡ Some one.0 = has (text x) (ap (λ b. b || is_among (text x) (further_names (mapped text value rest))) (same_name-refl (text x))) in
-        let made : List (Option Shape) = constructed (meaning r) (Some one.0) t in
-        subst (λ z. AllByRecursion (InRecord (record_shape o all) j (constructed (meaning r) z t) n) (marked_names j (names_listed ns) ++ marked_type n t)) (sym first)
-        (each-both (InRecord (record_shape o all) j made n) (marked_names j (names_listed ns)) (marked_type n t)
-        (own-names o all j n made (names_listed ns) (names-have o all ns one.0 has))
-        (each-weaker (HasField made n) (InRecord (record_shape o all) j made n) (λ y e. inr e) (marked_type n t) (type-have env k t one.0 one.1 plain.1 once n)))
+        let made : List (Option Shape) = constructed_types (meaning r) (Some one.0) t in
+        subst (λ z. AllByRecursion (InRecord (record_shape o all) j (constructed_types (meaning r) z t) n) (fields_at_tokens j (names_in_list ns) ++ fields_in_type n t)) (sym first)
+        (each-both (InRecord (record_shape o all) j made n) (fields_at_tokens j (names_in_list ns)) (fields_in_type n t)
+        (own-names o all j n made (names_in_list ns) (names-have o all ns one.0 has))
+        (each-weaker (HasField made n) (InRecord (record_shape o all) j made n) (λ y e. inr e) (fields_in_type n t) (type-have env k t one.0 one.1 plain.1 once n)))
 
-    groups-all : (env : TypeEnvironment Label) (k o : ℕ) (all fs : FieldShapes) (gs : Tree ℕ (items further_fields)) → denoted_groups (meanings as_labels env) k (in_labels r gs) ≡ Some fs → GroupsPlain (in_labels r gs) → groups_once (mapped text value gs) ≡ true
-        → are_distinct (groups_fields (mapped text value gs)) ≡ true → Agree o all (groups_fields (mapped text value gs)) fs → (j n : ℕ) → AllByRecursion (InRecord (record_shape o all) j (constructed (meaning r) (Some (record_shape o all)) gs) n) (marked_groups j n gs)
+    groups-all : (env : TypeEnvironment Label) (k o : ℕ) (all fs : FieldShapes) (gs : Tree ℕ (items further_fields)) → denoted_groups (meanings naming_by_label env) k (tree_with_labels r gs) ≡ Some fs → GroupsPlain (tree_with_labels r gs) → groups_have_distinct_fields (mapped text value gs) ≡ true
+        → are_distinct (further_group_fields (mapped text value gs)) ≡ true → Agree o all (further_group_fields (mapped text value gs)) fs → (j n : ℕ) → AllByRecursion (InRecord (record_shape o all) j (constructed_types (meaning r) (Some (record_shape o all)) gs) n) (fields_in_groups j n gs)
     groups-all env k o all fs end h plain once distinct agree j n = tt
     groups-all env k o all fs (more (then_fields g) rest) h plain once distinct agree j n =
         let own : List Name = group_fields (mapped text value g) in
-        let others : List Name = groups_fields (mapped text value rest) in
-        let one = then_some (denoted_groups (meanings as_labels env) (k + group_constructors (in_labels r g)) (in_labels r rest)) (λ later. denoted_group (meanings as_labels env) k later (in_labels r g)) fs h in
-        let o1 = and_parts (group_once (mapped text value g)) (groups_once (mapped text value rest)) once in
+        let others : List Name = further_group_fields (mapped text value rest) in
+        let one = then_some (denoted_groups (meanings naming_by_label env) (k + group_constructor_count (tree_with_labels r g)) (tree_with_labels r rest)) (λ later. denoted_group (meanings naming_by_label env) k later (tree_with_labels r g)) fs h in
+        let o1 = and_parts (group_has_distinct_fields (mapped text value g)) (groups_have_distinct_fields (mapped text value rest)) once in
         let z : Shape = record_shape o all in
-        groups-have z j (constructed (meaning r) (Some z) g) (constructed (meaning r) (Some z) rest) n (n + group_constructors g) (marked_group j n g) (marked_groups j (n + group_constructors g) rest) (ap (λ c. n + c) (sym (group-counted r (Some z) g)))
+        groups-have z j (constructed_types (meaning r) (Some z) g) (constructed_types (meaning r) (Some z) rest) n (n + group_constructor_count g) (fields_in_group j n g) (fields_in_groups j (n + group_constructor_count g) rest) (ap (λ c. n + c) (sym (group-counted r (Some z) g)))
         (group-has env k o all one.0 fs g one.2 plain.0 o1.0 (λ y among. agree y (among-left y own others among)) j n)
-        (groups-all env (k + group_constructors (in_labels r g)) o all one.0 rest one.1 plain.1 o1.1 (distinct-right own others distinct)
-        (λ y among. agree y (among-right y own others among) ∙ following-group env k one.0 fs g one.2 plain.0 others distinct y among) j (n + group_constructors g))
+        (groups-all env (k + group_constructor_count (tree_with_labels r g)) o all one.0 rest one.1 plain.1 o1.1 (distinct-right own others distinct)
+        (λ y among. agree y (among-right y own others among) ∙ following-group env k one.0 fs g one.2 plain.0 others distinct y among) j (n + group_constructor_count g))
 
   -- ---- declarations
 
   -- The fields that a declared type declares have types, because the declared type is the one that its written type
   -- denotes.
-  declared-have : (t : Option Shape) (u : Tree ℕ written_type) (s : Shape) → t ≡ Some s → Denotes r u s → TypePlain (in_labels r u) → fields_once (mapped text value u) ≡ true → (k : ℕ) → AllByRecursion (HasField (constructed (meaning r) t u) k) (marked_type k u)
+  declared-have : (t : Option Shape) (u : Tree ℕ written_type) (s : Shape) → t ≡ Some s → Denotes r u s → TypePlain (tree_with_labels r u) → has_distinct_fields (mapped text value u) ≡ true → (k : ℕ) → AllByRecursion (HasField (constructed_types (meaning r) t u) k) (fields_in_type k u)
   declared-have t u s is d plain once k =
-      subst (λ z. AllByRecursion (HasField (constructed (meaning r) z u) k) (marked_type k u)) (sym is) (type-have d.env d.ordinal u s d.denotes plain once k)
+      subst (λ z. AllByRecursion (HasField (constructed_types (meaning r) z u) k) (fields_in_type k u)) (sym is) (type-have d.env d.ordinal u s d.denotes plain once k)
 
-  types-have : (ds : Tree ℕ (items type_name)) → TypesAreTyped r ds → TypesPlain (in_labels r ds) → types_once (mapped text value ds) ≡ true → (k : ℕ) → AllByRecursion (HasField (constructed (meaning r) None ds) k) (marked_types k ds)
+  types-have : (ds : Tree ℕ (items type_name)) → TypesAreTyped r ds → TypesPlain (tree_with_labels r ds) → types_have_distinct_fields (mapped text value ds) ≡ true → (k : ℕ) → AllByRecursion (HasField (constructed_types (meaning r) None ds) k) (fields_in_types k ds)
   types-have end are_typed plain once k = tt
   types-have (more (declares_type x u) ds) are_typed plain once k =
-      let o = and_parts (fields_once (mapped text value u)) (types_once (mapped text value ds)) once in
-      let t : Option Shape = type_declared ((meaning r).object_for x) in
-      parts-have (constructed (meaning r) t u) (constructed (meaning r) None ds) k (k + constructors u) (marked_type k u) (marked_types (k + constructors u) ds) (ap (λ c. k + c) (sym (type-counted r t u)))
-      (declared-have t u are_typed.0.0 (ap type_declared are_typed.0.1) are_typed.0.2 plain.0 o.0 k) (types-have ds are_typed.1 plain.1 o.1 (k + constructors u))
+      let o = and_parts (has_distinct_fields (mapped text value u)) (types_have_distinct_fields (mapped text value ds)) once in
+      let t : Option Shape = type_of_declaration ((meaning r).object_for x) in
+      parts-have (constructed_types (meaning r) t u) (constructed_types (meaning r) None ds) k (k + constructor_count u) (fields_in_type k u) (fields_in_types (k + constructor_count u) ds) (ap (λ c. k + c) (sym (type-counted r t u)))
+      (declared-have t u are_typed.0.0 (ap type_of_declaration are_typed.0.1) are_typed.0.2 plain.0 o.0 k) (types-have ds are_typed.1 plain.1 o.1 (k + constructor_count u))
 
-  variables-have : (gs : Tree ℕ (items variable)) → VariablesAreTyped r gs → VariablesPlain (in_labels r gs) → variables_once (mapped text value gs) ≡ true → (k : ℕ) → AllByRecursion (HasField (constructed (meaning r) None gs) k) (marked_variables k gs)
+  variables-have : (gs : Tree ℕ (items variable)) → VariablesAreTyped r gs → VariablesPlain (tree_with_labels r gs) → variables_have_distinct_fields (mapped text value gs) ≡ true → (k : ℕ) → AllByRecursion (HasField (constructed_types (meaning r) None gs) k) (fields_in_variables k gs)
   variables-have end are_typed plain once k = tt
   variables-have (more (declares_variable (listed x others) u) gs) are_typed plain once k =
-      let o = and_parts (fields_once (mapped text value u)) (variables_once (mapped text value gs)) once in
-      let t : Option Shape = type_declared ((meaning r).object_for x) in
-      parts-have (constructed (meaning r) t u) (constructed (meaning r) None gs) k (k + constructors u) (marked_type k u) (marked_variables (k + constructors u) gs) (ap (λ c. k + c) (sym (type-counted r t u)))
-      (declared-have t u are_typed.0.0 (ap type_declared are_typed.0.1) are_typed.0.2 plain.0 o.0 k) (variables-have gs are_typed.1 plain.1 o.1 (k + constructors u))
+      let o = and_parts (has_distinct_fields (mapped text value u)) (variables_have_distinct_fields (mapped text value gs)) once in
+      let t : Option Shape = type_of_declaration ((meaning r).object_for x) in
+      parts-have (constructed_types (meaning r) t u) (constructed_types (meaning r) None gs) k (k + constructor_count u) (fields_in_type k u) (fields_in_variables (k + constructor_count u) gs) (ap (λ c. k + c) (sym (type-counted r t u)))
+      (declared-have t u are_typed.0.0 (ap type_of_declaration are_typed.0.1) are_typed.0.2 plain.0 o.0 k) (variables-have gs are_typed.1 plain.1 o.1 (k + constructor_count u))
 
-  sections-have : (fs : Tree ℕ (items further_section)) → FormalsAreTyped r fs → SectionsPlain (in_labels r fs) → formals_once (mapped text value fs) ≡ true → (k : ℕ) → AllByRecursion (HasField (constructed (meaning r) None fs) k) (marked_sections k fs)
+  sections-have : (fs : Tree ℕ (items further_section)) → FormalsAreTyped r fs → SectionsPlain (tree_with_labels r fs) → formals_have_distinct_fields (mapped text value fs) ≡ true → (k : ℕ) → AllByRecursion (HasField (constructed_types (meaning r) None fs) k) (fields_in_sections k fs)
   sections-have end are_typed plain once k = tt
   sections-have (more (then_section (value_section (listed x others) u)) fs) are_typed plain once k =
-      let o = and_parts (fields_once (mapped text value u)) (formals_once (mapped text value fs)) once in
-      let t : Option Shape = type_declared ((meaning r).object_for x) in
-      parts-have (constructed (meaning r) t u) (constructed (meaning r) None fs) k (k + constructors u) (marked_type k u) (marked_sections (k + constructors u) fs) (ap (λ c. k + c) (sym (type-counted r t u)))
-      (declared-have t u are_typed.0.0 (ap type_declared are_typed.0.1) are_typed.0.2 plain.0 o.0 k) (sections-have fs are_typed.1 plain.1 o.1 (k + constructors u))
+      let o = and_parts (has_distinct_fields (mapped text value u)) (formals_have_distinct_fields (mapped text value fs)) once in
+      let t : Option Shape = type_of_declaration ((meaning r).object_for x) in
+      parts-have (constructed_types (meaning r) t u) (constructed_types (meaning r) None fs) k (k + constructor_count u) (fields_in_type k u) (fields_in_sections (k + constructor_count u) fs) (ap (λ c. k + c) (sym (type-counted r t u)))
+      (declared-have t u are_typed.0.0 (ap type_of_declaration are_typed.0.1) are_typed.0.2 plain.0 o.0 k) (sections-have fs are_typed.1 plain.1 o.1 (k + constructor_count u))
   sections-have (more (then_section (variable_section (listed x others) u)) fs) are_typed plain once k =
-      let o = and_parts (fields_once (mapped text value u)) (formals_once (mapped text value fs)) once in
-      let t : Option Shape = type_declared ((meaning r).object_for x) in
-      parts-have (constructed (meaning r) t u) (constructed (meaning r) None fs) k (k + constructors u) (marked_type k u) (marked_sections (k + constructors u) fs) (ap (λ c. k + c) (sym (type-counted r t u)))
-      (declared-have t u are_typed.0.0 (ap type_declared are_typed.0.1) are_typed.0.2 plain.0 o.0 k) (sections-have fs are_typed.1 plain.1 o.1 (k + constructors u))
+      let o = and_parts (has_distinct_fields (mapped text value u)) (formals_have_distinct_fields (mapped text value fs)) once in
+      let t : Option Shape = type_of_declaration ((meaning r).object_for x) in
+      parts-have (constructed_types (meaning r) t u) (constructed_types (meaning r) None fs) k (k + constructor_count u) (fields_in_type k u) (fields_in_sections (k + constructor_count u) fs) (ap (λ c. k + c) (sym (type-counted r t u)))
+      (declared-have t u are_typed.0.0 (ap type_of_declaration are_typed.0.1) are_typed.0.2 plain.0 o.0 k) (sections-have fs are_typed.1 plain.1 o.1 (k + constructor_count u))
 
-  type_section-have : (ts : Tree ℕ (maybe type_names)) → TypesAreTyped r (section_types ts) → TypesPlain (section_types (in_labels r ts)) → types_once (section_types (mapped text value ts)) ≡ true → (k : ℕ)
-      → AllByRecursion (HasField (constructed (meaning r) None ts) k) (marked_types k (section_types ts))
+  type_section-have : (ts : Tree ℕ (maybe type_names)) → TypesAreTyped r (section_types ts) → TypesPlain (section_types (tree_with_labels r ts)) → types_have_distinct_fields (section_types (mapped text value ts)) ≡ true → (k : ℕ)
+      → AllByRecursion (HasField (constructed_types (meaning r) None ts) k) (fields_in_types k (section_types ts))
   type_section-have none are_typed plain once k = tt
   type_section-have (one (declares_types ts)) are_typed plain once k = types-have ts are_typed plain once k
 
-  variable_section-have : (vs : Tree ℕ (maybe variables)) → VariablesAreTyped r (section_variables vs) → VariablesPlain (section_variables (in_labels r vs)) → variables_once (section_variables (mapped text value vs)) ≡ true → (k : ℕ)
-      → AllByRecursion (HasField (constructed (meaning r) None vs) k) (marked_variables k (section_variables vs))
+  variable_section-have : (vs : Tree ℕ (maybe variables)) → VariablesAreTyped r (section_variables vs) → VariablesPlain (section_variables (tree_with_labels r vs)) → variables_have_distinct_fields (section_variables (mapped text value vs)) ≡ true → (k : ℕ)
+      → AllByRecursion (HasField (constructed_types (meaning r) None vs) k) (fields_in_variables k (section_variables vs))
   variable_section-have none are_typed plain once k = tt
   variable_section-have (one (declares_variables vs)) are_typed plain once k = variables-have vs are_typed plain once k
 
-  formal_section-have : (fs : Tree ℕ (maybe formals)) → FormalsAreTyped r (formal_sections fs) → SectionsPlain (formal_sections (in_labels r fs)) → formals_once (formal_sections (mapped text value fs)) ≡ true → (k : ℕ)
-      → AllByRecursion (HasField (constructed (meaning r) None fs) k) (marked_sections k (formal_sections fs))
+  formal_section-have : (fs : Tree ℕ (maybe formals)) → FormalsAreTyped r (formal_sections fs) → SectionsPlain (formal_sections (tree_with_labels r fs)) → formals_have_distinct_fields (formal_sections (mapped text value fs)) ≡ true → (k : ℕ)
+      → AllByRecursion (HasField (constructed_types (meaning r) None fs) k) (fields_in_sections k (formal_sections fs))
   formal_section-have none are_typed plain once k = tt
   formal_section-have (one no_formals) are_typed plain once k = tt
   formal_section-have (one (some_formals (value_section ns u) fs)) are_typed plain once k = sections-have (more (then_section (value_section ns u)) fs) are_typed plain once k
   formal_section-have (one (some_formals (variable_section ns u) fs)) are_typed plain once k = sections-have (more (then_section (variable_section ns u)) fs) are_typed plain once k
 
   mutual
-    block-has : (own : List Name) (b : Tree ℕ block) → BlockIsTyped r b → BlockPlain (in_labels r b) → block_once own (mapped text value b) ≡ true → (k : ℕ) → AllByRecursion (HasField (constructed (meaning r) None b) k) (declared_in_block k b)
+    block-has : (own : List Name) (b : Tree ℕ block) → BlockIsTyped r b → BlockPlain (tree_with_labels r b) → block_once own (mapped text value b) ≡ true → (k : ℕ) → AllByRecursion (HasField (constructed_types (meaning r) None b) k) (declared_in_block k b)
     block-has own (has_body (declares cs ts vs ps) statements) are_typed plain once k =
         let b : Tree ℕ block = has_body (declares cs ts vs ps) statements in
-        let T : Bool = types_once (section_types (mapped text value ts)) in
-        let V : Bool = variables_once (section_variables (mapped text value vs)) in
+        let T : Bool = types_have_distinct_fields (section_types (mapped text value ts)) in
+        let V : Bool = variables_have_distinct_fields (section_variables (mapped text value vs)) in
         let P : Bool = procedures_once (mapped text value ps) in
         let o1 = and_parts _ (T && (V && P)) once in
         let o2 = and_parts T (V && P) o1.1 in
         let o3 = and_parts V P o2.1 in
-        parts-have (constructed (meaning r) None ts) (constructed (meaning r) None vs ++ constructed (meaning r) None ps) k (after_types k b)
-        (marked_types k (section_types ts)) (marked_variables (after_types k b) (section_variables vs) ++ declared_in_procedures (after_variables k b) ps) (ap (λ c. k + c) (sym (type_section-counted r ts)))
+        parts-have (constructed_types (meaning r) None ts) (constructed_types (meaning r) None vs ++ constructed_types (meaning r) None ps) k (constructor_after_types k b)
+        (fields_in_types k (section_types ts)) (fields_in_variables (constructor_after_types k b) (section_variables vs) ++ declared_in_procedures (constructor_after_variables k b) ps) (ap (λ c. k + c) (sym (type_section-counted r ts)))
         (type_section-have ts are_typed.0.0 plain.0.0 o2.0 k)
-        (parts-have (constructed (meaning r) None vs) (constructed (meaning r) None ps) (after_types k b) (after_variables k b)
-        (marked_variables (after_types k b) (section_variables vs)) (declared_in_procedures (after_variables k b) ps) (ap (λ c. after_types k b + c) (sym (variable_section-counted r vs)))
-        (variable_section-have vs are_typed.0.1 plain.0.1 o3.0 (after_types k b)) (procedures-have ps are_typed.1 plain.1 o3.1 (after_variables k b)))
+        (parts-have (constructed_types (meaning r) None vs) (constructed_types (meaning r) None ps) (constructor_after_types k b) (constructor_after_variables k b)
+        (fields_in_variables (constructor_after_types k b) (section_variables vs)) (declared_in_procedures (constructor_after_variables k b) ps) (ap (λ c. constructor_after_types k b + c) (sym (variable_section-counted r vs)))
+        (variable_section-have vs are_typed.0.1 plain.0.1 o3.0 (constructor_after_types k b)) (procedures-have ps are_typed.1 plain.1 o3.1 (constructor_after_variables k b)))
 
-    procedures-have : (ps : Tree ℕ (items procedure)) → ProceduresAreTyped r ps → ProceduresPlain (in_labels r ps) → procedures_once (mapped text value ps) ≡ true → (k : ℕ) → AllByRecursion (HasField (constructed (meaning r) None ps) k) (declared_in_procedures k ps)
+    procedures-have : (ps : Tree ℕ (items procedure)) → ProceduresAreTyped r ps → ProceduresPlain (tree_with_labels r ps) → procedures_once (mapped text value ps) ≡ true → (k : ℕ) → AllByRecursion (HasField (constructed_types (meaning r) None ps) k) (declared_in_procedures k ps)
     procedures-have end are_typed plain once k = tt
     procedures-have (more q rest) are_typed plain once k =
         let o = and_parts (procedure_once (mapped text value q)) (procedures_once (mapped text value rest)) once in
-        parts-have (constructed (meaning r) None q) (constructed (meaning r) None rest) k (k + procedure_constructors q)
-        (declared_in_procedure k q) (declared_in_procedures (k + procedure_constructors q) rest) (ap (λ c. k + c) (sym (procedure-counted r q)))
-        (procedure-has q are_typed.0 plain.0 o.0 k) (procedures-have rest are_typed.1 plain.1 o.1 (k + procedure_constructors q))
+        parts-have (constructed_types (meaning r) None q) (constructed_types (meaning r) None rest) k (k + procedure_constructor_count q)
+        (declared_in_procedure k q) (declared_in_procedures (k + procedure_constructor_count q) rest) (ap (λ c. k + c) (sym (procedure-counted r q)))
+        (procedure-has q are_typed.0 plain.0 o.0 k) (procedures-have rest are_typed.1 plain.1 o.1 (k + procedure_constructor_count q))
 
-    procedure-has : (q : Tree ℕ (item procedure)) → ProcedureIsTyped r q → ProcedurePlain (in_labels r q) → procedure_once (mapped text value q) ≡ true → (k : ℕ) → AllByRecursion (HasField (constructed (meaning r) None q) k) (declared_in_procedure k q)
+    procedure-has : (q : Tree ℕ (item procedure)) → ProcedureIsTyped r q → ProcedurePlain (tree_with_labels r q) → procedure_once (mapped text value q) ≡ true → (k : ℕ) → AllByRecursion (HasField (constructed_types (meaning r) None q) k) (declared_in_procedure k q)
     procedure-has (declares_procedure x fs b closing) are_typed plain once k =
-        let F : Bool = formals_once (formal_sections (mapped text value fs)) in
+        let F : Bool = formals_have_distinct_fields (formal_sections (mapped text value fs)) in
         let B : Bool = block_once (formal_names (formal_sections (mapped text value fs))) (mapped text value b) in
         let o1 = and_parts (same_name (text x) (text closing)) (F && B) once in
         let o2 = and_parts F B o1.1 in
-        let n : ℕ = after_formals k (declares_procedure x fs b closing) in
-        parts-have (constructed (meaning r) None fs) (constructed (meaning r) None b) k n (marked_sections k (formal_sections fs)) (declared_in_block n b) (ap (λ c. k + c) (sym (formal_section-counted r fs)))
+        let n : ℕ = constructor_after_formals k (declares_procedure x fs b closing) in
+        parts-have (constructed_types (meaning r) None fs) (constructed_types (meaning r) None b) k n (fields_in_sections k (formal_sections fs)) (declared_in_block n b) (ap (λ c. k + c) (sym (formal_section-counted r fs)))
         (formal_section-have fs are_typed.0 plain.0 o2.0 k) (block-has (formal_names (formal_sections (mapped text value fs))) b are_typed.1 plain.1 o2.1 n)
 
   -- returns all types that a module constructs
   abbrev made_in_module : List (Option Shape)
-  made_in_module = constructed (meaning r) None (tree_of r.module_read)
+  made_in_module = constructed_types (meaning r) None (tree_of r.module_read)
 
   declared-typed : IsResolution r → WellTyped (named_tree_of r.module_read) → AllByRecursion (HasField made_in_module 0) (declared_fields r.module_read)
   unfolding WellTyped
   declared-typed is well =
       let b : Tree ℕ block = module_block (tree_of r.module_read) in
-      let plain : BlockPlain (in_labels r b) = subst (λ (z : Tree Label module_text). BlockPlain (module_block z)) is.numbering (numbered-plain (named_tree_of r.module_read)) in
+      let plain : BlockPlain (tree_with_labels r b) = subst (λ (z : Tree Label module_text). BlockPlain (module_block z)) is.numbering (numbered-plain (named_tree_of r.module_read)) in
       let once = and_parts (same_name (text r.module_read.name) (text r.module_read.closing)) (block_once [] (mapped text value b)) well.0 in
       block-has [] b (module-typed r is well) plain once.1 0
 
   -- If an identifier declares a field of a record, the record's type has this field.
-  declaring-has : (k : ℕ) (x : Name) (xs : List FieldName) → AllByRecursion (HasField made_in_module 0) xs → is_some (first (tokens_among r.module_read.source k x xs)) ≡ true → Has made_in_module 0 k x
+  declaring-has : (k : ℕ) (x : Name) (xs : List FieldName) → AllByRecursion (HasField made_in_module 0) xs → is_some (first (tokens_of_field r.module_read.source k x xs)) ≡ true → Has made_in_module 0 k x
   declaring-has k x [] all h = absurd (true≢false (sym h))
-  declaring-has k x (y ∷ ys) all h = go (is_field r.module_read.source k x y) refl h (declaring-has k x ys all.1)
+  declaring-has k x (y ∷ ys) all h = go (belongs_to_field r.module_read.source k x y) refl h (declaring-has k x ys all.1)
     where
-      go : (b : Bool) → is_field r.module_read.source k x y ≡ b → is_some (first (if b then y.token ∷ tokens_among r.module_read.source k x ys else tokens_among r.module_read.source k x ys)) ≡ true
-          → (is_some (first (tokens_among r.module_read.source k x ys)) ≡ true → Has made_in_module 0 k x) → Has made_in_module 0 k x
+      go : (b : Bool) → belongs_to_field r.module_read.source k x y ≡ b → is_some (first (if b then y.token ∷ tokens_of_field r.module_read.source k x ys else tokens_of_field r.module_read.source k x ys)) ≡ true
+          → (is_some (first (tokens_of_field r.module_read.source k x ys)) ≡ true → Has made_in_module 0 k x) → Has made_in_module 0 k x
       go true e found later =
           let parts = and_parts (y.owner == k) (same_name (text y.token) x) e in
           subst (λ n. Has made_in_module 0 n x) (eqb-true y.owner k parts.0) (subst (Has made_in_module 0 y.owner) ((bytes_eq-Decides (text y.token) x).0 parts.1) all.0)
@@ -484,10 +484,10 @@ module _ (r : Resolution) where
   has-typed : (x : FieldName) → Has made_in_module 0 x.owner (text x.token) → is_some (typed_field r x) ≡ true
   has-typed x h =
       let place : x.owner ≡ h.place = omega (arith, h.is_at) in
-      ap (λ k. is_some (option_and_then (λ s. typed_field_named s (text x.token)) (get_or made_in_module k None))) place ∙ h.typed
+      ap (λ k. is_some (option_and_then (λ s. typed_field_with_name s (text x.token)) (get_or made_in_module k None))) place ∙ h.typed
 
-pub fields_typed-holds : FieldsTyped
-fields_typed-holds r is well =
-    All-weaker (λ x. is_some (declaring_field r.module_read x.owner (text_at r.module_read.source x.token)) ≡ true) (λ x. is_some (typed_field r x) ≡ true)
+pub fields_have_types-holds : FieldsHaveTypes
+fields_have_types-holds r is well =
+    All-weaker (λ x. is_some (field_declaring_token r.module_read x.owner (text_at r.module_read.source x.token)) ≡ true) (λ x. is_some (typed_field r x) ≡ true)
     (λ x h. has-typed r x (declaring-has r x.owner (text_at r.module_read.source x.token) (declared_fields r.module_read) (declared-typed r is well) h))
-    (field_identifiers r) (fields_declared-holds r is well)
+    (field_identifiers r) (fields_are_declared-holds r is well)

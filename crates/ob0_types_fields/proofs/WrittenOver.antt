@@ -5,35 +5,35 @@ use Rattle.std.proofs.Math.Seq.{set-append_seam}
 use Rattle.std.proofs.lemmas.Bool.{cases_lt, ltb-false, ltb-true}
 use Rattle.std.proofs.lemmas.List.{append_cancel_left, length-map, map-append, nil_from_length, set_past}
 use Rattle.std.specs.List.Sorted.{IsNonDecreasingBy, IsPartitionPoint}
-use Rattle.ob0_tree.specs.Order.{Ascending}
+use Rattle.ob0_tree.specs.Order.{AreAscending}
 use Rattle.ob0_types_fields.specs.declared.field_name.FieldName.{FieldName}
 use Rattle.ob0_types_fields.specs.Identifiers.{tokens_of}
-use Rattle.ob0_types_fields.specs.Listed.{HasOthersWithin, written_over}
+use Rattle.ob0_types_fields.specs.FieldLists.{HasOthersWithin, overwritten_fields}
 
-pub past_end : (xs : List FieldName) (k : ℕ) (ys : List FieldName) → length xs ≤ k → written_over xs k ys ≡ xs
+pub past_end : (xs : List FieldName) (k : ℕ) (ys : List FieldName) → length xs ≤ k → overwritten_fields xs k ys ≡ xs
 past_end xs k [] le = refl
-past_end xs k (y ∷ ys) le = ap (λ l. written_over l (k + 1) ys) (set_past xs k y le) ∙ past_end xs (k + 1) ys (omega (arith, le))
+past_end xs k (y ∷ ys) le = ap (λ l. overwritten_fields l (k + 1) ys) (set_past xs k y le) ∙ past_end xs (k + 1) ys (omega (arith, le))
 
 -- Overwriting as many fields as there are after a prefix replaces exactly these fields.
-over_as_many : (before old others after : List FieldName) → length old ≡ length others → written_over (before ++ (old ++ after)) (length before) others ≡ before ++ (others ++ after)
+over_as_many : (before old others after : List FieldName) → length old ≡ length others → overwritten_fields (before ++ (old ++ after)) (length before) others ≡ before ++ (others ++ after)
 over_as_many before [] [] after e = refl
 over_as_many before [] (y ∷ ys) after e = absurd (omega (arith, e))
 over_as_many before (x ∷ old) [] after e = absurd (omega (arith, e))
 over_as_many before (x ∷ old) (y ∷ ys) after e =
     let count : length before + 1 ≡ length (before ++ y ∷ []) = sym (length-append before (y ∷ [])) in
     let longer : before ++ y ∷ (old ++ after) ≡ (before ++ y ∷ []) ++ (old ++ after) = sym (append_assoc before (y ∷ []) (old ++ after)) in
-    ap (λ l. written_over l (length before + 1) ys) (set-append_seam before x (old ++ after) y ∙ longer)
-    ∙ (ap (λ k. written_over ((before ++ y ∷ []) ++ (old ++ after)) k ys) count
+    ap (λ l. overwritten_fields l (length before + 1) ys) (set-append_seam before x (old ++ after) y ∙ longer)
+    ∙ (ap (λ k. overwritten_fields ((before ++ y ∷ []) ++ (old ++ after)) k ys) count
     ∙ (over_as_many (before ++ y ∷ []) old ys after (omega (arith, e)) ∙ append_assoc before (y ∷ []) (ys ++ after)))
 
 -- ---- tokens in text order
 
-item_bounds : (xs : List ℕ) (low top i d : ℕ) → Ascending low xs top → i < length xs → low ≤ get_or xs i d
+item_bounds : (xs : List ℕ) (low top i d : ℕ) → AreAscending low xs top → i < length xs → low ≤ get_or xs i d
 item_bounds [] low top i d h less = absurd (omega (arith, less))
 item_bounds (x ∷ xs) low top zero d h less = h.0
 item_bounds (x ∷ xs) low top (suc i) d h less = let later = item_bounds xs (x + 1) top i d h.1 (omega (arith, less)) in omega (arith, h.0, later)
 
-pub tokens_rise : (xs : List FieldName) (low top : ℕ) → Ascending low (tokens_of xs) top → IsNonDecreasingBy (λ x. x.token) xs
+pub tokens_rise : (xs : List FieldName) (low top : ℕ) → AreAscending low (tokens_of xs) top → IsNonDecreasingBy (λ x. x.token) xs
 tokens_rise [] low top h i j d le less = absurd (omega (arith, less))
 tokens_rise (x ∷ xs) low top h zero zero d le less = omega arith
 tokens_rise (x ∷ xs) low top h (suc i) zero d le less = absurd (omega (arith, le))
@@ -45,11 +45,11 @@ tokens_rise (x ∷ xs) low top h zero (suc j) d le less =
 tokens_rise (x ∷ xs) low top h (suc i) (suc j) d le less = tokens_rise xs (x.token + 1) top h.1 i j d (omega (arith, le)) (omega (arith, less))
 
 -- The tokens before a token of an ascending list are lower.
-below_seam : (before : List ℕ) (x : ℕ) (rest : List ℕ) (low top i d : ℕ) → Ascending low (before ++ x ∷ rest) top → i < length before → get_or (before ++ x ∷ rest) i d < x
+below_seam : (before : List ℕ) (x : ℕ) (rest : List ℕ) (low top i d : ℕ) → AreAscending low (before ++ x ∷ rest) top → i < length before → get_or (before ++ x ∷ rest) i d < x
 below_seam [] x rest low top i d h less = absurd (omega (arith, less))
 below_seam (y ∷ before) x rest low top zero d h less = from_start before (y + 1) h.1 (omega arith)
   where
-    from_start : (ys : List ℕ) (least : ℕ) → Ascending least (ys ++ x ∷ rest) top → y + 1 ≤ least → y < x
+    from_start : (ys : List ℕ) (least : ℕ) → AreAscending least (ys ++ x ∷ rest) top → y + 1 ≤ least → y < x
     from_start [] least h le = omega (arith, h.0, le)
     from_start (z ∷ ys) least h le = from_start ys (z + 1) h.1 (omega (arith, h.0, le))
 below_seam (y ∷ before) x rest low top (suc i) d h less = below_seam before x rest (y + 1) top i d h.1 (omega (arith, less))
@@ -72,8 +72,8 @@ module _ (all before others after : List FieldName) (h : HasOthersWithin all bef
       let e = ap length parts_same in
       omega (arith, e, length-append (tokens_of h.old) (tokens_of after), length-append (tokens_of others) (tokens_of after), length-map h.old (λ (x : FieldName). x.token), length-map others (λ (x : FieldName). x.token))
 
-  pub over_others : (k : ℕ) → k ≡ length before → written_over all k others ≡ before ++ (others ++ after)
-  over_others k e = (λ i. written_over (h.is i) (e i) others) ∙ over_as_many before h.old others after as_many
+  pub over_others : (k : ℕ) → k ≡ length before → overwritten_fields all k others ≡ before ++ (others ++ after)
+  over_others k e = (λ i. overwritten_fields (h.is i) (e i) others) ∙ over_as_many before h.old others after as_many
 
   pub rise : IsNonDecreasingBy (λ x. x.token) all
   rise = tokens_rise all 0 h.top h.in_order
@@ -91,8 +91,8 @@ module _ (all before others after : List FieldName) (h : HasOthersWithin all bef
     tokens_are =
         h.same ∙ (map-append (λ x. x.token) before (others ++ after) ∙ ap (λ l. tokens_of before ++ l) (map-append (λ x. x.token) others after ∙ ap (λ l. tokens_of l ++ tokens_of after) e))
 
-    in_order : Ascending 0 (tokens_of before ++ y.token ∷ (tokens_of ys ++ tokens_of after)) h.top
-    in_order = subst (λ l. Ascending 0 l h.top) tokens_are h.in_order
+    in_order : AreAscending 0 (tokens_of before ++ y.token ∷ (tokens_of ys ++ tokens_of after)) h.top
+    in_order = subst (λ l. AreAscending 0 l h.top) tokens_are h.in_order
 
     token_there : (i : ℕ) (d : FieldName) → (get_or all i d).token ≡ get_or (tokens_of before ++ y.token ∷ (tokens_of ys ++ tokens_of after)) i d.token
     token_there i d = sym (get_or-map (λ x. x.token) all i d) ∙ ap (λ l. get_or l i d.token) tokens_are

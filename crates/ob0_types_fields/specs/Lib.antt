@@ -1,7 +1,7 @@
 pub mod Owners
 pub mod Owned
 pub mod Identifiers
-pub mod Listed
+pub mod FieldLists
 pub mod Walk
 pub mod FieldTypes
 pub mod Search

@@ -1,22 +1,27 @@
 //! Walks written types to find the fields that records declare.
 
 ghost use Rattle.std.specs.Prelude.{◌≡◌, ◌≤◌, ◌++◌, ◌+◌, ◌^◌, IfOk, MatchResult};
-ghost use Rattle.ob0_language_names.specs.Parts.{formal_sections, names_listed, section_types, section_variables};
-ghost use Rattle.ob0_tree.specs.View.{fields_of, formals_of, names_of, record_in, type_of, types_of, variables_of};
-ghost use Rattle.ob0_language_types.specs.Declarations.{formals_constructors, types_constructors, variables_constructors};
-ghost use Rattle.ob0_language_types.specs.Typing.{constructors, group_constructors};
-ghost use Rattle.ob0_types_fields.specs.Owned.{marked_group, marked_names, marked_sections, marked_type, marked_types, marked_variables};
+ghost use Rattle.ob0_language_names.specs.Parts.{formal_sections, names_in_list, section_types, section_variables};
+ghost use Rattle.ob0_tree.specs.View.{fields_of, formals_of, names_of, record_type_of, type_of, types_of, variables_of};
+ghost use Rattle.ob0_language_types.specs.Declarations.{formals_constructor_count, types_constructor_count, variables_constructor_count};
+ghost use Rattle.ob0_language_types.specs.Typing.{constructor_count, group_constructor_count};
+ghost use Rattle.ob0_types_fields.specs.Owned.{fields_in_group, fields_at_tokens, fields_in_sections, fields_in_type, fields_in_types, fields_in_variables};
 
-use crate::field_name::{FieldName, FieldTokens};
+use crate::field_name::{FieldName, FieldNameList};
 use ob0_tree::{
-    FieldGroup, Fields, Names, RecordType, Section, TypeDeclaration, Variables, WrittenType,
+    FieldGroup, Fields, Names, ParameterSection, RecordType, TypeDeclaration, VariableDeclaration,
+    WrittenType,
 };
 use std::alloc::AllocError;
 
 /// Appends a field for each of the listed names. They belong to the record with ordinal `owner`.
-fn names(found: &mut FieldTokens, owner: usize, listed: &Names) -> Result<(), AllocError>
+fn add_named_fields(
+    found: &mut FieldNameList,
+    owner: usize,
+    listed: &Names,
+) -> Result<(), AllocError>
     ensures { IfOk result (λ _. found.new.items
-        ≡ found.old.items ++ marked_names owner (names_listed (names_of listed.now))) }
+        ≡ found.old.items ++ fields_at_tokens owner (names_in_list (names_of listed.now))) }
 {
     let token = listed.first;
     found.push(FieldName { token, owner })?;
@@ -30,7 +35,7 @@ fn names(found: &mut FieldTokens, owner: usize, listed: &Names) -> Result<(), Al
 /// Returns the ordinal of the next word ARRAY or RECORD, and then adds 1 to `made`. The ordinal is
 /// `made`, the number of such words so far. Returns an error if the sum doesn't fit 64 bits; no
 /// text is long enough for that.
-fn next_ordinal(made: &mut usize) -> Result<usize, AllocError>
+fn take_next_ordinal(made: &mut usize) -> Result<usize, AllocError>
     ensures { MatchResult result (λ n. (n ≡ made.old) × (made.new ≡ made.old + 1))
         (λ _. 2 ^ 64 ≤ made.old + 1) }
 {
@@ -47,38 +52,42 @@ fn next_ordinal(made: &mut usize) -> Result<usize, AllocError>
 /// Appends the fields that a written type declares. `made` counts the words ARRAY and RECORD before
 /// the type; those of the type are added to it.
 #[cycle(types)]
-pub(crate) fn written_type(
-    found: &mut FieldTokens,
+pub(crate) fn add_type_fields(
+    found: &mut FieldNameList,
     made: &mut usize,
     t: &WrittenType,
 ) -> Result<(), AllocError>
     ensures found { IfOk result (λ _. found.new.items
-        ≡ found.old.items ++ marked_type made.old (type_of t.now)) }
+        ≡ found.old.items ++ fields_in_type made.old (type_of t.now)) }
     ensures made { IfOk result
-        (λ _. made.new ≡ made.old + constructors (type_of t.now)) }
+        (λ _. made.new ≡ made.old + constructor_count (type_of t.now)) }
 {
     match t {
         WrittenType::Named(_) => Ok(()),
         WrittenType::Array(a) => {
-            let _array = next_ordinal(made)?;
-            written_type(found, made, &a.element)
+            let _array = take_next_ordinal(made)?;
+            add_type_fields(found, made, &a.element)
         }
-        WrittenType::Record(r) => record(found, made, r),
+        WrittenType::Record(r) => add_record_fields(found, made, r),
     }
 }
 
 /// Appends the fields that a record type declares, including the fields of records inside it.
 /// `made` counts the words ARRAY and RECORD before the type; those of the type are added to it.
 #[cycle(types)]
-fn record(found: &mut FieldTokens, made: &mut usize, r: &RecordType) -> Result<(), AllocError>
+fn add_record_fields(
+    found: &mut FieldNameList,
+    made: &mut usize,
+    r: &RecordType,
+) -> Result<(), AllocError>
     ensures found { IfOk result (λ _. found.new.items
-        ≡ found.old.items ++ marked_type made.old (record_in r.now)) }
+        ≡ found.old.items ++ fields_in_type made.old (record_type_of r.now)) }
     ensures made { IfOk result
-        (λ _. made.new ≡ made.old + constructors (record_in r.now)) }
+        (λ _. made.new ≡ made.old + constructor_count (record_type_of r.now)) }
 {
-    let ordinal = next_ordinal(made)?;
+    let ordinal = take_next_ordinal(made)?;
     for group in &r.groups {
-        fields(found, made, ordinal, group)?;
+        add_group_fields(found, made, ordinal, group)?;
     }
     Ok(())
 }
@@ -87,90 +96,90 @@ fn record(found: &mut FieldTokens, made: &mut usize, r: &RecordType) -> Result<(
 /// ordinal of the group's record. `made` counts the words ARRAY and RECORD before the group; those
 /// of the group are added to it.
 #[cycle(types)]
-fn fields(
-    found: &mut FieldTokens,
+fn add_group_fields(
+    found: &mut FieldNameList,
     made: &mut usize,
     owner: usize,
     f: &Fields,
 ) -> Result<(), AllocError>
     ensures found { IfOk result (λ _. found.new.items
-        ≡ found.old.items ++ marked_group owner made.old (fields_of f.now)) }
+        ≡ found.old.items ++ fields_in_group owner made.old (fields_of f.now)) }
     ensures made { IfOk result (λ _. made.new
-        ≡ made.old + group_constructors (fields_of f.now)) }
+        ≡ made.old + group_constructor_count (fields_of f.now)) }
 {
     match f {
         Fields::Empty => Ok(()),
         Fields::Listed(l) => {
             let l: &FieldGroup = l;
-            names(found, owner, &l.names)?;
-            written_type(found, made, &l.written)
+            add_named_fields(found, owner, &l.names)?;
+            add_type_fields(found, made, &l.written)
         }
     }
 }
 
 /// Appends the fields that the TYPE section of a block declares. `made` counts the words ARRAY and
 /// RECORD before the section; those of the section are added to it.
-pub(crate) fn types(
-    found: &mut FieldTokens,
+pub(crate) fn add_type_section_fields(
+    found: &mut FieldNameList,
     made: &mut usize,
     listed: &Option<Vec<TypeDeclaration>>,
 ) -> Result<(), AllocError>
     ensures found { IfOk result (λ _. found.new.items
         ≡ found.old.items
-        ++ marked_types made.old (section_types (types_of listed.now))) }
+        ++ fields_in_types made.old (section_types (types_of listed.now))) }
     ensures made { IfOk result (λ _. made.new
-        ≡ made.old + types_constructors (section_types (types_of listed.now))) }
+        ≡ made.old + types_constructor_count (section_types (types_of listed.now))) }
 {
     let Some(listed) = listed else {
         return Ok(());
     };
     for d in listed {
-        written_type(found, made, &d.written)?;
+        add_type_fields(found, made, &d.written)?;
     }
     Ok(())
 }
 
 /// Appends the fields that the VAR section of a block declares. `made` counts the words ARRAY and
 /// RECORD before the section; those of the section are added to it.
-pub(crate) fn variables(
-    found: &mut FieldTokens,
+pub(crate) fn add_variable_section_fields(
+    found: &mut FieldNameList,
     made: &mut usize,
-    listed: &Option<Vec<Variables>>,
+    listed: &Option<Vec<VariableDeclaration>>,
 ) -> Result<(), AllocError>
     ensures found { IfOk result (λ _. found.new.items
         ≡ found.old.items
-        ++ marked_variables made.old (section_variables (variables_of listed.now))) }
+        ++ fields_in_variables made.old (section_variables (variables_of listed.now))) }
     ensures made { IfOk result (λ _. made.new
         ≡ made.old
-        + variables_constructors (section_variables (variables_of listed.now))) }
+        + variables_constructor_count (section_variables (variables_of listed.now))) }
 {
     let Some(listed) = listed else {
         return Ok(());
     };
     for d in listed {
-        written_type(found, made, &d.written)?;
+        add_type_fields(found, made, &d.written)?;
     }
     Ok(())
 }
 
 /// Appends the fields that formal parameters declare. `made` counts the words ARRAY and RECORD
 /// before the parameters; those of the parameters are added to it.
-pub(crate) fn formals(
-    found: &mut FieldTokens,
+pub(crate) fn add_formal_fields(
+    found: &mut FieldNameList,
     made: &mut usize,
-    listed: &Option<Vec<Section>>,
+    listed: &Option<Vec<ParameterSection>>,
 ) -> Result<(), AllocError>
     ensures found { IfOk result (λ _. found.new.items
         ≡ found.old.items
-        ++ marked_sections made.old (formal_sections (formals_of listed.now))) }
+        ++ fields_in_sections made.old (formal_sections (formals_of listed.now))) }
     ensures made { IfOk result (λ _. made.new
-        ≡ made.old + formals_constructors (formal_sections (formals_of listed.now))) }
+        ≡ made.old + formals_constructor_count (formal_sections (formals_of listed.now))) }
 {
     let Some(listed) = listed else {
         return Ok(());
     };
     for d in listed {
-        written_type(found, made, &d.written)?;
+        add_type_fields(found, made, &d.written)?;
     }
     Ok(())
 }

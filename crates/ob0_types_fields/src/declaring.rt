@@ -2,27 +2,31 @@
 
 ghost use Rattle.std.specs.Prelude.{◌≡◌, ◌++◌, ◌+◌, IfOk};
 ghost use Rattle.ob0_tree.specs.View.{block_of, procedure_of};
-ghost use Rattle.ob0_language_types.specs.Declarations.{block_constructors, procedure_constructors};
+ghost use Rattle.ob0_language_types.specs.Declarations.{block_constructor_count, procedure_constructor_count};
 ghost use Rattle.ob0_types_fields.specs.Identifiers.{declared_in_block, declared_in_procedure};
 
-use crate::declared::{formals, types, variables};
-use crate::field_name::FieldTokens;
+use crate::declared::{add_formal_fields, add_type_section_fields, add_variable_section_fields};
+use crate::field_name::FieldNameList;
 use ob0_tree::{Block, Procedure};
 use std::alloc::AllocError;
 
 /// Appends the fields that a block and its procedures declare. `made` counts the words ARRAY and
 /// RECORD before the block; those of the block are added to it.
 #[cycle(blocks)]
-pub(crate) fn block(found: &mut FieldTokens, made: &mut usize, b: &Block) -> Result<(), AllocError>
+pub(crate) fn add_block_declared_fields(
+    found: &mut FieldNameList,
+    made: &mut usize,
+    b: &Block,
+) -> Result<(), AllocError>
     ensures found { IfOk result (λ _. found.new.items
         ≡ found.old.items ++ declared_in_block made.old (block_of b.now)) }
     ensures made { IfOk result
-        (λ _. made.new ≡ made.old + block_constructors (block_of b.now)) }
+        (λ _. made.new ≡ made.old + block_constructor_count (block_of b.now)) }
 {
-    types(found, made, &b.types)?;
-    variables(found, made, &b.variables)?;
+    add_type_section_fields(found, made, &b.types)?;
+    add_variable_section_fields(found, made, &b.variables)?;
     for p in &b.procedures {
-        procedure(found, made, p)?;
+        add_procedure_declared_fields(found, made, p)?;
     }
     Ok(())
 }
@@ -30,12 +34,16 @@ pub(crate) fn block(found: &mut FieldTokens, made: &mut usize, b: &Block) -> Res
 /// Appends the fields that a procedure declares in its parameters and its block. `made` counts the
 /// words ARRAY and RECORD before the procedure; those of the procedure are added to it.
 #[cycle(blocks)]
-fn procedure(found: &mut FieldTokens, made: &mut usize, p: &Procedure) -> Result<(), AllocError>
+fn add_procedure_declared_fields(
+    found: &mut FieldNameList,
+    made: &mut usize,
+    p: &Procedure,
+) -> Result<(), AllocError>
     ensures found { IfOk result (λ _. found.new.items
         ≡ found.old.items ++ declared_in_procedure made.old (procedure_of p.now)) }
     ensures made { IfOk result (λ _. made.new
-        ≡ made.old + procedure_constructors (procedure_of p.now)) }
+        ≡ made.old + procedure_constructor_count (procedure_of p.now)) }
 {
-    formals(found, made, &p.formals)?;
-    block(found, made, &p.block)
+    add_formal_fields(found, made, &p.formals)?;
+    add_block_declared_fields(found, made, &p.block)
 }

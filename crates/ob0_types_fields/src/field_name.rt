@@ -10,4 +10,4 @@ pub struct FieldName {
 }
 
 /// A list of identifiers of fields.
-pub(crate) type FieldTokens = Vec<FieldName>;
+pub(crate) type FieldNameList = Vec<FieldName>;

@@ -2,35 +2,35 @@
 //!
 //! The types of fields aren't stored. The list of fields has the ordinal of each field's record,
 //! and the type is looked up in the RECORD with this ordinal (`typed_field`). To find that RECORD,
-//! a walk visits the module's declarations and counts the words ARRAY and RECORD (`constructed`).
+//! a walk visits the module's declarations and counts the words ARRAY and RECORD (`constructed_types`).
 //! It takes the types of declared names from the table, so no array length is evaluated again. Its
 //! contracts don't depend on the ordinals in the table.
 //!
 //! Each function of the walk takes the state of the search and returns the state after its part of
-//! the module (`Search`). So all their contracts have the same form (`after_all`). When the type is
+//! the module (`Search`). So all their contracts have the same form (`after_constructors`). When the type is
 //! found, the remaining procedures are skipped.
 
 ghost use Rattle.std.specs.Prelude.{◌≡◌, List, None, option_and_then, option_map};
-ghost use Rattle.ob0_tree.specs.View.{block_of, fields_of, formals_of, procedure_of, record_in, section_of, type_of, types_of, variables_of};
-ghost use Rattle.ob0_language_types.specs.Typing.{element_type, field_type, type_declared};
-ghost use Rattle.ob0_types_table.specs.KnownTables.{declared_in, shapes_of};
+ghost use Rattle.ob0_tree.specs.View.{block_of, fields_of, formals_of, procedure_of, record_type_of, section_of, type_of, types_of, variables_of};
+ghost use Rattle.ob0_language_types.specs.Typing.{element_type, field_type, type_of_declaration};
+ghost use Rattle.ob0_types_table.specs.KnownTables.{declared_object_in, shapes_of};
 ghost use Rattle.ob0_types_table.specs.Tables.{type_shape};
 ghost use Rattle.ob0_language_values.specs.Values.{Shape, integer_shape};
-ghost use Rattle.ob0_types_fields.specs.FieldTypes.{constructed, constructed_by, typed_field_by};
-ghost use Rattle.ob0_types_fields.specs.Search.{after_all, after_one, meanings_in, search_in, sought_in, type_in, typed_field_in};
+ghost use Rattle.ob0_types_fields.specs.FieldTypes.{constructed_types, constructed_type_by_objects, typed_field_by_objects};
+ghost use Rattle.ob0_types_fields.specs.Search.{after_constructors, after_constructor, constructor_walk_meanings, search_view, search_view_in_walk, shape_in_walk, typed_field_view};
 
 use crate::field_name::FieldName;
 use ob0_scope_table::Resolved;
 use ob0_tree::{
-    Block, FieldGroup, Fields, Procedure, RecordType, Section, TypeDeclaration, Variables,
-    WrittenType, text_at,
+    Block, FieldGroup, Fields, ParameterSection, Procedure, RecordType, TypeDeclaration,
+    VariableDeclaration, WrittenType, text_at,
 };
-use ob0_types_table::{DeclarationTable, FieldOf, TypeId};
+use ob0_types_table::{DeclarationTable, FieldId, TypeId};
 
 /// A field of a record, with its type.
 #[derive(Clone, Copy)]
 pub struct TypedField {
-    pub field: FieldOf,
+    pub field: FieldId,
     pub of: TypeId,
 }
 
@@ -42,8 +42,8 @@ pub fn typed_field<'a, 't>(
     resolved: &'a Resolved<'t>,
     identifier: FieldName,
 ) -> Option<TypedField>
-    ensures { option_map (typed_field_in (shapes_of known.now)) result
-        ≡ typed_field_by (declared_in known.now) resolved.now identifier }
+    ensures { option_map (typed_field_view (shapes_of known.now)) result
+        ≡ typed_field_by_objects (declared_object_in known.now) resolved.now identifier }
 {
     let base = constructed_type(known, resolved, identifier.owner)?;
     let name = text_at(resolved.tokens(), identifier.token);
@@ -60,10 +60,10 @@ fn constructed_type<'a, 't>(
     ordinal: usize,
 ) -> Option<TypeId>
     ensures { option_map (type_shape (shapes_of known.now)) result
-        ≡ constructed_by (declared_in known.now) resolved.now ordinal }
+        ≡ constructed_type_by_objects (declared_object_in known.now) resolved.now ordinal }
 {
     let walk = ConstructorWalk { known, resolved };
-    match walk.block(Search::Before(ordinal), resolved.module().block()) {
+    match walk.search_block(Search::Before(ordinal), resolved.module().block()) {
         Search::Found(of) => of,
         Search::Before(_) => None,
     }
@@ -81,10 +81,10 @@ enum Search {
 impl Search {
     /// Returns the search after one more word ARRAY or RECORD, which constructs the type `of`, or an unknown type if
     /// `of` is None.
-    fn pass(self, of: Option<TypeId>) -> Search
+    fn pass_constructor(self, of: Option<TypeId>) -> Search
         ensures { (shapes : List Shape)
-            → search_in shapes result
-            ≡ after_one (search_in shapes self) (option_map (type_shape shapes) of) }
+            → search_view shapes result
+            ≡ after_constructor (search_view shapes self) (option_map (type_shape shapes) of) }
     {
         match self {
             Search::Found(found) => Search::Found(found),
@@ -110,8 +110,8 @@ impl<'a, 't> ConstructorWalk<'a, 't> {
     /// Returns the type of the declaration whose name is at a token: a type, a variable, a
     /// parameter or a constant. Returns None for any other declaration.
     fn declared_type(&self, token: usize) -> Option<TypeId>
-        ensures { type_in self.now result
-            ≡ type_declared ((meanings_in self.now).object_for token) }
+        ensures { shape_in_walk self.now result
+            ≡ type_of_declaration ((constructor_walk_meanings self.now).object_for token) }
     {
         let ordinal = self.resolved.ordinal_at(token)?;
         self.known.declared_type(ordinal)
@@ -119,8 +119,8 @@ impl<'a, 't> ConstructorWalk<'a, 't> {
 
     /// Returns the element type of an array type. Returns None if the type isn't an array.
     fn element(&self, of: Option<TypeId>) -> Option<TypeId>
-        ensures { type_in self.now result
-            ≡ option_and_then (λ a. element_type a integer_shape) (type_in self.now of) }
+        ensures { shape_in_walk self.now result
+            ≡ option_and_then (λ a. element_type a integer_shape) (shape_in_walk self.now of) }
     {
         self.known.element(of?)
     }
@@ -128,9 +128,9 @@ impl<'a, 't> ConstructorWalk<'a, 't> {
     /// Returns the type of the field that has the name at token `name` in the record type `of`.
     /// Returns None if `of` is no record type with such a field.
     fn field(&self, of: Option<TypeId>, name: usize) -> Option<TypeId>
-        ensures { type_in self.now result
-            ≡ option_and_then (λ r. field_type r ((meanings_in self.now).written name))
-            (type_in self.now of) }
+        ensures { shape_in_walk self.now result
+            ≡ option_and_then (λ r. field_type r ((constructor_walk_meanings self.now).written name))
+            (shape_in_walk self.now of) }
     {
         self.known
             .field_type(of?, text_at(self.resolved.tokens(), name))
@@ -139,31 +139,31 @@ impl<'a, 't> ConstructorWalk<'a, 't> {
     /// Returns the search after the words ARRAY and RECORD of a written type. `of` is the type that this written type
     /// denotes, or None if it is unknown.
     #[cycle(types)]
-    fn written_type(&self, search: Search, of: Option<TypeId>, t: &WrittenType) -> Search
-        ensures { sought_in self.now result
-            ≡ after_all (sought_in self.now search)
-            (constructed (meanings_in self.now) (type_in self.now of) (type_of t.now)) }
+    fn search_type(&self, search: Search, of: Option<TypeId>, t: &WrittenType) -> Search
+        ensures { search_view_in_walk self.now result
+            ≡ after_constructors (search_view_in_walk self.now search)
+            (constructed_types (constructor_walk_meanings self.now) (shape_in_walk self.now of) (type_of t.now)) }
     {
         match t {
             WrittenType::Named(_) => search,
             WrittenType::Array(a) => {
-                self.written_type(search.pass(of), self.element(of), &a.element)
+                self.search_type(search.pass_constructor(of), self.element(of), &a.element)
             }
-            WrittenType::Record(r) => self.record(search, of, r),
+            WrittenType::Record(r) => self.search_record(search, of, r),
         }
     }
 
     /// Returns the search after the word RECORD of a record type and the words inside it. `of` is the record's type, or
     /// None if it is unknown.
     #[cycle(types)]
-    fn record(&self, search: Search, of: Option<TypeId>, r: &RecordType) -> Search
-        ensures { sought_in self.now result
-            ≡ after_all (sought_in self.now search)
-            (constructed (meanings_in self.now) (type_in self.now of) (record_in r.now)) }
+    fn search_record(&self, search: Search, of: Option<TypeId>, r: &RecordType) -> Search
+        ensures { search_view_in_walk self.now result
+            ≡ after_constructors (search_view_in_walk self.now search)
+            (constructed_types (constructor_walk_meanings self.now) (shape_in_walk self.now of) (record_type_of r.now)) }
     {
-        let mut search = search.pass(of);
+        let mut search = search.pass_constructor(of);
         for group in &r.groups {
-            search = self.fields(search, of, group);
+            search = self.search_group(search, of, group);
         }
         search
     }
@@ -171,98 +171,105 @@ impl<'a, 't> ConstructorWalk<'a, 't> {
     /// Returns the search after the types of a group of fields. `of` is the type of the record, or None if it is
     /// unknown.
     #[cycle(types)]
-    fn fields(&self, search: Search, of: Option<TypeId>, f: &Fields) -> Search
-        ensures { sought_in self.now result
-            ≡ after_all (sought_in self.now search)
-            (constructed (meanings_in self.now) (type_in self.now of) (fields_of f.now)) }
+    fn search_group(&self, search: Search, of: Option<TypeId>, f: &Fields) -> Search
+        ensures { search_view_in_walk self.now result
+            ≡ after_constructors (search_view_in_walk self.now search)
+            (constructed_types (constructor_walk_meanings self.now) (shape_in_walk self.now of) (fields_of f.now)) }
     {
         match f {
             Fields::Empty => search,
             Fields::Listed(l) => {
                 let l: &FieldGroup = l;
-                self.written_type(search, self.field(of, l.names.first), &l.written)
+                self.search_type(search, self.field(of, l.names.first), &l.written)
             }
         }
     }
 
-    fn types(&self, search: Search, declared: &Option<Vec<TypeDeclaration>>) -> Search
-        ensures { sought_in self.now result
-            ≡ after_all (sought_in self.now search)
-            (constructed (meanings_in self.now) None (types_of declared.now)) }
+    fn search_type_section(&self, search: Search, declared: &Option<Vec<TypeDeclaration>>) -> Search
+        ensures { search_view_in_walk self.now result
+            ≡ after_constructors (search_view_in_walk self.now search)
+            (constructed_types (constructor_walk_meanings self.now) None (types_of declared.now)) }
     {
         let Some(declared) = declared else {
             return search;
         };
         let mut search = search;
         for d in declared {
-            search = self.written_type(search, self.declared_type(d.name), &d.written);
+            search = self.search_type(search, self.declared_type(d.name), &d.written);
         }
         search
     }
 
-    fn variables(&self, search: Search, declared: &Option<Vec<Variables>>) -> Search
-        ensures { sought_in self.now result
-            ≡ after_all (sought_in self.now search)
-            (constructed (meanings_in self.now) None (variables_of declared.now)) }
+    fn search_variable_section(
+        &self,
+        search: Search,
+        declared: &Option<Vec<VariableDeclaration>>,
+    ) -> Search
+        ensures { search_view_in_walk self.now result
+            ≡ after_constructors (search_view_in_walk self.now search)
+            (constructed_types (constructor_walk_meanings self.now) None (variables_of declared.now)) }
     {
         let Some(declared) = declared else {
             return search;
         };
         let mut search = search;
         for v in declared {
-            search = self.written_type(search, self.declared_type(v.names.first), &v.written);
+            search = self.search_type(search, self.declared_type(v.names.first), &v.written);
         }
         search
     }
 
-    fn formals(&self, search: Search, sections: &Option<Vec<Section>>) -> Search
-        ensures { sought_in self.now result
-            ≡ after_all (sought_in self.now search)
-            (constructed (meanings_in self.now) None (formals_of sections.now)) }
+    fn search_formals(&self, search: Search, sections: &Option<Vec<ParameterSection>>) -> Search
+        ensures { search_view_in_walk self.now result
+            ≡ after_constructors (search_view_in_walk self.now search)
+            (constructed_types (constructor_walk_meanings self.now) None (formals_of sections.now)) }
     {
         let Some(sections) = sections else {
             return search;
         };
         let mut search = search;
         for s in sections {
-            search = self.section(search, s);
+            search = self.search_section(search, s);
         }
         search
     }
 
     /// Returns the search after the type of one section of parameters.
-    fn section(&self, search: Search, s: &Section) -> Search
-        ensures { sought_in self.now result
-            ≡ after_all (sought_in self.now search)
-            (constructed (meanings_in self.now) None (section_of s.now)) }
+    fn search_section(&self, search: Search, s: &ParameterSection) -> Search
+        ensures { search_view_in_walk self.now result
+            ≡ after_constructors (search_view_in_walk self.now search)
+            (constructed_types (constructor_walk_meanings self.now) None (section_of s.now)) }
     {
-        self.written_type(search, self.declared_type(s.names.first), &s.written)
+        self.search_type(search, self.declared_type(s.names.first), &s.written)
     }
 
     /// Returns the search after all declarations of a block, including its procedures.
     #[cycle(blocks)]
-    fn block(&self, search: Search, b: &Block) -> Search
-        ensures { sought_in self.now result
-            ≡ after_all (sought_in self.now search)
-            (constructed (meanings_in self.now) None (block_of b.now)) }
+    fn search_block(&self, search: Search, b: &Block) -> Search
+        ensures { search_view_in_walk self.now result
+            ≡ after_constructors (search_view_in_walk self.now search)
+            (constructed_types (constructor_walk_meanings self.now) None (block_of b.now)) }
     {
-        let mut search = self.types(search, &b.types);
-        search = self.variables(search, &b.variables);
+        let mut search = self.search_type_section(search, &b.types);
+        search = self.search_variable_section(search, &b.variables);
         for p in &b.procedures {
-            search = self.procedure(search, p);
+            search = self.search_procedure(search, p);
         }
         search
     }
 
     #[cycle(blocks)]
-    fn procedure(&self, search: Search, p: &Procedure) -> Search
-        ensures { sought_in self.now result
-            ≡ after_all (sought_in self.now search)
-            (constructed (meanings_in self.now) None (procedure_of p.now)) }
+    fn search_procedure(&self, search: Search, p: &Procedure) -> Search
+        ensures { search_view_in_walk self.now result
+            ≡ after_constructors (search_view_in_walk self.now search)
+            (constructed_types (constructor_walk_meanings self.now) None (procedure_of p.now)) }
     {
         match search {
             Search::Found(of) => Search::Found(of),
-            Search::Before(_) => self.block(self.formals(search, &p.formals), &p.block),
+            Search::Before(_) => self.search_block(
+                self.search_formals(search, &p.formals),
+                &p.block,
+            ),
         }
     }
 }

@@ -3,13 +3,13 @@
 
 mod declared;
 mod declaring;
+mod field_lists;
+mod field_lookups;
 mod field_name;
 mod field_types;
+mod field_walk;
 pub mod laws;
-mod listing;
-mod owning;
-mod reading;
 
+pub use field_lists::FieldList;
 pub use field_name::FieldName;
 pub use field_types::{TypedField, typed_field};
-pub use listing::FieldList;

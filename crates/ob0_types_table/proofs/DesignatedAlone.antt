@@ -10,7 +10,7 @@ use Rattle.ob0_language_names.specs.Names.{Label}
 use Rattle.ob0_scope_table.specs.Resolution.{Resolution}
 use Rattle.ob0_language_types.specs.Typing.{lone_designator}
 use Rattle.ob0_types_table.specs.Designators.{designator_of_factor, designator_of_simple, designator_of_term}
-use Rattle.ob0_scope_table.specs.InLabels.{in_labels, label_in}
+use Rattle.ob0_scope_table.specs.LabelledTrees.{tree_with_labels, label_at_token}
 
 module _ {N : Type 0} where
   pub alone_designated : (a : Tree N simple) → lone_designator (compares a none) ≡ designator_of_simple a
@@ -69,9 +69,9 @@ multiplied_designated f (x ∷ xs) some = refl
 
 -- A tree with labels is only a designator exactly if the tree of tokens is.
 abbrev pub parts_in : Resolution → ℕ × Tree ℕ (items selector) → Label × Tree Label (items selector)
-parts_in r p = (label_in r p.0, in_labels r p.1)
+parts_in r p = (label_at_token r p.0, tree_with_labels r p.1)
 
-labelled_simple : (r : Resolution) (a : Tree ℕ simple) → designator_of_simple (in_labels r a) ≡ option_map (parts_in r) (designator_of_simple a)
+labelled_simple : (r : Resolution) (a : Tree ℕ simple) → designator_of_simple (tree_with_labels r a) ≡ option_map (parts_in r) (designator_of_simple a)
 labelled_simple r (sum (Some s) t rest) = refl
 labelled_simple r (sum None (product f ms) (more a rest)) = refl
 labelled_simple r (sum None (product f (more m ms)) end) = refl
@@ -80,6 +80,6 @@ labelled_simple r (sum None (product (integer n) end) end) = refl
 labelled_simple r (sum None (product (parenthesised e) end) end) = refl
 labelled_simple r (sum None (product (negation f) end) end) = refl
 
-pub labelled_designator : (r : Resolution) (e : Tree ℕ expression) → lone_designator (in_labels r e) ≡ option_map (parts_in r) (lone_designator e)
-labelled_designator r (compares a none) = alone_designated (in_labels r a) ∙ labelled_simple r a ∙ sym (ap (option_map (parts_in r)) (alone_designated a))
-labelled_designator r (compares a (one c)) = compared_designated (in_labels r a) (in_labels r c) ∙ sym (ap (option_map (parts_in r)) (compared_designated a c))
+pub labelled_designator : (r : Resolution) (e : Tree ℕ expression) → lone_designator (tree_with_labels r e) ≡ option_map (parts_in r) (lone_designator e)
+labelled_designator r (compares a none) = alone_designated (tree_with_labels r a) ∙ labelled_simple r a ∙ sym (ap (option_map (parts_in r)) (alone_designated a))
+labelled_designator r (compares a (one c)) = compared_designated (tree_with_labels r a) (tree_with_labels r c) ∙ sym (ap (option_map (parts_in r)) (compared_designated a c))

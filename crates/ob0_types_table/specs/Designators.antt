@@ -8,7 +8,7 @@ use Rattle.ob0_tree.specs.declared.tree.Designator.{Designator, out-Designator}
 use Rattle.ob0_tree.specs.declared.tree.Expression.{Expression}
 use Rattle.ob0_language_names.specs.Names.{Label}
 use Rattle.ob0_scope_table.specs.Resolution.{Resolution}
-use Rattle.ob0_scope_table.specs.InLabels.{in_labels}
+use Rattle.ob0_scope_table.specs.LabelledTrees.{tree_with_labels}
 use Rattle.ob0_language_types.specs.Selected.{selectors_in}
 
 -- returns a designator's name and its selectors
@@ -36,5 +36,5 @@ designator_of_simple (sum None t end) = designator_of_term t
 designator_of_simple _ = None
 
 -- returns the trees of these expressions, in order, with the label of each name
-abbrev pub all_in_labels : Resolution → List Expression → List (Tree Label expression)
-all_in_labels r es = map (λ e. in_labels r (expression_of e)) es
+abbrev pub labelled_expressions : Resolution → List Expression → List (Tree Label expression)
+labelled_expressions r es = map (λ e. tree_with_labels r (expression_of e)) es

@@ -5,7 +5,7 @@ use Rattle.ob0_language_values.specs.Values.{Shape}
 use Rattle.ob0_types_table.specs.declared.known.TypeEntry as code
 use Rattle.ob0_types_table.specs.declared.known.Object as declaration
 use Rattle.ob0_language_types.specs.Expressions.{Object}
-use Rattle.ob0_types_table.specs.Tables.{object_in, shapes_from}
+use Rattle.ob0_types_table.specs.Tables.{object_view, extended_shapes}
 use Rattle.ob0_language_types.specs.WellTyped.{Signature}
 
 -- the entries of the arrays and records, and the object of each ordinal, if it has one
@@ -15,8 +15,8 @@ pub record Tables : Type 0 where
 
 -- returns the shapes of the table's entries, each made from earlier ones
 abbrev pub shapes_of : Tables → List Shape
-shapes_of t = shapes_from [] t.shapes
+shapes_of t = extended_shapes [] t.shapes
 
 -- returns the object of the declaration with this ordinal; None if there is none
-abbrev pub declared_in : Tables → ℕ → Option (Object Shape Signature)
-declared_in t k = option_and_then (object_in (shapes_of t)) (slice_index_or t.objects k None)
+abbrev pub declared_object_in : Tables → ℕ → Option (Object Shape Signature)
+declared_object_in t k = option_and_then (object_view (shapes_of t)) (slice_index_or t.objects k None)

@@ -2,7 +2,7 @@
 -- Rule: none; for contracts: a type with its parts.
 use Rattle.std.specs.Prelude.{Bool, true, false, List, Option, Some, None, slice_get}
 use Rattle.ob0_types_table.specs.KnownTables.{Tables}
-use Rattle.ob0_types_table.specs.Tables.{CountsParts, made_shape, no_shape}
+use Rattle.ob0_types_table.specs.Tables.{HasSizeOfShape, entry_shape, faulty_shape}
 use Rattle.ob0_types_table.specs.declared.known.TypeEntry.{TypeEntry}
 use Rattle.ob0_types_table.specs.declared.known.TypeEntry.TheVariants as made
 use Rattle.ob0_types_table.specs.declared.type_parts.Parts.{Parts}
@@ -15,20 +15,20 @@ use Rattle.ob0_language_values.specs.Values.{Shape, boolean_shape, integer_shape
 abbrev pub parts_shape : List Shape → Parts → Shape
 parts_shape shapes parts.Integer = integer_shape
 parts_shape shapes parts.Boolean = boolean_shape
-parts_shape shapes (parts.Array a) = made_shape shapes (made.Array a)
-parts_shape shapes (parts.Record r) = made_shape shapes (made.Record r.now)
-parts_shape shapes parts.Faulty = no_shape
+parts_shape shapes (parts.Array a) = entry_shape shapes (made.Array a)
+parts_shape shapes (parts.Record r) = entry_shape shapes (made.Record r.now)
+parts_shape shapes parts.Faulty = faulty_shape
 
 -- holds if the parts of an array or a record have the number of scalars and the depth of its shape;
 -- always holds for other types
-abbrev pub PartsAreCounted : List Shape → Parts → Type 0
-PartsAreCounted shapes parts.Integer = Unit {0}
-PartsAreCounted shapes parts.Boolean = Unit {0}
-PartsAreCounted shapes (parts.Array a) =
-    CountsParts (made.Array a) (made_shape shapes (made.Array a))
-PartsAreCounted shapes (parts.Record r) =
-    CountsParts (made.Record r.now) (made_shape shapes (made.Record r.now))
-PartsAreCounted shapes parts.Faulty = Unit {0}
+abbrev pub PartsHaveSizes : List Shape → Parts → Type 0
+PartsHaveSizes shapes parts.Integer = Unit {0}
+PartsHaveSizes shapes parts.Boolean = Unit {0}
+PartsHaveSizes shapes (parts.Array a) =
+    HasSizeOfShape (made.Array a) (entry_shape shapes (made.Array a))
+PartsHaveSizes shapes (parts.Record r) =
+    HasSizeOfShape (made.Record r.now) (entry_shape shapes (made.Record r.now))
+PartsHaveSizes shapes parts.Faulty = Unit {0}
 
 -- returns true for an entry made by an ARRAY of the text
 abbrev pub is_array_entry : Option TypeEntry → Bool
@@ -51,9 +51,9 @@ is_known_type t (type.Record i) = is_record_entry (slice_get t.shapes i)
 is_known_type t type.Unknown = false
 
 -- returns true unless the type is faulty
-abbrev pub has_parts : Parts → Bool
-has_parts parts.Integer = true
-has_parts parts.Boolean = true
-has_parts (parts.Array a) = true
-has_parts (parts.Record r) = true
-has_parts parts.Faulty = false
+abbrev pub is_not_faulty : Parts → Bool
+is_not_faulty parts.Integer = true
+is_not_faulty parts.Boolean = true
+is_not_faulty (parts.Array a) = true
+is_not_faulty (parts.Record r) = true
+is_not_faulty parts.Faulty = false

@@ -6,7 +6,7 @@ ghost use Rattle.ob0_tree.specs.View.{compound_of, expression_of, factor_of, sim
 ghost use Rattle.ob0_types_table.specs.Designators.{designator_of_factor, designator_of_simple, designator_of_term, designator_parts};
 ghost use Rattle.ob0_language_types.specs.Typing.{lone_designator};
 
-use ob0_tree::{Compound, Designator, Expression, Factor, Simple, Term};
+use ob0_tree::{CompoundExpression, Designator, Expression, Factor, SimpleExpression, Term};
 
 /// Returns the designator of an expression that is only a designator, without sign, operators or parentheses. Returns
 /// None for any other expression.
@@ -16,12 +16,12 @@ pub fn lone_designator(e: &Expression) -> Option<&Designator>
 {
     match e {
         Expression::Factor(f) => designator_of_factor(f),
-        Expression::Compound(c) => designator_of_compound(c),
+        Expression::CompoundExpression(c) => designator_of_compound(c),
     }
 }
 
 /// Returns the designator of a compound expression that is only a designator. Returns None for any other expression.
-fn designator_of_compound(c: &Compound) -> Option<&Designator>
+fn designator_of_compound(c: &CompoundExpression) -> Option<&Designator>
     ensures { option_map (λ d. designator_parts d.now) result
         ≡ lone_designator (compound_of c.now) }
 {
@@ -32,7 +32,7 @@ fn designator_of_compound(c: &Compound) -> Option<&Designator>
 }
 
 /// Returns the designator of a simple expression that is only a designator. Returns None for any other expression.
-fn designator_of_simple(s: &Simple) -> Option<&Designator>
+fn designator_of_simple(s: &SimpleExpression) -> Option<&Designator>
     ensures { option_map (λ d. designator_parts d.now) result
         ≡ designator_of_simple (simple_of s.now) }
 {

@@ -1,13 +1,13 @@
 //! The fields of a record, found by name in logarithmic time.
 //!
 //! In contracts, the value of a table is only the list of its fields. The map isn't part of this
-//! value: by the table's invariant it has, for each name, the first field in the list (`IsIndex`).
+//! value: by the table's invariant it has, for each name, the first field in the list (`IsFieldIndex`).
 
 ghost use Rattle.std.specs.Prelude.{◌≡◌, List, IfOk, option_map};
 ghost use Rattle.ob0_language_values.specs.Values as shape;
-ghost use Rattle.ob0_types_table.specs.FieldIndex.{IsIndex, first_field_type};
-ghost use Rattle.ob0_types_table.specs.FieldPlaces.{place_of_field};
-ghost use Rattle.ob0_types_table.specs.Tables.{fields_shape, type_shape};
+ghost use Rattle.ob0_types_table.specs.FieldIndex.{IsFieldIndex, first_field_type};
+ghost use Rattle.ob0_types_table.specs.FieldPlaces.{position_of_field};
+ghost use Rattle.ob0_types_table.specs.Tables.{field_shapes, type_shape};
 ghost use Rattle.ob0_language_types.specs.Typing.{shape_of_field};
 
 use crate::known::Field;
@@ -18,7 +18,7 @@ use std::marker::Model;
 
 /// The first field with some name: its position in the record, counted from 0, and its type.
 #[derive(Clone, Copy)]
-struct FirstOfName {
+struct FirstField {
     place: usize,
     of: TypeId,
 }
@@ -27,7 +27,7 @@ struct FirstOfName {
 #[derive(Drop)]
 pub struct FieldTable {
     fields: Vec<Field>,
-    first_of: BTreeMap<String, FirstOfName>,
+    first_fields: BTreeMap<String, FirstField>,
 }
 
 impl Model for FieldTable {
@@ -36,24 +36,24 @@ impl Model for FieldTable {
 
     ghost Value = { List Field };
 
-    ghost use Rattle.ob0_types_table.specs.FieldIndex.{IsIndex};
+    ghost use Rattle.ob0_types_table.specs.FieldIndex.{IsFieldIndex};
 
     ghost view = { λ t. t.fields.items };
 
-    ghost invariant = { λ t. IsIndex t.first_of t.fields.items };
+    ghost invariant = { λ t. IsFieldIndex t.first_fields t.fields.items };
 }
 
 /// Returns a map from each name to the first field with this name. The map is filled starting at
 /// the last field, so that an earlier field replaces a later one with the same name.
-fn first_of(alloc: Global, fields: &[Field]) -> Result<BTreeMap<String, FirstOfName>, AllocError>
-    ensures { IfOk result (λ m. IsIndex m fields.now) }
+fn first_fields(alloc: Global, fields: &[Field]) -> Result<BTreeMap<String, FirstField>, AllocError>
+    ensures { IfOk result (λ m. IsFieldIndex m fields.now) }
 {
     let mut first = BTreeMap::new(alloc);
     let mut left = fields.len();
     while left > 0 {
         left -= 1;
         let field = &fields[left];
-        let entry = FirstOfName {
+        let entry = FirstField {
             place: left,
             of: field.of,
         };
@@ -67,10 +67,10 @@ impl FieldTable {
     pub fn new(fields: Vec<Field>) -> Result<FieldTable, AllocError>
         ensures { IfOk result (λ t. t ≡ fields.items) }
     {
-        let first = first_of(*fields.allocator(), fields.as_slice())?;
+        let first = first_fields(*fields.allocator(), fields.as_slice())?;
         Ok(FieldTable {
             fields,
-            first_of: first,
+            first_fields: first,
         })
     }
 
@@ -86,20 +86,20 @@ impl FieldTable {
         ensures first { result ≡ first_field_type self.now name.now }
         ensures shape { (shapes : List shape.Shape)
             → option_map (type_shape shapes) result
-            ≡ shape_of_field (fields_shape shapes self.now) name.now }
+            ≡ shape_of_field (field_shapes shapes self.now) name.now }
     {
-        match self.first_of.get(name) {
+        match self.first_fields.get(name) {
             None => None,
             Some(first) => Some(first.of),
         }
     }
 
     /// Returns the position of the first field with this name, counted from 0. Returns None if there is none.
-    pub fn place(&self, name: &str) -> Option<usize>
+    pub fn index_of_name(&self, name: &str) -> Option<usize>
         ensures { (shapes : List shape.Shape)
-            → result ≡ place_of_field (fields_shape shapes self.now) name.now }
+            → result ≡ position_of_field (field_shapes shapes self.now) name.now }
     {
-        match self.first_of.get(name) {
+        match self.first_fields.get(name) {
             None => None,
             Some(first) => Some(first.place),
         }

@@ -9,7 +9,7 @@
 ghost use Rattle.std.specs.Prelude.{◌≡◌, List, option_map};
 ghost use Rattle.ob0_language_values.specs.Values as shape;
 ghost use Rattle.ob0_types_table.specs.FieldPlaces.{field_selected};
-ghost use Rattle.ob0_types_table.specs.Tables.{fields_shape};
+ghost use Rattle.ob0_types_table.specs.Tables.{field_shapes};
 
 use crate::field_table::FieldTable;
 use crate::types::{TypeId, scalar_type};
@@ -32,7 +32,7 @@ pub struct Field {
 /// Identifies a field: `ordinal` is the ordinal of its record among the words ARRAY and RECORD of
 /// the text, and `index` is its position among the record's fields. Both are counted from 0.
 #[derive(Clone, Copy, PartialEq, Eq)]
-pub struct FieldOf {
+pub struct FieldId {
     pub ordinal: usize,
     pub index: usize,
 }
@@ -65,14 +65,14 @@ pub enum TypeEntry {
 
 /// A formal parameter: its type, and whether it is passed by place (VAR) or by value.
 #[derive(Clone, Copy)]
-pub struct Formal {
+pub struct FormalParameter {
     pub by_place: bool,
     pub of: TypeId,
 }
 
 /// The standard procedures.
 #[derive(Clone, Copy, PartialEq, Eq)]
-pub enum Standard {
+pub enum StandardProcedure {
     Read,
     Write,
     WriteLn,
@@ -87,8 +87,8 @@ pub enum Object {
     /// A constant whose right side has a fault.
     FaultyConstant,
     Variable(TypeId),
-    Procedure(Vec<Formal>),
-    Standard(Standard),
+    Procedure(Vec<FormalParameter>),
+    StandardProcedure(StandardProcedure),
 }
 
 /// The arrays and records of a module, each made from earlier ones, and the object of each
@@ -101,15 +101,15 @@ pub struct DeclarationTable {
 
 impl RecordShape {
     /// Returns the place of the first field with this name. Returns None if there is none.
-    fn field(&self, name: &str) -> Option<FieldOf>
+    fn field(&self, name: &str) -> Option<FieldId>
         ensures { (shapes : List shape.Shape)
             → result
             ≡ field_selected
-            (shape.record_shape self.now.ordinal (fields_shape shapes self.now.fields)) name.now }
+            (shape.record_shape self.now.ordinal (field_shapes shapes self.now.fields)) name.now }
     {
-        match self.fields.place(name) {
+        match self.fields.index_of_name(name) {
             None => None,
-            Some(index) => Some(FieldOf {
+            Some(index) => Some(FieldId {
                 ordinal: self.ordinal,
                 index,
             }),
@@ -131,9 +131,9 @@ impl Model for DeclarationTable {
 
 impl DeclarationTable {
     ghost use Rattle.std.specs.Prelude.{◌≡◌, [], length, option_map, option_and_then, slice_get, slice_index_or, MatchOption};
-    ghost use Rattle.ob0_types_table.specs.KnownTables.{declared_in, shapes_of};
-    ghost use Rattle.ob0_types_table.specs.Tables.{AreEntriesInOrder, CountsParts, made_shape, no_shape, object_in, type_shape};
-    ghost use Rattle.ob0_language_types.specs.Typing.{constant_of, element_type, field_type, type_declared};
+    ghost use Rattle.ob0_types_table.specs.KnownTables.{declared_object_in, shapes_of};
+    ghost use Rattle.ob0_types_table.specs.Tables.{AreEntriesInOrder, HasSizeOfShape, entry_shape, faulty_shape, object_view, type_shape};
+    ghost use Rattle.ob0_language_types.specs.Typing.{constant_of, element_type, field_type, type_of_declaration};
     ghost use Rattle.ob0_language_values.specs.Scalars.{scalar_value};
     ghost use Rattle.ob0_language_values.specs.Values.{integer_shape};
 
@@ -161,8 +161,8 @@ impl DeclarationTable {
 
     /// Returns the object of the declaration with this ordinal. Returns None if there is none.
     pub fn object(&self, ordinal: usize) -> Option<&Object>
-        ensures { option_and_then (λ o. object_in (shapes_of self.now) o.now) result
-            ≡ declared_in self.now ordinal }
+        ensures { option_and_then (λ o. object_view (shapes_of self.now) o.now) result
+            ≡ declared_object_in self.now ordinal }
     {
         match self.objects.get(ordinal) {
             None => None,
@@ -176,7 +176,7 @@ impl DeclarationTable {
     /// Returns the value of the constant with this ordinal. Returns None if the declaration isn't a constant with a
     /// value.
     pub fn constant(&self, ordinal: usize) -> Option<Scalar>
-        ensures { option_map scalar_value result ≡ constant_of (declared_in self.now ordinal) }
+        ensures { option_map scalar_value result ≡ constant_of (declared_object_in self.now ordinal) }
     {
         match self.object(ordinal)? {
             Object::Constant(value) => Some(*value),
@@ -184,7 +184,7 @@ impl DeclarationTable {
             Object::FaultyConstant => None,
             Object::Variable(_) => None,
             Object::Procedure(_) => None,
-            Object::Standard(_) => None,
+            Object::StandardProcedure(_) => None,
         }
     }
 
@@ -192,7 +192,7 @@ impl DeclarationTable {
     /// Otherwise returns None.
     pub fn declared_type(&self, ordinal: usize) -> Option<TypeId>
         ensures { option_map (type_shape (shapes_of self.now)) result
-            ≡ type_declared (declared_in self.now ordinal) }
+            ≡ type_of_declaration (declared_object_in self.now ordinal) }
     {
         match self.object(ordinal)? {
             Object::Named(of) => Some(*of),
@@ -200,7 +200,7 @@ impl DeclarationTable {
             Object::Constant(value) => Some(scalar_type(*value)),
             Object::FaultyConstant => None,
             Object::Procedure(_) => None,
-            Object::Standard(_) => None,
+            Object::StandardProcedure(_) => None,
         }
     }
 
@@ -208,10 +208,10 @@ impl DeclarationTable {
     pub(crate) fn entry(&self, place: usize) -> Option<&TypeEntry>
         ensures found { option_map (λ m. m.now) result ≡ slice_get self.now.shapes place }
         ensures shape { MatchOption result
-            (slice_index_or (shapes_of self.now) place no_shape ≡ no_shape)
-            (λ m. (slice_index_or (shapes_of self.now) place no_shape
-            ≡ made_shape (shapes_of self.now) m.now)
-            × CountsParts m.now (made_shape (shapes_of self.now) m.now)) }
+            (slice_index_or (shapes_of self.now) place faulty_shape ≡ faulty_shape)
+            (λ m. (slice_index_or (shapes_of self.now) place faulty_shape
+            ≡ entry_shape (shapes_of self.now) m.now)
+            × HasSizeOfShape m.now (entry_shape (shapes_of self.now) m.now)) }
     {
         if place < self.shapes.len() {
             Some(&self.shapes[place])
@@ -257,7 +257,7 @@ impl DeclarationTable {
 
     /// Returns the place of the first field with this name in a record type. Returns None if the type is no record with
     /// such a field.
-    pub fn field(&self, base: TypeId, name: &str) -> Option<FieldOf>
+    pub fn field(&self, base: TypeId, name: &str) -> Option<FieldId>
         ensures { result ≡ field_selected (type_shape (shapes_of self.now) base) name.now }
     {
         match base {

@@ -1,7 +1,7 @@
 //! The values of integer tokens.
 
 ghost use Rattle.std.specs.Prelude.{◌≡◌, ◌≤◌, pos};
-ghost use Rattle.ob0_tree.specs.Places.{value_at, value_of};
+ghost use Rattle.ob0_tree.specs.Places.{value_at, kind_value_or_zero};
 ghost use Rattle.ob0_scan.specs.Classes.{max_integer};
 
 use ob0_scan::{TokenKind, Tokens};
@@ -22,13 +22,13 @@ pub fn number_at(tokens: &Tokens, token: usize) -> i32
 
 /// Returns the value of an integer token, given its kind. Returns 0 for any other kind.
 fn number_of(kind: TokenKind) -> i32
-    requires { value_of kind ≤ max_integer }
-    ensures { result ≡ pos (value_of kind) }
+    requires { kind_value_or_zero kind ≤ max_integer }
+    ensures { result ≡ pos (kind_value_or_zero kind) }
 {
     match kind {
         TokenKind::Integer(value) => value as i32,
         TokenKind::Identifier => 0,
-        TokenKind::Reserved(_) => 0,
+        TokenKind::ReservedWord(_) => 0,
         TokenKind::Symbol(_) => 0,
     }
 }

@@ -5,12 +5,12 @@ ghost use Rattle.std.specs.Prelude.{◌≡◌, Some, option_and_then, option_map
 ghost use Rattle.ob0_language_values.specs.Scalars.{scalar_value};
 ghost use Rattle.ob0_language_values.specs.Values as values;
 ghost use Rattle.ob0_types_table.specs.Operators.{product_value, sum_value};
-ghost use Rattle.ob0_language_types.specs.Selected.{both};
-ghost use Rattle.ob0_language_types.specs.Typing.{given_value};
+ghost use Rattle.ob0_language_types.specs.Selected.{apply_to_both};
+ghost use Rattle.ob0_language_types.specs.Typing.{outcome_value};
 
 use ob0_language_values::Scalar;
 use ob0_language_values::scalar::{
-    add, add_is_settled, apply_sign, multiply, multiply_is_settled, negate, relate,
+    add, add_short_circuits, apply_sign, multiply, multiply_short_circuits, negate, relate,
 };
 use ob0_tree::{AddOperator, MultiplyOperator, Relation, Sign};
 
@@ -22,7 +22,7 @@ pub fn value_of_relation(
     right: Option<Scalar>,
 ) -> Option<Scalar>
     ensures { option_map scalar_value result
-        ≡ both (λ x y. given_value (values.relate relation x y)) (option_map scalar_value left)
+        ≡ apply_to_both (λ x y. outcome_value (values.relate relation x y)) (option_map scalar_value left)
         (option_map scalar_value right) }
 {
     match left {
@@ -36,9 +36,9 @@ pub fn value_of_relation(
 
 /// Returns the value of an operand with an optional sign before it. Returns None if the operand has
 /// no value or the sign can't be applied, for example because of an overflow.
-pub fn with_sign(sign: Option<Sign>, operand: Option<Scalar>) -> Option<Scalar>
+pub fn signed_value(sign: Option<Sign>, operand: Option<Scalar>) -> Option<Scalar>
     ensures { option_map scalar_value result
-        ≡ option_and_then (λ x. given_value (values.apply_sign sign x))
+        ≡ option_and_then (λ x. outcome_value (values.apply_sign sign x))
         (option_map scalar_value operand) }
 {
     match operand {
@@ -50,7 +50,7 @@ pub fn with_sign(sign: Option<Sign>, operand: Option<Scalar>) -> Option<Scalar>
 /// Returns the value of `~` applied to an operand. Returns None if the operand has no value or isn't a truth value.
 pub fn complement(operand: Option<Scalar>) -> Option<Scalar>
     ensures { option_map scalar_value result
-        ≡ option_and_then (λ x. given_value (values.negate x)) (option_map scalar_value operand) }
+        ≡ option_and_then (λ x. outcome_value (values.negate x)) (option_map scalar_value operand) }
 {
     match operand {
         None => None,
@@ -72,7 +72,7 @@ pub fn value_of_sum(
     match left {
         None => None,
         Some(left) => {
-            if add_is_settled(operator, left) {
+            if add_short_circuits(operator, left) {
                 return Some(left);
             }
             match right {
@@ -97,7 +97,7 @@ pub fn value_of_product(
     match left {
         None => None,
         Some(left) => {
-            if multiply_is_settled(operator, left) {
+            if multiply_short_circuits(operator, left) {
                 return Some(left);
             }
             match right {

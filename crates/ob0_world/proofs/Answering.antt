@@ -21,7 +21,7 @@ use Rattle.ob0_text.specs.declared.edits.Indent.{Indent}
 use Rattle.ob0_text.specs.declared.position_types.Position.{Position}
 use Rattle.ob0_text.specs.declared.position_types.Range.{Range}
 use Rattle.ob0_text.specs.declared.position_types.Unit.{Unit}
-use Rattle.ob0_text.specs.OpenDocuments.{OpenDocuments, Document, InStep, OutOfStep, DocumentEvent, Opened, Changed, Lost, Closed, TextChange, changed_text, text_of, document, document_at, opened, changed, changed_document}
+use Rattle.ob0_text.specs.OpenDocuments.{OpenDocuments, Document, InStep, OutOfStep, DocumentEvent, Opened, Changed, Lost, Closed, TextChange, changed_text, text_of, document, document_at, documents_after_open, documents_after_change, changed_document}
 use Rattle.ob0_text.specs.RefusalTexts.{refusal_text}
 use Rattle.ob0_text.specs.declared.refusals.EditRefusal.TheVariants.{TooLong}
 use Rattle.ob0_text.proofs.EntryLaws.{updated-some, updated-none}
@@ -29,12 +29,12 @@ use Rattle.ob0_rpc.specs.Requesting.{code_action, request_by_method}
 use Rattle.ob0_rpc.specs.Faults.{minus}
 use Rattle.ob0_rpc.specs.Messages.{ReadsContent, meaning, meaning_of}
 use Rattle.ob0_rpc.specs.Shapes.{result_message, error_message}
-use Rattle.ob0_rpc.specs.declared.clients.Client.{Client}
-use Rattle.ob0_edits.specs.Inlinings.{Offers}
-use Rattle.ob0_session_answers.specs.Actions.{RequestedActions, ListsActions, allows_inlining, wants_inlining, actions_offset, actions_value}
+use Rattle.ob0_rpc.specs.declared.clients.ClientFeatures.{ClientFeatures}
+use Rattle.ob0_edits.specs.Inlinings.{OffersInlining}
+use Rattle.ob0_session_answers.specs.Actions.{RequestedActions, ListsActions, allows_inlining, wants_inlining, actions_offset, actions_array}
 use Rattle.ob0_session_server.specs.Answers as answers_of
-use Rattle.ob0_session_server.specs.Answers.{ServerState, Reply, SaysReply, Sends, Reaction, react, apply_notification, react_to_notification, answer_method, react_to_request as requested_in, answer_request, answers_about, lays_out, renames, offers_actions, published, Answers, AnswersInState, AnswersGoingOn, says}
-use Rattle.ob0_analysis.specs.Diagnosed.{Complaint, IsWellTypedModule, Reports, ReportsFaults, complaint_of}
+use Rattle.ob0_session_server.specs.Answers.{ServerState, Reply, AreContentsOfReply, Sends, Reaction, react, apply_notification, react_to_notification, react_to_method, react_to_request as requested_in, react_to_known_request, react_about_document, lays_out, renames, offers_actions, publication_reply, Answers, AnswersInPhase, AnswersBeforeEnd, says}
+use Rattle.ob0_analysis.specs.Diagnosed.{Complaint, IsWellTypedModule, Reports, ReportsFaults, complaint_of_fault}
 use Rattle.ob0_session_answers.specs.Diagnostics.{Diagnoses, diagnostic_of}
 use Rattle.ob0_analysis.specs.Texts.{utf8}
 use Rattle.ob0_session_answers.specs.Formatted.{AnswersFormatting}
@@ -42,20 +42,20 @@ use Rattle.ob0_session_answers.specs.Renamed.{RequestedRename, AnswersRenaming}
 use Rattle.ob0_session_json.specs.Shapes.{Diagnostic, diagnostic_value, edit_value, edits_value, document_edit, workspace_edit, publication}
 use Rattle.ob0_world_rules.specs.Answers.{Inlining, Here, Everywhere}
 use Rattle.ob0_session_server.specs.declared.session.Phase.TheVariants.{Running}
-use Rattle.ob0_world_editor.specs.Heard as heard_as
-use Rattle.ob0_world_editor.specs.Heard.{request_number, sent_as, HasVersion, IsAsk, call_for}
-use Rattle.ob0_world_editor.specs.Shapes.{method_of, empty_at}
-use Rattle.ob0_world_editor.specs.Understood.{answer_to, value_read, read_so, edits_in, workspace_items, edits_for, has_none}
+use Rattle.ob0_world_editor.specs.MessagesToServer as heard_as
+use Rattle.ob0_world_editor.specs.MessagesToServer.{request_number, notification_for, HasVersionInRange, IsAsk, client_request_for}
+use Rattle.ob0_world_editor.specs.Shapes.{method_of, empty_range_at}
+use Rattle.ob0_world_editor.specs.MessagesToEditor.{answer_to, message_to_editor_of, message_to_editor_by, edits_in, workspace_edit_items, edits_for, has_no_items}
 use Rattle.ob0_world_editor.proofs.Hearing.{read_as}
 use Rattle.ob0_world_rules.specs.Edited.{Replacement, replacement_of, replacements}
-use Rattle.ob0_world_rules.specs.Asks.{Ask, rename, inline_here, inline_all, format, indent_read}
-use Rattle.ob0_world_rules.specs.Answers.{place_at, AnswersFor, IsAnswer, IsEmptyIfCorrect}
-use Rattle.ob0_world_rules.specs.ClientAndServer.{SentAsk, ToServer, notifies, requests, ToEditor, publishes, answers, after_message}
+use Rattle.ob0_world_rules.specs.Asks.{Ask, rename, inline_here, inline_all, format, clamped_indent}
+use Rattle.ob0_world_rules.specs.Answers.{position_offset, IsAnswerForText, IsAnswer, IsEmptyIfWellTyped}
+use Rattle.ob0_world_rules.specs.ClientAndServer.{SentAsk, MessageToServer, notifies, requests, MessageToEditor, publishes, answers, after_message}
 use Rattle.ob0_world_rules.specs.Serving.{Publishes, Replies}
 use Rattle.ob0_world_rules.proofs.ModuleTexts.{well_typed_text, well_typed_module}
 use Rattle.ob0_world_rules.proofs.UriLaws.{get_put, uri_itself}
-use Rattle.ob0_world.specs.Queues.{IsRunning, made_of_document, made_first}
-use Rattle.ob0_world.specs.Exchanges.{IsActionsRequest, TakesActions, TakesEdits}
+use Rattle.ob0_world.specs.Queues.{RunsWithEditor, publication_with_text, publication_in_first_message}
+use Rattle.ob0_world.specs.Exchanges.{IsActionsRequest, AcceptsActions, AcceptsEdits}
 use Rattle.ob0_world.proofs.Places.{place_of_range}
 
 -- ---- contents that are read
@@ -65,61 +65,61 @@ same_json content (Some e) d one other = sym one.1 ∙ other.1
 same_json content None d one other = sym (one other.0) ∙ other.1
 
 -- A running session answers by its reaction.
-pub going_on : (before after : ServerState) (content : List ℕ) (sent : List (List ℕ)) → before.phase ≡ Running → Answers before content sent after → AnswersGoingOn before content sent after
-going_on before after content sent running h = subst (λ phase. AnswersInState phase before content sent after) running h
+pub going_on : (before after : ServerState) (content : List ℕ) (sent : List (List ℕ)) → before.phase ≡ Running → Answers before content sent after → AnswersBeforeEnd before content sent after
+going_on before after content sent running h = subst (λ phase. AnswersInPhase phase before content sent after) running h
 
 -- A content with this meaning has the reaction to that meaning.
-pub reacts_so : (before after : ServerState) (content : List ℕ) (sent : List (List ℕ)) (d : Data) → AnswersGoingOn before content sent after → ReadsContent content (Some d) → (after ≡ (react before (meaning_of d)).after) × SaysReply (react before (meaning_of d)).say sent
+pub reacts_so : (before after : ServerState) (content : List ℕ) (sent : List (List ℕ)) (d : Data) → AnswersBeforeEnd before content sent after → ReadsContent content (Some d) → (after ≡ (react before (meaning_of d)).after) × AreContentsOfReply (react before (meaning_of d)).say sent
 reacts_so before after content sent d (json, reads, answer) known =
-    subst (λ j. (after ≡ (react before (meaning j)).after) × SaysReply (react before (meaning j)).say sent) (same_json content json d reads known) answer
+    subst (λ j. (after ≡ (react before (meaning j)).after) × AreContentsOfReply (react before (meaning j)).say sent) (same_json content json d reads known) answer
 
 -- ---- diagnostics
 
-empty_none : (shown : Complaint → Diagnostic) (reported : List Complaint) → reported ≡ [] → has_none (items_of (map diagnostic_value (map shown reported))) ≡ true
+empty_none : (shown : Complaint → Diagnostic) (reported : List Complaint) → reported ≡ [] → has_no_items (items_of (map diagnostic_value (map shown reported))) ≡ true
 empty_none shown [] none = refl
 empty_none shown (c ∷ cs) none = absurd (cc)
 
-none_empty : (shown : Complaint → Diagnostic) (reported : List Complaint) → has_none (items_of (map diagnostic_value (map shown reported))) ≡ true → reported ≡ []
+none_empty : (shown : Complaint → Diagnostic) (reported : List Complaint) → has_no_items (items_of (map diagnostic_value (map shown reported))) ≡ true → reported ≡ []
 none_empty shown [] h = refl
 none_empty shown (c ∷ cs) h = absurd (cc)
 
 some_reported : (text : List ℕ) (reported : List Complaint) → ReportsFaults text reported → reported ≡ [] → ⊥
 some_reported text reported (inl lexemes) none = go lexemes.faults lexemes.of_text.some (sym lexemes.all ∙ none)
   where
-    go : (faults : _) → 0 < length faults → map complaint_of faults ≡ [] → ⊥
+    go : (faults : _) → 0 < length faults → map complaint_of_fault faults ≡ [] → ⊥
     go [] some none = omega (arith, some)
     go (f ∷ fs) some none = cc
 some_reported text reported (inr (inl parser)) none = let other : parser.complaint ∷ [] ≡ [] = sym parser.alone ∙ none in cc
 some_reported text reported (inr (inr types)) none = go types.faults types.some (sym types.all ∙ none)
   where
-    go : (faults : _) → 0 < length faults → map complaint_of faults ≡ [] → ⊥
+    go : (faults : _) → 0 < length faults → map complaint_of_fault faults ≡ [] → ⊥
     go [] some none = omega (arith, some)
     go (f ∷ fs) some none = cc
 
-reports_right : (unit : Unit) (text : List ℕ) (ds : List Diagnostic) → Diagnoses unit text ds → IsEmptyIfCorrect text (has_none (items_of (map diagnostic_value ds)))
+reports_right : (unit : Unit) (text : List ℕ) (ds : List Diagnostic) → Diagnoses unit text ds → IsEmptyIfWellTyped text (has_no_items (items_of (map diagnostic_value ds)))
 reports_right unit text ds (reported, reporting, is) =
-    subst (λ ds. IsEmptyIfCorrect text (has_none (items_of (map diagnostic_value ds)))) (sym is) (go reporting)
+    subst (λ ds. IsEmptyIfWellTyped text (has_no_items (items_of (map diagnostic_value ds)))) (sym is) (go reporting)
   where
-    go : Reports (utf8 text) reported → IsEmptyIfCorrect text (has_none (items_of (map diagnostic_value (map (diagnostic_of unit text) reported))))
+    go : Reports (utf8 text) reported → IsEmptyIfWellTyped text (has_no_items (items_of (map diagnostic_value (map (diagnostic_of unit text) reported))))
     go (inl (found, none)) = (λ empty. well_typed_text text found, λ well_typed. empty_none (diagnostic_of unit text) reported none)
     go (inr (unfit, faults)) = (λ empty. absurd (some_reported (utf8 text) reported faults (none_empty (diagnostic_of unit text) reported empty)), λ well_typed. absurd (unfit (well_typed_module text well_typed)))
 
 -- ---- documents
 
 -- After a change the document with this uri is the changed one, if it was open.
-changed_at : (held : OpenDocuments) (uri : List ℕ) (version : ℤ) (how : List TextChange) → document_at (changed held uri version how) uri ≡ option_map (changed_document held.unit version how) (document_at held uri)
+changed_at : (held : OpenDocuments) (uri : List ℕ) (version : ℤ) (how : List TextChange) → document_at (documents_after_change held uri version how) uri ≡ option_map (changed_document held.unit version how) (document_at held uri)
 changed_at held uri version how = go (document_at held uri) refl
   where
     f : Document → Document
     f = changed_document held.unit version how
 
-    go : (o : Option Document) → document_at held uri ≡ o → document_at (changed held uri version how) uri ≡ option_map f o
+    go : (o : Option Document) → document_at held uri ≡ o → document_at (documents_after_change held uri version how) uri ≡ option_map f o
     go None is = ap (λ m. map_of.get m uri) (updated-none held.by_uri uri f is) ∙ is
     go (Some d) is =
         ap (λ m. map_of.get m uri) (updated-some held.by_uri uri f d is) ∙ get_put held.by_uri uri (f d) uri
         ∙ ap (λ b. cond b (Some (f d)) (document_at held uri)) (uri_itself uri)
 
-opened_at : (held : OpenDocuments) (uri : List ℕ) (version : ℤ) (text : List ℕ) → document_at (opened held uri version text) uri ≡ Some (InStep version text)
+opened_at : (held : OpenDocuments) (uri : List ℕ) (version : ℤ) (text : List ℕ) → document_at (documents_after_open held uri version text) uri ≡ Some (InStep version text)
 opened_at held uri version text =
     get_put held.by_uri uri (InStep version text) uri ∙ ap (λ b. cond b (Some (InStep version text)) (document_at held uri)) (uri_itself uri)
 
@@ -130,7 +130,7 @@ edits_read_back [] = refl
 edits_read_back (e ∷ edits) = ap (option_map (λ es. replacement_of e ∷ es)) (edits_read_back edits)
 
 -- An ask about a text that isn't a well-typed module has no edits as its answer.
-unfit_answer : (unit : Unit) (text : List ℕ) (ask : Ask) → ¬ IsWellTypedModule (utf8 text) → AnswersFor unit text ask []
+unfit_answer : (unit : Unit) (text : List ℕ) (ask : Ask) → ¬ IsWellTypedModule (utf8 text) → IsAnswerForText unit text ask []
 unfit_answer unit text ask unfit = inr (inr (λ fits. unfit (well_typed_module text fits)), refl)
 
 -- An object with one member has this member.
@@ -138,21 +138,21 @@ own_member : (key : List ℕ) (d : Data) → get key (object (member key d no_me
 own_member key d = ap (λ o. match_ordering o None (Some d) None) (tied_itself nat_list_cmp_total key)
 
 -- The edits of a document are read back from the WorkspaceEdit that has them, with a version or without.
-workspace_read_back : (client : Client) (uri : List ℕ) (version : ℤ) (edits : List Edit) → option_and_then edits_in (workspace_items uri (workspace_edit client uri version edits)) ≡ Some (replacements edits)
-workspace_read_back client uri version edits = go client.takes_document_changes
+workspace_read_back : (client : ClientFeatures) (uri : List ℕ) (version : ℤ) (edits : List Edit) → option_and_then edits_in (workspace_edit_items uri (workspace_edit client uri version edits)) ≡ Some (replacements edits)
+workspace_read_back client uri version edits = go client.accepts_document_changes
   where
     go : (b : Bool)
-        → option_and_then edits_in (workspace_items uri (cond b (object (member (codes "documentChanges") (array (item (document_edit uri version edits) no_items)) no_members)) (object (member (codes "changes") (object (member uri (edits_value edits) no_members)) no_members))))
+        → option_and_then edits_in (workspace_edit_items uri (cond b (object (member (codes "documentChanges") (array (item (document_edit uri version edits) no_items)) no_members)) (object (member (codes "changes") (object (member uri (edits_value edits) no_members)) no_members))))
         ≡ Some (replacements edits)
     go true = edits_read_back edits
     go false = ap (λ o. option_and_then edits_in (option_and_then as_array o)) (own_member uri (edits_value edits)) ∙ edits_read_back edits
 
-renames_read_back : (id : Data) (position : Position) (name uri : List ℕ) (version : ℤ) (edits : List Edit) (client : Client)
+renames_read_back : (id : Data) (position : Position) (name uri : List ℕ) (version : ℤ) (edits : List Edit) (client : ClientFeatures)
     → edits_for uri (rename position name) (result_message id (workspace_edit client uri version edits)) ≡ replacements edits
 renames_read_back id position name uri version edits client = ap (λ o. unwrap_or o []) (workspace_read_back client uri version edits)
 
 -- returns a rename request in the session's words
-abbrev rename_requested : Client → Data → List ℕ → Position → List ℕ → ℤ → RequestedRename
+abbrev rename_requested : ClientFeatures → Data → List ℕ → Position → List ℕ → ℤ → RequestedRename
 rename_requested client id uri position name version =
     record { id = id; client = client; at = record { uri = uri; position = position }; version = version; new = name }
 
@@ -174,7 +174,7 @@ edits_offered None = []
 
 -- The editor reads the edits of the action that it asked for from the list of offered actions.
 actions_read_back : (how : Inlining) (position : Position) (requested : RequestedActions) (here everywhere : Option (Vec Edit Global))
-    → edits_for requested.uri (inlining_at how position) (result_message requested.id (actions_value requested here everywhere)) ≡ edits_offered (requested_for how here everywhere)
+    → edits_for requested.uri (inlining_at how position) (result_message requested.id (actions_array requested here everywhere)) ≡ edits_offered (requested_for how here everywhere)
 actions_read_back Here position requested (Some edits) everywhere = ap (λ o. unwrap_or o []) (workspace_read_back requested.client requested.uri requested.version edits.items)
 actions_read_back Here position requested None (Some other) = refl
 actions_read_back Here position requested None None = refl
@@ -188,11 +188,11 @@ none_read_back Here position uri id = refl
 none_read_back Everywhere position uri id = refl
 
 -- An inlining that is offered, or not offered for a reason, is the answer to the ask.
-offered_here : (unit : Unit) (text : List ℕ) (position : Position) (o : Option (Vec Edit Global)) → Offers Here unit text (place_at unit text position) o → AnswersFor unit text (inline_here position) (edits_offered o)
+offered_here : (unit : Unit) (text : List ℕ) (position : Position) (o : Option (Vec Edit Global)) → OffersInlining Here unit text (position_offset unit text position) o → IsAnswerForText unit text (inline_here position) (edits_offered o)
 offered_here unit text position None refused = inr (inl refused, refl)
 offered_here unit text position (Some found) inlines = inl (found.items, (found, inlines, refl), refl)
 
-offered_everywhere : (unit : Unit) (text : List ℕ) (position : Position) (o : Option (Vec Edit Global)) → Offers Everywhere unit text (place_at unit text position) o → AnswersFor unit text (inline_all position) (edits_offered o)
+offered_everywhere : (unit : Unit) (text : List ℕ) (position : Position) (o : Option (Vec Edit Global)) → OffersInlining Everywhere unit text (position_offset unit text position) o → IsAnswerForText unit text (inline_all position) (edits_offered o)
 offered_everywhere unit text position None refused = inr (inl refused, refl)
 offered_everywhere unit text position (Some found) inlines = inl (found.items, (found, inlines, refl), refl)
 
@@ -200,58 +200,58 @@ least : (n : ℕ) → min n n ≡ n
 least n = omega arith
 
 -- The offset of an empty range is the offset of its position.
-place_is : (unit : Unit) (text : List ℕ) (position : Position) → actions_offset unit text (empty_at position) ≡ place_at unit text position
-place_is unit text position = least (place_at unit text position)
+place_is : (unit : Unit) (text : List ℕ) (position : Position) → actions_offset unit text (empty_range_at position) ≡ position_offset unit text position
+place_is unit text position = least (position_offset unit text position)
 
-requested_offered : (how : Inlining) (unit : Unit) (text : List ℕ) (position : Position) (offset : ℕ) (here everywhere : Option (Vec Edit Global)) → offset ≡ place_at unit text position → Offers Here unit text offset here
-    → Offers Everywhere unit text offset everywhere → AnswersFor unit text (inlining_at how position) (edits_offered (requested_for how here everywhere))
-requested_offered Here unit text position offset here everywhere is one other = offered_here unit text position here (subst (λ place. Offers Here unit text place here) is one)
-requested_offered Everywhere unit text position offset here everywhere is one other = offered_everywhere unit text position everywhere (subst (λ place. Offers Everywhere unit text place everywhere) is other)
+requested_offered : (how : Inlining) (unit : Unit) (text : List ℕ) (position : Position) (offset : ℕ) (here everywhere : Option (Vec Edit Global)) → offset ≡ position_offset unit text position → OffersInlining Here unit text offset here
+    → OffersInlining Everywhere unit text offset everywhere → IsAnswerForText unit text (inlining_at how position) (edits_offered (requested_for how here everywhere))
+requested_offered Here unit text position offset here everywhere is one other = offered_here unit text position here (subst (λ place. OffersInlining Here unit text place here) is one)
+requested_offered Everywhere unit text position offset here everywhere is one other = offered_everywhere unit text position everywhere (subst (λ place. OffersInlining Everywhere unit text place everywhere) is other)
 
 -- returns the request for actions at a position, of all kinds, in the session's words
-abbrev pub actions_requested_at : Client → Data → List ℕ → Position → ℤ → RequestedActions
+abbrev pub actions_requested_at : ClientFeatures → Data → List ℕ → Position → ℤ → RequestedActions
 actions_requested_at client id uri position version =
-    record { id = id; client = client; uri = uri; version = version; range = empty_at position; only = None }
+    record { id = id; client = client; uri = uri; version = version; range = empty_range_at position; only = None }
 
 -- returns the request for actions in a range, of some kinds, in the session's words
-abbrev pub actions_requested_in : Client → Data → List ℕ → Range → Option (List (List ℕ)) → ℤ → RequestedActions
+abbrev pub actions_requested_in : ClientFeatures → Data → List ℕ → Range → Option (List (List ℕ)) → ℤ → RequestedActions
 actions_requested_in client id uri range only version =
     record { id = id; client = client; uri = uri; version = version; range = range; only = only }
 
 -- A running session answers a request of this editor by its method.
-begun : (ask : Ask) (s : ServerState) (params id : Data) → requested_in Running s id (method_of ask) params ≡ answer_method s id (method_of ask) params
+begun : (ask : Ask) (s : ServerState) (params id : Data) → requested_in Running s id (method_of ask) params ≡ react_to_method s id (method_of ask) params
 begun (rename position name) s params id = refl
 begun (inline_here position) s params id = refl
 begun (inline_all position) s params id = refl
 begun (format indent) s params id = refl
 
 pub request_reaction : (id : Data) (uri : List ℕ) (ask : Ask) (before after : ServerState) (content : List ℕ) (sent : List (List ℕ)) → before.phase ≡ Running → (is : heard_as.IsRequestWithId id uri ask content) → Answers before content sent after
-    → (after ≡ (answer_method before id (method_of ask) is.params).after) × SaysReply (answer_method before id (method_of ask) is.params).say sent
+    → (after ≡ (react_to_method before id (method_of ask) is.params).after) × AreContentsOfReply (react_to_method before id (method_of ask) is.params).say sent
 request_reaction id uri ask before after content sent running is h =
     let answer = reacts_so before after content sent is.json (going_on before after content sent running h) is.reads in
-    let so : react before (meaning_of is.json) ≡ answer_method before id (method_of ask) is.params =
+    let so : react before (meaning_of is.json) ≡ react_to_method before id (method_of ask) is.params =
     ap (react before) is.means ∙ ap (λ phase. requested_in phase before id (method_of ask) is.params) running ∙ begun ask before is.params id in
-    (answer.0 ∙ ap (λ (x : Reaction). x.after) so, subst (λ (x : Reaction). SaysReply x.say sent) so answer.1)
+    (answer.0 ∙ ap (λ (x : Reaction). x.after) so, subst (λ (x : Reaction). AreContentsOfReply x.say sent) so answer.1)
 
 -- ---- what the editor reads
 
 module _ (number_of : Data → Option ℕ) (requested : List SentAsk) where
   -- states that the editor understands all these contents, and that these are their messages
-  pub record Heard (sent : List (List ℕ)) (said : List ToEditor) : Type 0 where
-    pub each : All (λ content. (m : ToEditor) × (read_so number_of requested content ≡ Some m)) sent
-    pub all : filter_map (read_so number_of requested) sent ≡ said
+  pub record MessagesToServer (sent : List (List ℕ)) (said : List MessageToEditor) : Type 0 where
+    pub each : All (λ content. (m : MessageToEditor) × (message_to_editor_by number_of requested content ≡ Some m)) sent
+    pub all : filter_map (message_to_editor_by number_of requested) sent ≡ said
     pub count : length sent ≡ length said
 
-  heard_none : (sent : List (List ℕ)) → sent ≡ [] → Heard sent []
+  heard_none : (sent : List (List ℕ)) → sent ≡ [] → MessagesToServer sent []
   heard_none sent none =
-      subst (λ s. Heard s []) (sym none) (record { each = All-nil (λ content. (m : ToEditor) × (read_so number_of requested content ≡ Some m)); all = refl; count = refl })
+      subst (λ s. MessagesToServer s []) (sym none) (record { each = All-nil (λ content. (m : MessageToEditor) × (message_to_editor_by number_of requested content ≡ Some m)); all = refl; count = refl })
 
-  heard_one : (sent : List (List ℕ)) (message : Data) (m : ToEditor) → Sends message sent → value_read number_of requested message ≡ Some m → Heard sent (m ∷ [])
+  heard_one : (sent : List (List ℕ)) (message : Data) (m : MessageToEditor) → Sends message sent → message_to_editor_of number_of requested message ≡ Some m → MessagesToServer sent (m ∷ [])
   heard_one sent message m (content, is, writes) means =
-      let said : read_so number_of requested content ≡ Some m = read_as number_of requested content message writes.reads ∙ means in
-      subst (λ s. Heard s (m ∷ [])) (sym is)
+      let said : message_to_editor_by number_of requested content ≡ Some m = read_as number_of requested content message writes.reads ∙ means in
+      subst (λ s. MessagesToServer s (m ∷ [])) (sym is)
       (record {
-        each = All-push (λ c. (m : ToEditor) × (read_so number_of requested c ≡ Some m)) [] content (All-nil (λ c. (m : ToEditor) × (read_so number_of requested c ≡ Some m))) (m, said);
+        each = All-push (λ c. (m : MessageToEditor) × (message_to_editor_by number_of requested c ≡ Some m)) [] content (All-nil (λ c. (m : MessageToEditor) × (message_to_editor_by number_of requested c ≡ Some m))) (m, said);
         all = ap (λ o. cons_option o []) said;
         count = refl;
       })
@@ -260,78 +260,78 @@ module _ (number_of : Data → Option ℕ) (requested : List SentAsk) where
 
   -- states that these contents say what a notification publishes
   pub record Noted (held : OpenDocuments) (uri : List ℕ) (o : Option Document) (sent : List (List ℕ)) : Type 0 where
-    pub said : List ToEditor
-    pub heard : Heard sent said
-    pub replies : Publishes uri o said (option_to_list (made_first held said))
+    pub said : List MessageToEditor
+    pub message_to_server_in : MessagesToServer sent said
+    pub replies : Publishes uri o said (option_to_list (publication_in_first_message held said))
 
   publishes_step : (held : OpenDocuments) (uri : List ℕ) (version : ℤ) (text : List ℕ) (sent : List (List ℕ)) → document_at held uri ≡ Some (InStep version text) → as_i64 (of_integer version) ≡ Some version
-      → SaysReply (published held.unit uri (Some (InStep version text))) sent → Noted held uri (Some (InStep version text)) sent
+      → AreContentsOfReply (publication_reply held.unit uri (Some (InStep version text))) sent → Noted held uri (Some (InStep version text)) sent
   publishes_step held uri version text sent at fits (ds, diagnoses, sends) =
-      let empty : Bool = has_none (items_of (map diagnostic_value ds)) in
+      let empty : Bool = has_no_items (items_of (map diagnostic_value ds)) in
       record {
         said = publishes uri (Some version) empty ∷ [];
-        heard = heard_one sent (publication uri (Some version) ds) (publishes uri (Some version) empty) sends (ap (λ v. Some (publishes uri v empty)) fits);
-        replies = (empty, reports_right held.unit text ds diagnoses, refl, ap (λ o. option_to_list (option_and_then (made_of_document uri version empty) o)) at);
+        message_to_server_in = heard_one sent (publication uri (Some version) ds) (publishes uri (Some version) empty) sends (ap (λ v. Some (publishes uri v empty)) fits);
+        replies = (empty, reports_right held.unit text ds diagnoses, refl, ap (λ o. option_to_list (option_and_then (publication_with_text uri version empty) o)) at);
       }
 
   publishes_now : (held : OpenDocuments) (uri : List ℕ) (version : ℤ) (t : Option (List ℕ)) (sent : List (List ℕ)) → document_at held uri ≡ Some (document version t) → as_i64 (of_integer version) ≡ Some version
-      → SaysReply (published held.unit uri (Some (document version t))) sent → Noted held uri (Some (document version t)) sent
+      → AreContentsOfReply (publication_reply held.unit uri (Some (document version t))) sent → Noted held uri (Some (document version t)) sent
   publishes_now held uri version (Some text) sent at fits saying = publishes_step held uri version text sent at fits saying
-  publishes_now held uri version None sent at fits saying = record { said = []; heard = heard_none sent saying; replies = (refl, refl) }
+  publishes_now held uri version None sent at fits saying = record { said = []; message_to_server_in = heard_none sent saying; replies = (refl, refl) }
 
   -- The contents that are sent for a document publish the document that is now open under that uri.
-  noted_at : (held : OpenDocuments) (uri : List ℕ) (o : Option Document) (sent : List (List ℕ)) → document_at held uri ≡ o → (SaysReply (published held.unit uri o) sent → Noted held uri o sent)
-      → SaysReply (published held.unit uri (document_at held uri)) sent → Noted held uri (document_at held uri) sent
+  noted_at : (held : OpenDocuments) (uri : List ℕ) (o : Option Document) (sent : List (List ℕ)) → document_at held uri ≡ o → (AreContentsOfReply (publication_reply held.unit uri o) sent → Noted held uri o sent)
+      → AreContentsOfReply (publication_reply held.unit uri (document_at held uri)) sent → Noted held uri (document_at held uri) sent
   noted_at held uri o sent at then_noted saying =
-      subst (λ o. Noted held uri o sent) (sym at) (then_noted (subst (λ o. SaysReply (published held.unit uri o) sent) at saying))
+      subst (λ o. Noted held uri o sent) (sym at) (then_noted (subst (λ o. AreContentsOfReply (publication_reply held.unit uri o) sent) at saying))
 
   -- ---- what may be sent
 
   -- states that the server has taken a message and sent these contents, which are its replies
-  pub record Served (m : ToServer) (before after : ServerState) (sent : List (List ℕ)) : Type 0 where
+  pub record Served (m : MessageToServer) (before after : ServerState) (sent : List (List ℕ)) : Type 0 where
     pub phase : after.phase ≡ Running
     pub client : after.client ≡ before.client
     pub held : after.held ≡ after_message before.held m
-    pub said : List ToEditor
-    pub heard : Heard sent said
-    pub replies : Replies before.held m said (option_to_list (made_first after.held said))
+    pub said : List MessageToEditor
+    pub message_to_server_in : MessagesToServer sent said
+    pub replies : Replies before.held m said (option_to_list (publication_in_first_message after.held said))
 
   -- The reaction to a notification sends the replies of the model's server.
-  note_served : (note : DocumentEvent) (before after : ServerState) (sent : List (List ℕ)) → before.phase ≡ Running → HasVersion note → after ≡ (apply_notification before (sent_as note)).after → SaysReply (apply_notification before (sent_as note)).say sent
+  note_served : (note : DocumentEvent) (before after : ServerState) (sent : List (List ℕ)) → before.phase ≡ Running → HasVersionInRange note → after ≡ (apply_notification before (notification_for note)).after → AreContentsOfReply (apply_notification before (notification_for note)).say sent
       → Served (notifies note) before after sent
   note_served (Opened uri version text) before after sent running fits is saying =
-      let held : OpenDocuments = opened before.held uri version text in
+      let held : OpenDocuments = documents_after_open before.held uri version text in
       let noted : Noted held uri (document_at held uri) sent =
       noted_at held uri (Some (InStep version text)) sent (opened_at before.held uri version text) (publishes_step held uri version text sent (opened_at before.held uri version text) fits) saying in
       subst (λ a. Served (notifies (Opened uri version text)) before a sent) (sym is)
-      (record { phase = running; client = refl; held = refl; said = noted.said; heard = noted.heard; replies = noted.replies })
+      (record { phase = running; client = refl; held = refl; said = noted.said; message_to_server_in = noted.message_to_server_in; replies = noted.replies })
   note_served (Changed uri version how) before after sent running fits is saying =
-      let held : OpenDocuments = changed before.held uri version how in
+      let held : OpenDocuments = documents_after_change before.held uri version how in
       let noted : Noted held uri (document_at held uri) sent = go held (document_at before.held uri) (changed_at before.held uri version how) saying in
       subst (λ a. Served (notifies (Changed uri version how)) before a sent) (sym is)
-      (record { phase = running; client = refl; held = refl; said = noted.said; heard = noted.heard; replies = noted.replies })
+      (record { phase = running; client = refl; held = refl; said = noted.said; message_to_server_in = noted.message_to_server_in; replies = noted.replies })
     where
-      go : (held : OpenDocuments) (o : Option Document) → document_at held uri ≡ option_map (changed_document before.held.unit version how) o → SaysReply (published held.unit uri (document_at held uri)) sent → Noted held uri (document_at held uri) sent
-      go held None at saying = noted_at held uri None sent at (λ saying. record { said = []; heard = heard_none sent saying; replies = (refl, refl) }) saying
+      go : (held : OpenDocuments) (o : Option Document) → document_at held uri ≡ option_map (changed_document before.held.unit version how) o → AreContentsOfReply (publication_reply held.unit uri (document_at held uri)) sent → Noted held uri (document_at held uri) sent
+      go held None at saying = noted_at held uri None sent at (λ saying. record { said = []; message_to_server_in = heard_none sent saying; replies = (refl, refl) }) saying
       go held (Some d) at saying =
           let t : Option (List ℕ) = fold (changed_text before.held.unit) (text_of d) how in
           noted_at held uri (Some (document version t)) sent at (publishes_now held uri version t sent at fits) saying
   note_served (Lost uri) before after sent running fits is saying =
       subst (λ a. Served (notifies (Lost uri)) before a sent) (sym is)
-      (record { phase = running; client = refl; held = refl; said = []; heard = heard_none sent saying; replies = (refl, refl) })
+      (record { phase = running; client = refl; held = refl; said = []; message_to_server_in = heard_none sent saying; replies = (refl, refl) })
   note_served (Closed uri) before after sent running fits is saying =
       subst (λ a. Served (notifies (Closed uri)) before a sent) (sym is) (go (is_some (document_at before.held uri)) refl saying)
     where
-      go : (b : Bool) → is_some (document_at before.held uri) ≡ b → SaysReply (cond b (says (publication uri None [])) answers_of.nothing) sent → Served (notifies (Closed uri)) before (apply_notification before (sent_as (Closed uri))).after sent
+      go : (b : Bool) → is_some (document_at before.held uri) ≡ b → AreContentsOfReply (cond b (says (publication uri None [])) answers_of.nothing) sent → Served (notifies (Closed uri)) before (apply_notification before (notification_for (Closed uri))).after sent
       go true was saying = record {
         phase = running;
         client = refl;
         held = refl;
         said = publishes uri None true ∷ [];
-        heard = heard_one sent (publication uri None []) (publishes uri None true) saying refl;
+        message_to_server_in = heard_one sent (publication uri None []) (publishes uri None true) saying refl;
         replies = (sym (ap (λ b. cond b (publishes uri None true ∷ []) []) was), refl);
       }
-      go false was saying = record { phase = running; client = refl; held = refl; said = []; heard = heard_none sent saying; replies = (sym (ap (λ b. cond b (publishes uri None true ∷ []) []) was), refl) }
+      go false was saying = record { phase = running; client = refl; held = refl; said = []; message_to_server_in = heard_none sent saying; replies = (sym (ap (λ b. cond b (publishes uri None true ∷ []) []) was), refl) }
 
   -- states that ask k is this one and has this id
   record Asks (id : Data) (k : ℕ) (uri : List ℕ) (ask : Ask) : Type 0 where
@@ -347,7 +347,7 @@ module _ (number_of : Data → Option ℕ) (requested : List SentAsk) where
   -- states that the contents are the answer to ask k about this document
   record Answered (k : ℕ) (ask : Ask) (unit : Unit) (o : Option Document) (sent : List (List ℕ)) : Type 0 where
     edits : List Replacement
-    heard : Heard sent (answers k edits ∷ [])
+    message_to_server_in : MessagesToServer sent (answers k edits ∷ [])
     replies : IsAnswer unit o ask edits
 
   -- A refusal is an answer without edits.
@@ -356,28 +356,28 @@ module _ (number_of : Data → Option ℕ) (requested : List SentAsk) where
   refused id k uri ask unit o code why sent of sends none =
       record {
         edits = [];
-        heard = heard_one sent (error_message id code why) (answers k []) sends (answered id k uri ask (error_message id code why) of);
+        message_to_server_in = heard_one sent (error_message id code why) (answers k []) sends (answered id k uri ask (error_message id code why) of);
         replies = none;
       }
 
   formatted : (id : Data) (k : ℕ) (uri : List ℕ) (indent : Indent) (unit : Unit) (version : ℤ) (text : List ℕ) (sent : List (List ℕ)) → Asks id k uri (format indent)
-      → SaysReply (lays_out unit id (indent_read indent) text) sent → Answered k (format indent) unit (Some (InStep version text)) sent
+      → AreContentsOfReply (lays_out unit id (clamped_indent indent) text) sent → Answered k (format indent) unit (Some (InStep version text)) sent
   formatted id k uri indent unit version text sent of (message, how, sends) = go how
     where
-      go : AnswersFormatting unit id (indent_read indent) text message → Answered k (format indent) unit (Some (InStep version text)) sent
+      go : AnswersFormatting unit id (clamped_indent indent) text message → Answered k (format indent) unit (Some (InStep version text)) sent
       go (inl (edits, laid, is)) =
           let answer : Data = result_message id (edits_value edits) in
           let these : edits_for uri (format indent) answer ≡ replacements edits = ap (λ o. unwrap_or o []) (edits_read_back edits) in
           record {
             edits = replacements edits;
-            heard = heard_one sent answer (answers k (replacements edits)) (subst (λ m. Sends m sent) is sends) (answered id k uri (format indent) answer of ∙ ap (λ es. Some (answers k es)) these);
+            message_to_server_in = heard_one sent answer (answers k (replacements edits)) (subst (λ m. Sends m sent) is sends) (answered id k uri (format indent) answer of ∙ ap (λ es. Some (answers k es)) these);
             replies = inl (edits, laid, refl);
           }
       go (inr (inl (long, is))) = refused id k uri (format indent) unit (Some (InStep version text)) (minus 32803) (refusal_text TooLong) sent of (subst (λ m. Sends m sent) is sends) (inr (inl long, refl))
       go (inr (inr (unfit, is))) = refused id k uri (format indent) unit (Some (InStep version text)) (minus 32803) (codes "ill-typed") sent of (subst (λ m. Sends m sent) is sends) (unfit_answer unit text (format indent) unfit)
 
-  renamed : (id : Data) (k : ℕ) (uri : List ℕ) (position : Position) (name : List ℕ) (client : Client) (unit : Unit) (version : ℤ) (text : List ℕ) (sent : List (List ℕ)) → Asks id k uri (rename position name)
-      → SaysReply (renames unit (rename_requested client id uri position name version) text) sent → Answered k (rename position name) unit (Some (InStep version text)) sent
+  renamed : (id : Data) (k : ℕ) (uri : List ℕ) (position : Position) (name : List ℕ) (client : ClientFeatures) (unit : Unit) (version : ℤ) (text : List ℕ) (sent : List (List ℕ)) → Asks id k uri (rename position name)
+      → AreContentsOfReply (renames unit (rename_requested client id uri position name version) text) sent → Answered k (rename position name) unit (Some (InStep version text)) sent
   renamed id k uri position name client unit version text sent of (message, how, sends) = go how
     where
       go : AnswersRenaming unit (rename_requested client id uri position name version) text message → Answered k (rename position name) unit (Some (InStep version text)) sent
@@ -386,27 +386,27 @@ module _ (number_of : Data → Option ℕ) (requested : List SentAsk) where
           let these : edits_for uri (rename position name) answer ≡ replacements edits = renames_read_back id position name uri version edits client in
           record {
             edits = replacements edits;
-            heard = heard_one sent answer (answers k (replacements edits)) (subst (λ m. Sends m sent) is sends) (answered id k uri (rename position name) answer of ∙ ap (λ es. Some (answers k es)) these);
+            message_to_server_in = heard_one sent answer (answers k (replacements edits)) (subst (λ m. Sends m sent) is sends) (answered id k uri (rename position name) answer of ∙ ap (λ es. Some (answers k es)) these);
             replies = inl (edits, found, refl);
           }
       go (inr (inl (refusal, why, is))) = refused id k uri (rename position name) unit (Some (InStep version text)) (minus 32803) (refusal_text refusal) sent of (subst (λ m. Sends m sent) is sends) (inr (inl (refusal, why), refl))
       go (inr (inr (unfit, is))) = refused id k uri (rename position name) unit (Some (InStep version text)) (minus 32803) (codes "ill-typed") sent of (subst (λ m. Sends m sent) is sends) (unfit_answer unit text (rename position name) unfit)
 
-  inlined_in : (how : Inlining) (id : Data) (k : ℕ) (uri : List ℕ) (position : Position) (range : Range) (only : Option (List (List ℕ))) (client : Client) (unit : Unit) (version : ℤ) (text : List ℕ) (sent : List (List ℕ))
-      → client.takes_literal_actions ≡ true → allows_inlining only ≡ true → actions_offset unit text range ≡ place_at unit text position → Asks id k uri (inlining_at how position)
-      → SaysReply (offers_actions unit (actions_requested_in client id uri range only version) text) sent → Answered k (inlining_at how position) unit (Some (InStep version text)) sent
+  inlined_in : (how : Inlining) (id : Data) (k : ℕ) (uri : List ℕ) (position : Position) (range : Range) (only : Option (List (List ℕ))) (client : ClientFeatures) (unit : Unit) (version : ℤ) (text : List ℕ) (sent : List (List ℕ))
+      → client.accepts_literal_actions ≡ true → allows_inlining only ≡ true → actions_offset unit text range ≡ position_offset unit text position → Asks id k uri (inlining_at how position)
+      → AreContentsOfReply (offers_actions unit (actions_requested_in client id uri range only version) text) sent → Answered k (inlining_at how position) unit (Some (InStep version text)) sent
   inlined_in how id k uri position range only client unit version text sent literal allowed place of (message, (value, how_listed, is), sends) = go how_listed
     where
       request : RequestedActions
       request = actions_requested_in client id uri range only version
 
-      with_edits : (edits : List Replacement) → edits_for uri (inlining_at how position) (result_message id value) ≡ edits → AnswersFor unit text (inlining_at how position) edits
+      editing_result : (edits : List Replacement) → edits_for uri (inlining_at how position) (result_message id value) ≡ edits → IsAnswerForText unit text (inlining_at how position) edits
           → Answered k (inlining_at how position) unit (Some (InStep version text)) sent
-      with_edits edits these answer_is =
+      editing_result edits these answer_is =
           let answer : Data = result_message id value in
           record {
             edits = edits;
-            heard = heard_one sent answer (answers k edits) (subst (λ m. Sends m sent) is sends) (answered id k uri (inlining_at how position) answer of ∙ ap (λ es. Some (answers k es)) these);
+            message_to_server_in = heard_one sent answer (answers k edits) (subst (λ m. Sends m sent) is sends) (answered id k uri (inlining_at how position) answer of ∙ ap (λ es. Some (answers k es)) these);
             replies = answer_is;
           }
 
@@ -417,22 +417,22 @@ module _ (number_of : Data → Option ℕ) (requested : List SentAsk) where
       wants false c is also not = cc
 
       unfit : (wants_inlining request ≡ false) ⊎ ¬ IsWellTypedModule (utf8 text) → ¬ IsWellTypedModule (utf8 text)
-      unfit (inl unwanted) = absurd (wants client.takes_literal_actions (allows_inlining only) literal allowed unwanted)
+      unfit (inl unwanted) = absurd (wants client.accepts_literal_actions (allows_inlining only) literal allowed unwanted)
       unfit (inr ill_typed) = ill_typed
 
       go : ListsActions unit request text value → Answered k (inlining_at how position) unit (Some (InStep version text)) sent
       go (inl h) =
-          with_edits (edits_offered (requested_for how h.here h.everywhere))
+          editing_result (edits_offered (requested_for how h.here h.everywhere))
           (ap (λ v. edits_for uri (inlining_at how position) (result_message id v)) h.listed ∙ actions_read_back how position request h.here h.everywhere)
           (requested_offered how unit text position (actions_offset unit text range) h.here h.everywhere place h.offers_here h.offers_everywhere)
       go (inr (why, listed)) =
-          with_edits [] (ap (λ v. edits_for uri (inlining_at how position) (result_message id v)) listed ∙ none_read_back how position uri id) (unfit_answer unit text (inlining_at how position) (unfit why))
+          editing_result [] (ap (λ v. edits_for uri (inlining_at how position) (result_message id v)) listed ∙ none_read_back how position uri id) (unfit_answer unit text (inlining_at how position) (unfit why))
 
-  inlined : (how : Inlining) (id : Data) (k : ℕ) (uri : List ℕ) (position : Position) (client : Client) (unit : Unit) (version : ℤ) (text : List ℕ) (sent : List (List ℕ)) → client.takes_literal_actions ≡ true
+  inlined : (how : Inlining) (id : Data) (k : ℕ) (uri : List ℕ) (position : Position) (client : ClientFeatures) (unit : Unit) (version : ℤ) (text : List ℕ) (sent : List (List ℕ)) → client.accepts_literal_actions ≡ true
       → Asks id k uri (inlining_at how position)
-      → SaysReply (offers_actions unit (actions_requested_at client id uri position version) text) sent → Answered k (inlining_at how position) unit (Some (InStep version text)) sent
+      → AreContentsOfReply (offers_actions unit (actions_requested_at client id uri position version) text) sent → Answered k (inlining_at how position) unit (Some (InStep version text)) sent
   inlined how id k uri position client unit version text sent literal of saying =
-      inlined_in how id k uri position (empty_at position) None client unit version text sent literal refl (place_is unit text position) of saying
+      inlined_in how id k uri position (empty_range_at position) None client unit version text sent literal refl (place_is unit text position) of saying
 
   -- ---- asks
 
@@ -440,12 +440,12 @@ module _ (number_of : Data → Option ℕ) (requested : List SentAsk) where
       → Served (requests k uri ask) before after sent
   asks_served k uri ask before after sent running same answer =
       subst (λ a. Served (requests k uri ask) before a sent) (sym same)
-      (record { phase = running; client = refl; held = refl; said = answers k answer.edits ∷ []; heard = answer.heard; replies = (answer.edits, answer.replies, refl, refl) })
+      (record { phase = running; client = refl; held = refl; said = answers k answer.edits ∷ []; message_to_server_in = answer.message_to_server_in; replies = (answer.edits, answer.replies, refl, refl) })
 
   -- An ask about a document is answered if its answer is known for the text of a document in step.
   about_document : (id : Data) (k : ℕ) (uri : List ℕ) (ask : Ask) (say : ℤ → List ℕ → Reply) (before after : ServerState) (sent : List (List ℕ)) → before.phase ≡ Running → Asks id k uri ask
-      → ((version : ℤ) (text : List ℕ) → SaysReply (say version text) sent → Answered k ask before.held.unit (Some (InStep version text)) sent)
-      → (o : Option Document) → document_at before.held uri ≡ o → after ≡ (answers_about before id o say).after → SaysReply (answers_about before id o say).say sent → Served (requests k uri ask) before after sent
+      → ((version : ℤ) (text : List ℕ) → AreContentsOfReply (say version text) sent → Answered k ask before.held.unit (Some (InStep version text)) sent)
+      → (o : Option Document) → document_at before.held uri ≡ o → after ≡ (react_about_document before id o say).after → AreContentsOfReply (react_about_document before id o say).say sent → Served (requests k uri ask) before after sent
   about_document id k uri ask say before after sent running of in_step None at same saying =
       asks_served k uri ask before after sent running same (refused id k uri ask before.held.unit (document_at before.held uri) (minus 32803) (codes "unopened") sent of saying (subst (λ o. IsAnswer before.held.unit o ask []) (sym at) refl))
   about_document id k uri ask say before after sent running of in_step (Some OutOfStep) at same saying =
@@ -454,76 +454,76 @@ module _ (number_of : Data → Option ℕ) (requested : List SentAsk) where
       asks_served k uri ask before after sent running same (subst (λ o. Answered k ask before.held.unit o sent) (sym at) (in_step version text saying))
 
   -- A running session replies to a request of this editor as the model's server does.
-  request_served : (id : Data) (k : ℕ) (uri : List ℕ) (ask : Ask) (params : Data) (before after : ServerState) (sent : List (List ℕ)) → before.phase ≡ Running → TakesEdits before.client ask → Asks id k uri ask → request_by_method (method_of ask) params ≡ Ok (call_for uri ask)
-      → after ≡ (answer_method before id (method_of ask) params).after → SaysReply (answer_method before id (method_of ask) params).say sent → Served (requests k uri ask) before after sent
+  request_served : (id : Data) (k : ℕ) (uri : List ℕ) (ask : Ask) (params : Data) (before after : ServerState) (sent : List (List ℕ)) → before.phase ≡ Running → AcceptsEdits before.client ask → Asks id k uri ask → request_by_method (method_of ask) params ≡ Ok (client_request_for uri ask)
+      → after ≡ (react_to_method before id (method_of ask) params).after → AreContentsOfReply (react_to_method before id (method_of ask) params).say sent → Served (requests k uri ask) before after sent
   request_served id k uri (rename position name) params before after sent running takes of call is saying =
       let say : ℤ → List ℕ → Reply = λ version. renames before.held.unit (rename_requested before.client id uri position name version) in
-      let so : answer_method before id (method_of (rename position name)) params ≡ answers_about before id (document_at before.held uri) say = ap (answer_request before id) call in
+      let so : react_to_method before id (method_of (rename position name)) params ≡ react_about_document before id (document_at before.held uri) say = ap (react_to_known_request before id) call in
       about_document id k uri (rename position name) say before after sent running of
       (λ version text. renamed id k uri position name before.client before.held.unit version text sent of) (document_at before.held uri) refl
-      (is ∙ ap (λ (x : Reaction). x.after) so) (subst (λ (x : Reaction). SaysReply x.say sent) so saying)
+      (is ∙ ap (λ (x : Reaction). x.after) so) (subst (λ (x : Reaction). AreContentsOfReply x.say sent) so saying)
   request_served id k uri (inline_here position) params before after sent running takes of call is saying =
       let say : ℤ → List ℕ → Reply = λ version. offers_actions before.held.unit (actions_requested_at before.client id uri position version) in
-      let so : answer_method before id (method_of (inline_here position)) params ≡ answers_about before id (document_at before.held uri) say = ap (answer_request before id) call in
+      let so : react_to_method before id (method_of (inline_here position)) params ≡ react_about_document before id (document_at before.held uri) say = ap (react_to_known_request before id) call in
       about_document id k uri (inline_here position) say before after sent running of
       (λ version text. inlined Here id k uri position before.client before.held.unit version text sent takes of) (document_at before.held uri) refl
-      (is ∙ ap (λ (x : Reaction). x.after) so) (subst (λ (x : Reaction). SaysReply x.say sent) so saying)
+      (is ∙ ap (λ (x : Reaction). x.after) so) (subst (λ (x : Reaction). AreContentsOfReply x.say sent) so saying)
   request_served id k uri (inline_all position) params before after sent running takes of call is saying =
       let say : ℤ → List ℕ → Reply = λ version. offers_actions before.held.unit (actions_requested_at before.client id uri position version) in
-      let so : answer_method before id (method_of (inline_all position)) params ≡ answers_about before id (document_at before.held uri) say = ap (answer_request before id) call in
+      let so : react_to_method before id (method_of (inline_all position)) params ≡ react_about_document before id (document_at before.held uri) say = ap (react_to_known_request before id) call in
       about_document id k uri (inline_all position) say before after sent running of
       (λ version text. inlined Everywhere id k uri position before.client before.held.unit version text sent takes of) (document_at before.held uri) refl
-      (is ∙ ap (λ (x : Reaction). x.after) so) (subst (λ (x : Reaction). SaysReply x.say sent) so saying)
+      (is ∙ ap (λ (x : Reaction). x.after) so) (subst (λ (x : Reaction). AreContentsOfReply x.say sent) so saying)
   request_served id k uri (format indent) params before after sent running takes of call is saying =
-      let say : ℤ → List ℕ → Reply = λ version. lays_out before.held.unit id (indent_read indent) in
-      let so : answer_method before id (method_of (format indent)) params ≡ answers_about before id (document_at before.held uri) say = ap (answer_request before id) call in
+      let say : ℤ → List ℕ → Reply = λ version. lays_out before.held.unit id (clamped_indent indent) in
+      let so : react_to_method before id (method_of (format indent)) params ≡ react_about_document before id (document_at before.held uri) say = ap (react_to_known_request before id) call in
       about_document id k uri (format indent) say before after sent running of
       (λ version text. formatted id k uri indent before.held.unit version text sent of) (document_at before.held uri) refl
-      (is ∙ ap (λ (x : Reaction). x.after) so) (subst (λ (x : Reaction). SaysReply x.say sent) so saying)
+      (is ∙ ap (λ (x : Reaction). x.after) so) (subst (λ (x : Reaction). AreContentsOfReply x.say sent) so saying)
 
   -- A request for the actions in a range is answered as an inlining if the range and the position have the same offset.
-  inline_served : (how : Inlining) (id : Data) (k : ℕ) (uri : List ℕ) (position : Position) (range : Range) (only : Option (List (List ℕ))) (params : Data) (before after : ServerState) (sent : List (List ℕ)) → before.phase ≡ Running → TakesActions before.client
-      → Asks id k uri (inlining_at how position) → allows_inlining only ≡ true → ((unit : Unit) (text : List ℕ) → actions_offset unit text range ≡ place_at unit text position) → request_by_method (codes "textDocument/codeAction") params ≡ Ok (code_action uri range only)
-      → after ≡ (answer_method before id (codes "textDocument/codeAction") params).after → SaysReply (answer_method before id (codes "textDocument/codeAction") params).say sent
+  inline_served : (how : Inlining) (id : Data) (k : ℕ) (uri : List ℕ) (position : Position) (range : Range) (only : Option (List (List ℕ))) (params : Data) (before after : ServerState) (sent : List (List ℕ)) → before.phase ≡ Running → AcceptsActions before.client
+      → Asks id k uri (inlining_at how position) → allows_inlining only ≡ true → ((unit : Unit) (text : List ℕ) → actions_offset unit text range ≡ position_offset unit text position) → request_by_method (codes "textDocument/codeAction") params ≡ Ok (code_action uri range only)
+      → after ≡ (react_to_method before id (codes "textDocument/codeAction") params).after → AreContentsOfReply (react_to_method before id (codes "textDocument/codeAction") params).say sent
       → Served (requests k uri (inlining_at how position)) before after sent
   inline_served how id k uri position range only params before after sent running takes of allowed place call is saying =
       let say : ℤ → List ℕ → Reply = λ version. offers_actions before.held.unit (actions_requested_in before.client id uri range only version) in
-      let so : answer_method before id (codes "textDocument/codeAction") params ≡ answers_about before id (document_at before.held uri) say = ap (answer_request before id) call in
+      let so : react_to_method before id (codes "textDocument/codeAction") params ≡ react_about_document before id (document_at before.held uri) say = ap (react_to_known_request before id) call in
       about_document id k uri (inlining_at how position) say before after sent running of
       (λ version text. inlined_in how id k uri position range only before.client before.held.unit version text sent takes allowed (place before.held.unit text) of) (document_at before.held uri) refl
-      (is ∙ ap (λ (x : Reaction). x.after) so) (subst (λ (x : Reaction). SaysReply x.say sent) so saying)
+      (is ∙ ap (λ (x : Reaction). x.after) so) (subst (λ (x : Reaction). AreContentsOfReply x.say sent) so saying)
 
   -- ---- contents
 
   -- A running session replies to a notification as the model's server does.
-  pub note_answered : (note : DocumentEvent) (before after : ServerState) (content : List ℕ) (sent : List (List ℕ)) → before.phase ≡ Running → heard_as.IsNote note content → Answers before content sent after → Served (notifies note) before after sent
+  pub note_answered : (note : DocumentEvent) (before after : ServerState) (content : List ℕ) (sent : List (List ℕ)) → before.phase ≡ Running → heard_as.IsNotificationFor note content → Answers before content sent after → Served (notifies note) before after sent
   note_answered note before after content sent running is h =
       let answer = reacts_so before after content sent is.json (going_on before after content sent running h) is.reads in
-      let so : react before (meaning_of is.json) ≡ apply_notification before (sent_as note) =
+      let so : react before (meaning_of is.json) ≡ apply_notification before (notification_for note) =
       ap (react before) is.means ∙ ap (λ phase. react_to_notification phase before is.method is.params) running ∙ ap (apply_notification before) is.reported in
-      note_served note before after sent running is.fits (answer.0 ∙ ap (λ (x : Reaction). x.after) so) (subst (λ (x : Reaction). SaysReply x.say sent) so answer.1)
+      note_served note before after sent running is.fits (answer.0 ∙ ap (λ (x : Reaction). x.after) so) (subst (λ (x : Reaction). AreContentsOfReply x.say sent) so answer.1)
 
   -- A running session replies to an ask as the model's server does.
-  pub ask_answered : (id : Data) (k : ℕ) (uri : List ℕ) (ask : Ask) (before after : ServerState) (content : List ℕ) (sent : List (List ℕ)) → before.phase ≡ Running → TakesEdits before.client ask → number_of id ≡ Some k → IsAsk requested k uri ask
+  pub ask_answered : (id : Data) (k : ℕ) (uri : List ℕ) (ask : Ask) (before after : ServerState) (content : List ℕ) (sent : List (List ℕ)) → before.phase ≡ Running → AcceptsEdits before.client ask → number_of id ≡ Some k → IsAsk requested k uri ask
       → heard_as.IsRequestWithId id uri ask content → Answers before content sent after → Served (requests k uri ask) before after sent
   ask_answered id k uri ask before after content sent running takes numbered of is h =
       let reaction = request_reaction id uri ask before after content sent running is h in
       request_served id k uri ask is.params before after sent running takes (record { numbered = numbered; is = of }) is.calls reaction.0 reaction.1
 
   -- A running session replies to a request for the actions in a range as the model's server does to an inlining.
-  pub actions_answered : (how : Inlining) (id : Data) (k : ℕ) (uri : List ℕ) (position : Position) (before after : ServerState) (content : List ℕ) (sent : List (List ℕ)) → before.phase ≡ Running → TakesActions before.client → number_of id ≡ Some k
+  pub actions_answered : (how : Inlining) (id : Data) (k : ℕ) (uri : List ℕ) (position : Position) (before after : ServerState) (content : List ℕ) (sent : List (List ℕ)) → before.phase ≡ Running → AcceptsActions before.client → number_of id ≡ Some k
       → IsAsk requested k uri (inlining_at how position) → IsActionsRequest id uri position content → Answers before content sent after → Served (requests k uri (inlining_at how position)) before after sent
   actions_answered how id k uri position before after content sent running takes numbered of is h =
       let answer = reacts_so before after content sent is.json (going_on before after content sent running h) is.reads in
-      let so : react before (meaning_of is.json) ≡ answer_method before id (codes "textDocument/codeAction") is.params =
+      let so : react before (meaning_of is.json) ≡ react_to_method before id (codes "textDocument/codeAction") is.params =
       ap (react before) is.means ∙ ap (λ phase. requested_in phase before id (codes "textDocument/codeAction") is.params) running in
       inline_served how id k uri position is.range is.only is.params before after sent running takes (record { numbered = numbered; is = of }) is.allowed (place_of_range is.range position is.from is.ordered) is.calls
-      (answer.0 ∙ ap (λ (x : Reaction). x.after) so) (subst (λ (x : Reaction). SaysReply x.say sent) so answer.1)
+      (answer.0 ∙ ap (λ (x : Reaction). x.after) so) (subst (λ (x : Reaction). AreContentsOfReply x.say sent) so answer.1)
 
 -- ---- the model's editor
 
 -- A session that runs with this editor has a client that accepts the edits of each ask.
-takes_all : (s : ServerState) (ask : Ask) → IsRunning s → TakesEdits s.client ask
+takes_all : (s : ServerState) (ask : Ask) → RunsWithEditor s → AcceptsEdits s.client ask
 takes_all s (rename position name) running = tt
 takes_all s (inline_here position) running = running.2
 takes_all s (inline_all position) running = running.2
@@ -531,12 +531,12 @@ takes_all s (format indent) running = tt
 
 -- The session replies to a message of the model's editor as the model's server does. The ids of that editor's requests
 -- are their numbers.
-pub served : (requested : List SentAsk) (m : ToServer) (before after : ServerState) (content : List ℕ) (sent : List (List ℕ)) → IsRunning before → heard_as.SaysToServer requested m content → Answers before content sent after → Served request_number requested m before after sent
+pub served : (requested : List SentAsk) (m : MessageToServer) (before after : ServerState) (content : List ℕ) (sent : List (List ℕ)) → RunsWithEditor before → heard_as.IsMessageToServer requested m content → Answers before content sent after → Served request_number requested m before after sent
 served requested (notifies note) before after content sent running is h = note_answered request_number requested note before after content sent running.0 is h
 served requested (requests k uri ask) before after content sent running (is, of) h =
     ask_answered request_number requested (number (unsigned k)) k uri ask before after content sent running.0 (takes_all before ask running) refl of is h
 
 -- After a message the session still runs with the same client.
-pub runs_on : (requested : List SentAsk) (m : ToServer) (before after : ServerState) (sent : List (List ℕ)) → IsRunning before → Served request_number requested m before after sent → IsRunning after
+pub runs_on : (requested : List SentAsk) (m : MessageToServer) (before after : ServerState) (sent : List (List ℕ)) → RunsWithEditor before → Served request_number requested m before after sent → RunsWithEditor after
 runs_on requested m before after sent running s =
-    (s.phase, ap (λ (c : Client). c.takes_document_changes) s.client ∙ running.1, ap (λ (c : Client). c.takes_literal_actions) s.client ∙ running.2)
+    (s.phase, ap (λ (c : ClientFeatures). c.accepts_document_changes) s.client ∙ running.1, ap (λ (c : ClientFeatures). c.accepts_literal_actions) s.client ∙ running.2)

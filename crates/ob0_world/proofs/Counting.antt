@@ -8,12 +8,12 @@ use Rattle.std.proofs.lemmas.Option.{none-some}
 use Rattle.std.proofs.lemmas.List.{length-append}
 use Rattle.ob0_text.specs.OpenDocuments.{TextChange}
 use Rattle.ob0_text.specs.declared.position_types.Unit.{Unit}
-use Rattle.ob0_world_rules.specs.Edited.{whole_text}
+use Rattle.ob0_world_rules.specs.Edited.{whole_text_change}
 use Rattle.ob0_world_rules.specs.Asks.{Ask}
-use Rattle.ob0_world_rules.specs.ClientAndServer.{Open, SentAsk, Editor, open_at, ToServer, ToEditor, publishes, answers, Applied, ClientAndServer, new_editor}
-use Rattle.ob0_world_rules.specs.Editing.{Act, counted, next_version, opens, rewrites, closes, asks, without_answer, done_by, reads}
-use Rattle.ob0_world_rules.specs.Happens.{Event, does, serve, take_message, after_taking, ServerTakes, Happens}
-use Rattle.ob0_world_rules.proofs.Acts.{edit_of, of_each}
+use Rattle.ob0_world_rules.specs.ClientAndServer.{OpenDocument, SentAsk, Editor, open_at, MessageToServer, MessageToEditor, publishes, answers, Applied, ClientAndServer, new_editor}
+use Rattle.ob0_world_rules.specs.EditorActs.{Act, version_number, next_version, opening_result, rewriting_result, closing_result, asks, without_answer, act_result, reads}
+use Rattle.ob0_world_rules.specs.Happens.{Event, does, serve, take_message, after_editor_takes, ServerTakes, Happens}
+use Rattle.ob0_world_rules.proofs.PerformsAct.{edit_of, of_each}
 use Rattle.ob0_world_rules.proofs.SameDocument.{found, left}
 use Rattle.ob0_world_editor.specs.Moves.{AreFew}
 use Rattle.ob0_world.specs.Queues.{Within}
@@ -23,7 +23,7 @@ few n e within h =
     record {
       openings = let a : e.openings ≤ n = within.openings in omega arith;
       asks = let a : length e.requested ≤ n = within.asks in omega arith;
-      versions = λ uri d at. let a : counted d.version ≤ n = within.versions uri d at in omega arith;
+      versions = λ uri d at. let a : version_number d.version ≤ n = within.versions uri d at in omega arith;
     }
 
 pub within_start : (unit : Unit) → Within 0 (new_editor unit)
@@ -35,44 +35,44 @@ more n e within =
     record {
       openings = let a : e.openings ≤ n = within.openings in omega arith;
       asks = let a : length e.requested ≤ n = within.asks in omega arith;
-      versions = λ uri d at. let a : counted d.version ≤ n = within.versions uri d at in omega arith;
+      versions = λ uri d at. let a : version_number d.version ≤ n = within.versions uri d at in omega arith;
     }
 
-put : (n : ℕ) (e : Editor) (uri : List ℕ) (new : Open) (openings : ℕ) → Within n e → counted new.version ≤ n + 1 → openings ≤ n + 1 → Within (n + 1) (record e { documents = map_of.insert e.documents uri new; openings = openings })
+put : (n : ℕ) (e : Editor) (uri : List ℕ) (new : OpenDocument) (openings : ℕ) → Within n e → version_number new.version ≤ n + 1 → openings ≤ n + 1 → Within (n + 1) (record e { documents = map_of.insert e.documents uri new; openings = openings })
 put n e uri new openings within version few_openings =
     record {
       openings = few_openings;
       asks = let a : length e.requested ≤ n = within.asks in omega arith;
-      versions = λ q d at. found e.documents uri q new d (counted d.version ≤ n + 1) at (λ same is. subst (λ x. counted x.version ≤ n + 1) is version)
-          (λ was. let a : counted d.version ≤ n = within.versions q d was in omega arith);
+      versions = λ q d at. found e.documents uri q new d (version_number d.version ≤ n + 1) at (λ same is. subst (λ x. version_number x.version ≤ n + 1) is version)
+          (λ was. let a : version_number d.version ≤ n = within.versions q d was in omega arith);
     }
 
-rewritten_within : (n : ℕ) (e : Editor) (uri : List ℕ) (d : Open) (text : List ℕ) (how : List TextChange) (applied : List Applied) → open_at e uri ≡ Some d → Within n e → Within (n + 1) (rewrites e uri d text how applied).editor
+rewritten_within : (n : ℕ) (e : Editor) (uri : List ℕ) (d : OpenDocument) (text : List ℕ) (how : List TextChange) (applied : List Applied) → open_at e uri ≡ Some d → Within n e → Within (n + 1) (rewriting_result e uri d text how applied).editor
 rewritten_within n e uri d text how applied at within =
-    let a : counted d.version ≤ n = within.versions uri d at in
+    let a : version_number d.version ≤ n = within.versions uri d at in
     let b : e.openings ≤ n = within.openings in
     put n e uri (record d { version = next_version d.version; text = text }) e.openings within (omega arith) (omega arith)
 
 module _ (n : ℕ) (e : Editor) (within : Within n e) where
-  open_within : (uri text : List ℕ) → Within (n + 1) (opens e uri text).editor
+  open_within : (uri text : List ℕ) → Within (n + 1) (opening_result e uri text).editor
   open_within uri text =
       let b : e.openings ≤ n = within.openings in
       put n e uri (record { version = pos 1; text = text; opening = e.openings + 1 }) (e.openings + 1) within (omega arith) (omega arith)
 
-  close_within : (uri : List ℕ) → Within (n + 1) (closes e uri).editor
+  close_within : (uri : List ℕ) → Within (n + 1) (closing_result e uri).editor
   close_within uri =
       record {
         openings = let a : e.openings ≤ n = within.openings in omega arith;
         asks = let a : length e.requested ≤ n = within.asks in omega arith;
-        versions = λ q x at. let a : counted x.version ≤ n = within.versions q x (left e.documents uri q x at) in omega arith;
+        versions = λ q x at. let a : version_number x.version ≤ n = within.versions q x (left e.documents uri q x at) in omega arith;
       }
 
-  ask_within : (uri : List ℕ) (ask : Ask) (d : Open) → Within (n + 1) (asks e uri ask d).editor
+  ask_within : (uri : List ℕ) (ask : Ask) (d : OpenDocument) → Within (n + 1) (asks e uri ask d).editor
   ask_within uri ask d =
       record {
         openings = let a : e.openings ≤ n = within.openings in omega arith;
         asks = longer e.requested _ within.asks;
-        versions = λ q x at. let a : counted x.version ≤ n = within.versions q x at in omega arith;
+        versions = λ q x at. let a : version_number x.version ≤ n = within.versions q x at in omega arith;
       }
     where
       longer : (xs : List SentAsk) (x : SentAsk) → length xs ≤ n → length (xs ++ x ∷ []) ≤ n + 1
@@ -81,28 +81,28 @@ module _ (n : ℕ) (e : Editor) (within : Within n e) where
   without : (k : ℕ) → Within n (without_answer e k)
   without k = record { openings = within.openings; asks = within.asks; versions = within.versions }
 
-  act_within : (act : Act) → Within (n + 1) (done_by e act).editor
+  act_within : (act : Act) → Within (n + 1) (act_result e act).editor
   act_within = of_each e (λ done. Within (n + 1) done.editor) (record {
     still = more n e within;
     opened = λ uri text none. open_within uri text;
     changed = λ uri d how text at made. rewritten_within n e uri d text how [] at within;
     closed = λ uri d at. close_within uri;
     asked = λ uri ask d at. ask_within uri ask d;
-    made = λ k edits a d text held numbered same makes. rewritten_within n (without_answer e k) a.uri d text (whole_text text ∷ []) (edit_of a.uri d text ∷ []) same.at (without k);
+    made = λ k edits a d text held numbered same makes. rewritten_within n (without_answer e k) a.uri d text (whole_text_change text ∷ []) (edit_of a.uri d text ∷ []) same.at (without k);
     dropped = λ k. more n (without_answer e k) (without k);
   })
 
-  read_within : (m : ToEditor) → Within (n + 1) (reads e m)
+  read_within : (m : MessageToEditor) → Within (n + 1) (reads e m)
   read_within (publishes uri version empty) = more n e within
   read_within (answers k []) = more n e within
   read_within (answers k (edit ∷ edits)) = let m : Within (n + 1) e = more n e within in record { openings = m.openings; asks = m.asks; versions = m.versions }
 
 module _ (n : ℕ) (w : ClientAndServer) (within : Within n w.editor) where
-  take_within : (queue : List ToEditor) → Within (n + 1) (after_taking w queue).editor
+  take_within : (queue : List MessageToEditor) → Within (n + 1) (after_editor_takes w queue).editor
   take_within [] = more n w.editor within
   take_within (m ∷ rest) = read_within n w.editor within m
 
-  same_editor : (queue : List ToServer) (new : ClientAndServer) → ServerTakes w queue new → new.editor ≡ w.editor
+  same_editor : (queue : List MessageToServer) (new : ClientAndServer) → ServerTakes w queue new → new.editor ≡ w.editor
   same_editor [] new h = ap (λ (x : ClientAndServer). x.editor) h
   same_editor (m ∷ rest) new (said, made, may, is) = ap (λ (x : ClientAndServer). x.editor) is
 

@@ -6,22 +6,22 @@
 use Rattle.std.proofs.Common.{◌≡◌, ◌∙◌, ℕ, ◌+◌, ◌<◌, List, [], ◌∷◌, ◌++◌, length, take, get_or, map, refl, sym, ap, subst, inl, inr}
 use Rattle.std.proofs.lemmas.List.{map-append, take_more, append-nil, append_assoc}
 use Rattle.ob0_text.specs.declared.position_types.Unit.{Unit}
-use Rattle.ob0_rpc.specs.declared.clients.Client.{Client}
+use Rattle.ob0_rpc.specs.declared.clients.ClientFeatures.{ClientFeatures}
 use Rattle.ob0_session_server.specs.Answers as server
 use Rattle.ob0_session_server.specs.Answers.{ServerState, begins, Conversation}
 use Rattle.ob0_world.proofs.Conversing.{conversation_then, answered_once}
-use Rattle.ob0_world_editor.specs.Beginning.{client_for}
+use Rattle.ob0_world_editor.specs.InitializeRequest.{client_for}
 use Rattle.ob0_world.specs.declared.events.Event as event
 use Rattle.ob0_world.specs.declared.faults.PlayFault.{PlayFault}
 use Rattle.ob0_world.specs.declared.played.Played as played
 use Rattle.ob0_world_rules.specs.ClientAndServer.{ClientAndServer, start}
 use Rattle.ob0_world_rules.specs.Happens.{Event, does, serve, take_message, Course}
 use Rattle.ob0_world_rules.specs.Headline.{Headline}
-use Rattle.ob0_world_rules.specs.MadeInOrder.{AreMadeInOrder}
-use Rattle.ob0_world_rules.proofs.ModelEditor.{in_every_interleaving, made_in_order}
-use Rattle.ob0_world_rules.proofs.OneCourse.{one_course}
-use Rattle.ob0_world.specs.Code.{event_of, all_applied, all_made}
-use Rattle.ob0_world.specs.Worlds.{Wire, Connection, Begins, TakesFirst, GetsFirst, WritesContent, MovesWire, ConnectionStep, ConnectionCourse, HasCome, HasPassed, Plays, PlaysBefore, SameHistory}
+use Rattle.ob0_world_rules.specs.PublicationsInOrder.{AreMadeInOrder}
+use Rattle.ob0_world_rules.proofs.ModelEditor.{holds_in_every_interleaving, publications_in_order}
+use Rattle.ob0_world_rules.proofs.CourseIsDetermined.{course_is_determined}
+use Rattle.ob0_world.specs.Code.{event_of, played_edits, played_publications}
+use Rattle.ob0_world.specs.Worlds.{Wire, Connection, Begins, SessionTakesFirst, EditorGetsFirst, WritesContent, MovesWire, ConnectionStep, ConnectionCourse, ResultsMatch, ContentsMatch, Plays, PlaysPrefix, SameHistory}
 
 -- ---- one event more
 
@@ -46,14 +46,14 @@ model_course begin (e ∷ events) end (between, step, rest) = (between.model, st
 pub Conversed : Wire → Type 0
 Conversed w = Conversation server.start w.taken (w.got ++ w.to_editor) w.session
 
-pub takes_conversed : (q : List (List ℕ)) (old new : Wire) → TakesFirst q old new → Conversed old → Conversed new
+pub takes_conversed : (q : List (List ℕ)) (old new : Wire) → SessionTakesFirst q old new → Conversed old → Conversed new
 unfolding Conversed
 takes_conversed [] old new is h = subst Conversed (sym is) h
 takes_conversed (content ∷ rest) old new (after, sent, answers, is) h =
     let more = conversation_then server.start old.taken (old.got ++ old.to_editor) old.session (content ∷ []) sent after h (answered_once old.session content sent after answers) in
     subst Conversed (sym is) (subst (λ x. Conversation server.start (old.taken ++ content ∷ []) x after) (append_assoc old.got old.to_editor sent) more)
 
-pub gets_conversed : (q : List (List ℕ)) (old new : Wire) → old.to_editor ≡ q → GetsFirst q old new → Conversed old → Conversed new
+pub gets_conversed : (q : List (List ℕ)) (old new : Wire) → old.to_editor ≡ q → EditorGetsFirst q old new → Conversed old → Conversed new
 unfolding Conversed
 gets_conversed [] old new waits is h = subst Conversed (sym is) h
 gets_conversed (content ∷ rest) old new waits is h =
@@ -68,7 +68,7 @@ pub written_conversed : (wire : Wire) (contents : List (List ℕ)) → Conversed
 unfolding Conversed
 written_conversed wire contents h = h
 
-pub initialized_conversed : (client : Client) (taken got : List (List ℕ)) → Conversation server.start taken got (begins client) → Conversed (record { session = begins client; taken = taken; to_server = []; got = got; to_editor = [] })
+pub initialized_conversed : (client : ClientFeatures) (taken got : List (List ℕ)) → Conversation server.start taken got (begins client) → Conversed (record { session = begins client; taken = taken; to_server = []; got = got; to_editor = [] })
 unfolding Conversed
 initialized_conversed client taken got h = subst (λ sent. Conversation server.start taken sent (begins client)) (sym (append-nil got)) h
 
@@ -93,27 +93,27 @@ course_conversed begin (e ∷ events) end (between, step, rest) h = course_conve
 
 -- ---- the results of a course
 
-headline : (unit : Unit) (events : List event.Event) (w : ClientAndServer) (p : played.Played) → Course (start unit) (map event_of events) w → HasCome w p → Headline unit (map event_of events) (all_applied p) (all_made p)
+headline : (unit : Unit) (events : List event.Event) (w : ClientAndServer) (p : played.Played) → Course (start unit) (map event_of events) w → ResultsMatch w p → Headline unit (map event_of events) (played_edits p) (played_publications p)
 headline unit events w p course come =
     record {
       end = w;
       course = course;
-      only = λ other also. one_course (start unit) (map event_of events) other w also course;
+      only = λ other also. course_is_determined (start unit) (map event_of events) other w also course;
       applied_are = come.0;
       made_are = come.1;
-      holds = in_every_interleaving unit (map event_of events) w course;
-      made_for = subst (AreMadeInOrder unit (map event_of events)) (sym come.1) (made_in_order unit (map event_of events) w course);
+      holds = holds_in_every_interleaving unit (map event_of events) w course;
+      publication_in_message = subst (AreMadeInOrder unit (map event_of events)) (sym come.1) (publications_in_order unit (map event_of events) w course);
     }
 
 course_begun : (unit : Unit) (begin : Connection) (events : List Event) (end : Connection) → Begins unit begin → ConnectionCourse begin events end → Course (start unit) events end.model
 course_begun unit begin events end begun course = subst (λ w. Course w events end.model) begun.model (model_course begin events end course)
 
-conversation_of : (w : Wire) (p : played.Played) → HasPassed w p → Conversed w → (after : ServerState) × Conversation server.start (map (λ v. v.items) p.taken.items) (map (λ v. v.items) p.got.items ++ map (λ v. v.items) p.unread.items) after
+conversation_of : (w : Wire) (p : played.Played) → ContentsMatch w p → Conversed w → (after : ServerState) × Conversation server.start (map (λ v. v.items) p.taken.items) (map (λ v. v.items) p.got.items ++ map (λ v. v.items) p.unread.items) after
 unfolding Conversed
 conversation_of w p passed h =
     (w.session, subst (λ (x : Wire). Conversation server.start x.taken (x.got ++ x.to_editor) w.session) (λ i. record w { taken = sym passed.0 i; got = sym passed.1 i; to_editor = sym passed.2 i }) h)
 
-pub plays : (unit : Unit) (events : List event.Event) (begin end : Connection) (p : played.Played) → Begins unit begin → ConnectionCourse begin (map event_of events) end → HasCome end.model p → HasPassed end.wire p → Plays unit events p
+pub plays : (unit : Unit) (events : List event.Event) (begin end : Connection) (p : played.Played) → Begins unit begin → ConnectionCourse begin (map event_of events) end → ResultsMatch end.model p → ContentsMatch end.wire p → Plays unit events p
 plays unit events begin end p begun course come passed =
     let talked = conversation_of end.wire p passed (course_conversed begin (map event_of events) end course (begins_conversed unit begin begun)) in
     record {
@@ -129,18 +129,18 @@ plays unit events begin end p begun course come passed =
     }
 
 -- If memory runs out before the first event, the code returns no results.
-pub plays_nothing : (unit : Unit) (events : List event.Event) (fault : PlayFault) → fault.steps ≡ 0 → all_applied fault.played ≡ [] → all_made fault.played ≡ [] → fault.played.taken.items ≡ [] → fault.played.got.items ≡ [] → fault.played.unread.items ≡ []
-    → PlaysBefore unit events fault
+pub plays_nothing : (unit : Unit) (events : List event.Event) (fault : PlayFault) → fault.steps ≡ 0 → played_edits fault.played ≡ [] → played_publications fault.played ≡ [] → fault.played.taken.items ≡ [] → fault.played.got.items ≡ [] → fault.played.unread.items ≡ []
+    → PlaysPrefix unit events fault
 plays_nothing unit events fault none applied made taken got unread = inr (record { none = none; headline = headline unit [] (start unit) fault.played refl (applied, made); taken = taken; got = got; unread = unread })
 
-pub come_before : (old new : Connection) (p : played.Played) → SameHistory old new → HasCome new.model p → HasCome old.model p
+pub come_before : (old new : Connection) (p : played.Played) → SameHistory old new → ResultsMatch new.model p → ResultsMatch old.model p
 come_before old new p same come = (come.0 ∙ same.applied, come.1 ∙ same.made)
 
-pub passed_before : (old new : Connection) (p : played.Played) → SameHistory old new → HasPassed new.wire p → HasPassed old.wire p
+pub passed_before : (old new : Connection) (p : played.Played) → SameHistory old new → ContentsMatch new.wire p → ContentsMatch old.wire p
 passed_before old new p same passed = (passed.0 ∙ same.taken, passed.1 ∙ same.got, passed.2 ∙ same.unread)
 
 -- If memory runs out at the event with this index, the code returns the results of the events before it.
-pub plays_before : (unit : Unit) (events : List event.Event) (i : ℕ) (begin w : Connection) (fault : PlayFault) → fault.steps ≡ i → i < length events → Begins unit begin → ConnectionCourse begin (map event_of (take i events)) w → HasCome w.model fault.played → HasPassed w.wire fault.played
-    → PlaysBefore unit events fault
+pub plays_before : (unit : Unit) (events : List event.Event) (i : ℕ) (begin w : Connection) (fault : PlayFault) → fault.steps ≡ i → i < length events → Begins unit begin → ConnectionCourse begin (map event_of (take i events)) w → ResultsMatch w.model fault.played → ContentsMatch w.wire fault.played
+    → PlaysPrefix unit events fault
 plays_before unit events i begin w fault counted within begun course come passed =
     inl (subst (λ n. (n < length events) × Plays unit (take n events) fault.played) (sym counted) (within, plays unit (take i events) begin w fault.played begun course come passed))

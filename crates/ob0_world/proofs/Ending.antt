@@ -5,7 +5,7 @@ use Rattle.serde_json.specs.Data.{Data, null}
 use Rattle.ob0_rpc.specs.Messages.{meaning_of}
 use Rattle.ob0_rpc.specs.Shapes.{result_message}
 use Rattle.ob0_session_server.specs.declared.session.Phase.TheVariants.{Running, ShutDown, Ended}
-use Rattle.ob0_session_server.specs.Answers.{ServerState, SaysReply, Sends, Reaction, react, react_to_request, react_to_notification, answer_method, end_status, ends, Answers, AnswersInState, AnswersGoingOn, Conversation}
+use Rattle.ob0_session_server.specs.Answers.{ServerState, AreContentsOfReply, Sends, Reaction, react, react_to_request, react_to_notification, react_to_method, end_status, react_to_exit, Answers, AnswersInPhase, AnswersBeforeEnd, Conversation}
 use Rattle.ob0_world.specs.Exchanges.{IsShutdown, IsExit, EndsSession}
 use Rattle.ob0_world.proofs.Answering.{going_on, reacts_so}
 
@@ -18,23 +18,23 @@ record IsShut (id : Data) (before : ServerState) (sent : List (List ℕ)) (after
 shuts : (id : Data) (before after : ServerState) (content : List ℕ) (sent : List (List ℕ)) → before.phase ≡ Running → IsShutdown id content → Answers before content sent after → IsShut id before sent after
 shuts id before after content sent running is h =
     let answer = reacts_so before after content sent is.json (going_on before after content sent running h) is.reads in
-    let so : react before (meaning_of is.json) ≡ answer_method before id (codes "shutdown") is.params =
+    let so : react before (meaning_of is.json) ≡ react_to_method before id (codes "shutdown") is.params =
     ap (react before) is.means ∙ ap (λ phase. react_to_request phase before id (codes "shutdown") is.params) running in
     let now : after ≡ record before { phase = ShutDown } = answer.0 ∙ ap (λ (x : Reaction). x.after) so in
     record {
-      answer = subst (λ (x : Reaction). SaysReply x.say sent) so answer.1;
+      answer = subst (λ (x : Reaction). AreContentsOfReply x.say sent) so answer.1;
       phase = ap (λ (s : ServerState). s.phase) now;
       held = ap (λ (s : ServerState). s.held) now;
     }
 
 exits : (before after : ServerState) (content : List ℕ) (sent : List (List ℕ)) → before.phase ≡ ShutDown → IsExit content → Answers before content sent after → (sent ≡ []) × (after ≡ record before { phase = Ended 0 })
 exits before after content sent shut is h =
-    let going : AnswersGoingOn before content sent after = subst (λ phase. AnswersInState phase before content sent after) shut h in
+    let going : AnswersBeforeEnd before content sent after = subst (λ phase. AnswersInPhase phase before content sent after) shut h in
     let answer = reacts_so before after content sent is.json going is.reads in
-    let so : react before (meaning_of is.json) ≡ ends before =
+    let so : react before (meaning_of is.json) ≡ react_to_exit before =
     ap (react before) is.means ∙ ap (λ phase. react_to_notification phase before (codes "exit") is.params) shut in
-    let now : after ≡ (ends before).after = answer.0 ∙ ap (λ (x : Reaction). x.after) so in
-    (subst (λ (x : Reaction). SaysReply x.say sent) so answer.1, now ∙ ap (λ status. record before { phase = Ended status }) (ap end_status shut))
+    let now : after ≡ (react_to_exit before).after = answer.0 ∙ ap (λ (x : Reaction). x.after) so in
+    (subst (λ (x : Reaction). AreContentsOfReply x.say sent) so answer.1, now ∙ ap (λ status. record before { phase = Ended status }) (ap end_status shut))
 
 pub ends_well : (id : Data) (before : ServerState) (shutdown exit : List ℕ) (sent : List (List ℕ)) (end : ServerState) → before.phase ≡ Running → IsShutdown id shutdown → IsExit exit → Conversation before (shutdown ∷ exit ∷ []) sent end → EndsSession id before sent end
 ends_well id before shutdown exit sent end running is_shutdown is_exit h =

@@ -12,33 +12,33 @@ use Rattle.ob0_rpc.specs.Requesting.{request_by_method}
 use Rattle.ob0_session_server.specs.Answers as server
 use Rattle.ob0_session_server.specs.Answers.{begins}
 use Rattle.ob0_session_server.specs.Units.{unit_for}
-use Rattle.ob0_world_editor.specs.Beginning.{client_for}
-use Rattle.ob0_world_editor.specs.Heard.{request_number, call_for, IsRequestWithId, SaysToServer}
-use Rattle.ob0_world_editor.specs.Shapes.{method_of, empty_at}
-use Rattle.ob0_world_editor.specs.Understood.{understood, read_so}
+use Rattle.ob0_world_editor.specs.InitializeRequest.{client_for}
+use Rattle.ob0_world_editor.specs.MessagesToServer.{request_number, client_request_for, IsRequestWithId, IsMessageToServer}
+use Rattle.ob0_world_editor.specs.Shapes.{method_of, empty_range_at}
+use Rattle.ob0_world_editor.specs.MessagesToEditor.{message_to_editor_in, message_to_editor_by}
 use Rattle.ob0_world_rules.specs.Asks.{Ask, rename, inline_here, inline_all, format}
-use Rattle.ob0_world_rules.specs.ClientAndServer.{SentAsk, Editor, request_numbered, ToServer, notifies, requests, ToEditor, publishes, answers, Applied, ClientAndServer, start}
-use Rattle.ob0_world_rules.specs.Editing.{Act, Done, stays, done_by, reads}
-use Rattle.ob0_world_rules.specs.Happens.{Event, does, serve, take_message, after_taking, ServerTakes}
+use Rattle.ob0_world_rules.specs.ClientAndServer.{SentAsk, Editor, request_numbered, MessageToServer, notifies, requests, MessageToEditor, publishes, answers, Applied, ClientAndServer, start}
+use Rattle.ob0_world_rules.specs.EditorActs.{Act, ActResult, unchanged_result, act_result, reads}
+use Rattle.ob0_world_rules.specs.Happens.{Event, does, serve, take_message, after_editor_takes, ServerTakes}
 use Rattle.ob0_world_rules.specs.EveryEditor.{Turn, editor_does, server_takes, editor_takes}
-use Rattle.ob0_world_rules.specs.MadeInOrder.{Announced, announced_in}
+use Rattle.ob0_world_rules.specs.PublicationsInOrder.{AnnouncedDocument, announced_in}
 use Rattle.ob0_world_rules.proofs.ModelEditor.{IsMove, act_may, knows_event}
-use Rattle.ob0_world.specs.Worlds.{Wire, Connection, TakesFirst, GetsFirst, MovesWire, AllSay, ConnectionStep, ConnectionCourse}
-use Rattle.ob0_world.specs.Exchanges.{SentId, number_id, sent_with, ask_with, NamesAsks, Exchange, BeginsExchange, IsActionsRequest, IsRequestFor, TakesActions, TakesEdits, SaysToSession, EachSays, read_by, reads_meaning, GetsOne, with_contents, ExchangeLeads, ACourseIsAnExchange}
+use Rattle.ob0_world.specs.Worlds.{Wire, Connection, SessionTakesFirst, EditorGetsFirst, MovesWire, AreMessagesToServer, ConnectionStep, ConnectionCourse}
+use Rattle.ob0_world.specs.Exchanges.{SentRequestId, number_id, ask_of_request_id, ask_number_by_id, AssignsAskIds, Exchange, BeginsExchange, IsActionsRequest, IsRequestFor, AcceptsActions, AcceptsEdits, IsMessageToSession, AreMessagesToSession, message_to_editor_by_ids, after_reading_if_any, EditorReadsFirst, with_contents, ExchangeCourse, ACourseIsAnExchange}
 use Rattle.ob0_world.proofs.Conversing.{answered_once}
 use Rattle.std.proofs.lemmas.Bool.{eqb-true, eqb-false}
 use Rattle.std.proofs.lemmas.Option.{same_Some, none-some}
-use Rattle.ob0_rpc.specs.declared.clients.Client.{Client}
-use Rattle.ob0_world_rules.proofs.Acts.{of_each}
+use Rattle.ob0_rpc.specs.declared.clients.ClientFeatures.{ClientFeatures}
+use Rattle.ob0_world_rules.proofs.PerformsAct.{of_each}
 use Rattle.ob0_world_rules.proofs.SameDocument.{Knows, knows_first}
-use Rattle.ob0_world.specs.Queues.{IsRunning}
+use Rattle.ob0_world.specs.Queues.{RunsWithEditor}
 use Rattle.ob0_world.proofs.Answering.{served, runs_on}
 use Rattle.ob0_world.proofs.Waiting.{read_still}
 
 -- ---- the ids of the model's editor
 
 -- returns the ids of asks that have their numbers as ids; the first has this number
-abbrev ids_from : ℕ → List SentAsk → List SentId
+abbrev ids_from : ℕ → List SentAsk → List SentRequestId
 ids_from n [] = []
 ids_from n (a ∷ list) = record { id = number_id n; ask = Some n } ∷ ids_from (suc n) list
 
@@ -48,22 +48,22 @@ ids_push (b ∷ list) n a =
     ap (λ ids. record { id = number_id n; ask = Some n } ∷ ids)
     (ids_push list (suc n) a ∙ ap (λ m. ids_from (suc n) list ++ record { id = number_id m; ask = Some m } ∷ []) (omega arith))
 
-no_id : (list : List SentAsk) (n m : ℕ) → n + length list ≤ m → sent_with (ids_from n list) (number_id m) ≡ None
+no_id : (list : List SentAsk) (n m : ℕ) → n + length list ≤ m → ask_of_request_id (ids_from n list) (number_id m) ≡ None
 no_id [] n m h = refl
 no_id (a ∷ list) n m h = go (n == m) refl (no_id list (suc n) m (omega (arith, h)))
   where
-    go : (b : Bool) → (n == m) ≡ b → sent_with (ids_from (suc n) list) (number_id m) ≡ None → cond b (Some (Some n)) (sent_with (ids_from (suc n) list) (number_id m)) ≡ None
+    go : (b : Bool) → (n == m) ≡ b → ask_of_request_id (ids_from (suc n) list) (number_id m) ≡ None → cond b (Some (Some n)) (ask_of_request_id (ids_from (suc n) list) (number_id m)) ≡ None
     go true is later = let same : n ≡ m = eqb-true n m is in absurd (omega (arith, same, h))
     go false is later = later
 
-has_id : (list : List SentAsk) (n i : ℕ) (a : SentAsk) → slice_get list i ≡ Some a → sent_with (ids_from n list) (number_id (n + i)) ≡ Some (Some (n + i))
+has_id : (list : List SentAsk) (n i : ℕ) (a : SentAsk) → slice_get list i ≡ Some a → ask_of_request_id (ids_from n list) (number_id (n + i)) ≡ Some (Some (n + i))
 has_id [] n i a h = absurd (none-some a h)
 has_id (b ∷ list) n zero a h = go (n == n + zero) refl
   where
     here : n ≡ n + zero
     here = omega arith
 
-    go : (b : Bool) → (n == n + zero) ≡ b → cond b (Some (Some n)) (sent_with (ids_from (suc n) list) (number_id (n + zero))) ≡ Some (Some (n + zero))
+    go : (b : Bool) → (n == n + zero) ≡ b → cond b (Some (Some n)) (ask_of_request_id (ids_from (suc n) list) (number_id (n + zero))) ≡ Some (Some (n + zero))
     go true is = ap (λ m. Some (Some m)) here
     go false is = absurd (eqb-false n (n + zero) is here)
 has_id (b ∷ list) n (suc i) a h = go (n == n + suc i) refl (has_id list (suc n) i a h)
@@ -71,20 +71,20 @@ has_id (b ∷ list) n (suc i) a h = go (n == n + suc i) refl (has_id list (suc n
     on : suc n + i ≡ n + suc i
     on = omega arith
 
-    go : (b : Bool) → (n == n + suc i) ≡ b → sent_with (ids_from (suc n) list) (number_id (suc n + i)) ≡ Some (Some (suc n + i)) → cond b (Some (Some n)) (sent_with (ids_from (suc n) list) (number_id (n + suc i))) ≡ Some (Some (n + suc i))
+    go : (b : Bool) → (n == n + suc i) ≡ b → ask_of_request_id (ids_from (suc n) list) (number_id (suc n + i)) ≡ Some (Some (suc n + i)) → cond b (Some (Some n)) (ask_of_request_id (ids_from (suc n) list) (number_id (n + suc i))) ≡ Some (Some (n + suc i))
     go true is later = let same : n ≡ n + suc i = eqb-true n (n + suc i) is in absurd (omega (arith, same))
-    go false is later = subst (λ m. sent_with (ids_from (suc n) list) (number_id m) ≡ Some (Some m)) on later
+    go false is later = subst (λ m. ask_of_request_id (ids_from (suc n) list) (number_id m) ≡ Some (Some m)) on later
 
 -- The number of an ask is its id.
-numbered_so : (requested : List SentAsk) (k : ℕ) (a : SentAsk) → request_numbered requested k ≡ Some a → ask_with (ids_from 1 requested) (number (unsigned k)) ≡ Some k
+numbered_so : (requested : List SentAsk) (k : ℕ) (a : SentAsk) → request_numbered requested k ≡ Some a → ask_number_by_id (ids_from 1 requested) (number (unsigned k)) ≡ Some k
 numbered_so requested zero a h = absurd (none-some a h)
-numbered_so requested (suc k) a h = ap (option_and_then (λ ask. ask)) (subst (λ m. sent_with (ids_from 1 requested) (number_id m) ≡ Some (Some m)) (omega arith) (has_id requested 1 k a h))
+numbered_so requested (suc k) a h = ap (option_and_then (λ ask. ask)) (subst (λ m. ask_of_request_id (ids_from 1 requested) (number_id m) ≡ Some (Some m)) (omega arith) (has_id requested 1 k a h))
 
 -- A JSON number that is the number of an ask is read as that ask's id.
-named_so : (requested : List SentAsk) (d : Data) (k : ℕ) (a : SentAsk) → request_numbered requested k ≡ Some a → request_number d ≡ Some k → ask_with (ids_from 1 requested) d ≡ Some k
+named_so : (requested : List SentAsk) (d : Data) (k : ℕ) (a : SentAsk) → request_numbered requested k ≡ Some a → request_number d ≡ Some k → ask_number_by_id (ids_from 1 requested) d ≡ Some k
 named_so requested (number (unsigned n)) k a h is =
     let same : n ≡ k = same_Some n k is in
-    subst (λ j. ask_with (ids_from 1 requested) (number (unsigned n)) ≡ Some j) same (numbered_so requested n a (subst (λ j. request_numbered requested j ≡ Some a) (sym same) h))
+    subst (λ j. ask_number_by_id (ids_from 1 requested) (number (unsigned n)) ≡ Some j) same (numbered_so requested n a (subst (λ j. request_numbered requested j ≡ Some a) (sym same) h))
 named_so requested (number (negative z)) k a h is = absurd (none-some k is)
 named_so requested (number (float x)) k a h is = absurd (none-some k is)
 named_so requested null k a h is = absurd (none-some k is)
@@ -96,27 +96,27 @@ named_so requested (object ms) k a h is = absurd (none-some k is)
 -- states that some turns may lead from x to this editor, this wire and these applied edits
 record ComesTo (x : Exchange) (editor : Editor) (wire : Wire) (applied : List Applied) : Type 0 where
   turns : List Turn
-  announced : List Announced
-  leads : ExchangeLeads x turns (record { editor = editor; ids = ids_from 1 editor.requested; wire = wire; announced = announced; applied = applied })
+  announced : List AnnouncedDocument
+  leads : ExchangeCourse x turns (record { editor = editor; ids = ids_from 1 editor.requested; wire = wire; announced = announced; applied = applied })
 
-abbrev exchange_of : Connection → List Announced → Exchange
+abbrev exchange_of : Connection → List AnnouncedDocument → Exchange
 exchange_of c announced = record { editor = c.model.editor; ids = ids_from 1 c.model.editor.requested; wire = c.wire; announced = announced; applied = c.model.applied }
 
 -- ---- what the editor writes
 
-none_said : (requested : List SentAsk) (contents : List (List ℕ)) → AllSay requested [] contents → contents ≡ []
+none_said : (requested : List SentAsk) (contents : List (List ℕ)) → AreMessagesToServer requested [] contents → contents ≡ []
 none_said requested [] h = refl
 none_said requested (c ∷ contents) h = absurd h
 
 -- If all contents say all messages, the last contents say the last messages.
-last_say : (requested now : List SentAsk) (messages more : List ToServer) (contents others : List (List ℕ)) → AllSay requested messages contents → AllSay now (messages ++ more) (contents ++ others) → AllSay now more others
+last_say : (requested now : List SentAsk) (messages more : List MessageToServer) (contents others : List (List ℕ)) → AreMessagesToServer requested messages contents → AreMessagesToServer now (messages ++ more) (contents ++ others) → AreMessagesToServer now more others
 last_say requested now [] more [] others h k = k
 last_say requested now (m ∷ messages) more (c ∷ contents) others h k = last_say requested now messages more contents others h.1 k.1
 last_say requested now [] more (c ∷ contents) others h k = absurd h
 last_say requested now (m ∷ messages) more [] others h k = absurd h
 
 -- An ask to inline sends a request for the actions at an empty range, of all kinds.
-inline_said : (id : Data) (uri : List ℕ) (position : Position) (ask : Ask) (content : List ℕ) → method_of ask ≡ codes "textDocument/codeAction" → call_for uri ask ≡ asked.code_action uri (empty_at position) None → IsRequestWithId id uri ask content
+inline_said : (id : Data) (uri : List ℕ) (position : Position) (ask : Ask) (content : List ℕ) → method_of ask ≡ codes "textDocument/codeAction" → client_request_for uri ask ≡ asked.code_action uri (empty_range_at position) None → IsRequestWithId id uri ask content
     → IsActionsRequest id uri position content
 inline_said id uri position ask content method call is =
     record {
@@ -124,7 +124,7 @@ inline_said id uri position ask content method call is =
       reads = is.reads;
       params = is.params;
       means = is.means ∙ ap (λ m. request id m is.params) method;
-      range = empty_at position;
+      range = empty_range_at position;
       only = None;
       calls = sym (ap (λ m. request_by_method m is.params) method) ∙ is.calls ∙ ap Ok call;
       from = refl;
@@ -138,28 +138,28 @@ request_said id uri (inline_here position) content is = inline_said id uri posit
 request_said id uri (inline_all position) content is = inline_said id uri position (inline_all position) content refl refl is
 request_said id uri (format indent) content is = is
 
-module _ (client : Client) (takes : TakesActions client) where
-  takes_ask : (ask : Ask) → TakesEdits client ask
+module _ (client : ClientFeatures) (takes : AcceptsActions client) where
+  takes_ask : (ask : Ask) → AcceptsEdits client ask
   takes_ask (rename position name) = tt
   takes_ask (inline_here position) = takes
   takes_ask (inline_all position) = takes
   takes_ask (format indent) = tt
 
-  session_said : (requested : List SentAsk) (m : ToServer) (content : List ℕ) → SaysToServer requested m content → SaysToSession client (ids_from 1 requested) requested m content
+  session_said : (requested : List SentAsk) (m : MessageToServer) (content : List ℕ) → IsMessageToServer requested m content → IsMessageToSession client (ids_from 1 requested) requested m content
   session_said requested (notifies note) content h = h
   session_said requested (requests k uri ask) content (is, of) =
       (number (unsigned k), request_said (number (unsigned k)) uri ask content is, record { numbered = numbered_so requested k of.sent of.is; is = of }, takes_ask ask)
 
-  each_says : (requested : List SentAsk) (messages : List ToServer) (contents : List (List ℕ)) → AllSay requested messages contents → EachSays client (ids_from 1 requested) requested (map Some messages) contents
+  each_says : (requested : List SentAsk) (messages : List MessageToServer) (contents : List (List ℕ)) → AreMessagesToServer requested messages contents → AreMessagesToSession client (ids_from 1 requested) requested (map Some messages) contents
   each_says requested [] [] h = tt
   each_says requested (m ∷ messages) (c ∷ contents) h = (session_said requested m c h.0, each_says requested messages contents h.1)
   each_says requested [] (c ∷ contents) h = absurd h
   each_says requested (m ∷ messages) [] h = absurd h
 
 -- The asks that an act sends have their numbers as ids.
-sent_names : (e : Editor) (act : Act) → NamesAsks (ids_from 1 e.requested) (done_by e act).sent (ids_from 1 (done_by e act).editor.requested)
+sent_names : (e : Editor) (act : Act) → AssignsAskIds (ids_from 1 e.requested) (act_result e act).sent (ids_from 1 (act_result e act).editor.requested)
 sent_names e act =
-    of_each e (λ done. NamesAsks (ids_from 1 e.requested) done.sent (ids_from 1 done.editor.requested))
+    of_each e (λ done. AssignsAskIds (ids_from 1 e.requested) done.sent (ids_from 1 done.editor.requested))
     (record {
       still = refl;
       opened = λ uri text none. refl;
@@ -179,24 +179,24 @@ sent_names e act =
 
 -- states that a connection's contents are its messages, its session runs, and its editor knows its asks
 record Goes (c : Connection) : Type 0 where
-  says : AllSay c.model.editor.requested c.model.to_server c.wire.to_server
-  means : map (understood c.model.editor.requested) c.wire.to_editor ≡ map Some c.model.to_editor
-  running : IsRunning c.wire.session
+  says : AreMessagesToServer c.model.editor.requested c.model.to_server c.wire.to_server
+  means : map (message_to_editor_in c.model.editor.requested) c.wire.to_editor ≡ map Some c.model.to_editor
+  running : RunsWithEditor c.wire.session
   knows : Knows c.model.editor
 
-taken_running : (requested : List SentAsk) (q : List ToServer) (contents : List (List ℕ)) (old new : Wire) → AllSay requested q contents → TakesFirst contents old new → IsRunning old.session → IsRunning new.session
-taken_running requested [] [] old new says is running = subst (λ (v : Wire). IsRunning v.session) (sym is) running
+taken_running : (requested : List SentAsk) (q : List MessageToServer) (contents : List (List ℕ)) (old new : Wire) → AreMessagesToServer requested q contents → SessionTakesFirst contents old new → RunsWithEditor old.session → RunsWithEditor new.session
+taken_running requested [] [] old new says is running = subst (λ (v : Wire). RunsWithEditor v.session) (sym is) running
 taken_running requested (m ∷ q) (c ∷ rest) old new says (after, sent, answer, is) running =
-    subst (λ (v : Wire). IsRunning v.session) (sym is) (runs_on requested m old.session after sent running (served requested m old.session after c sent running says.0 answer))
+    subst (λ (v : Wire). RunsWithEditor v.session) (sym is) (runs_on requested m old.session after sent running (served requested m old.session after c sent running says.0 answer))
 taken_running requested [] (c ∷ rest) old new says takes running = absurd says
 taken_running requested (m ∷ q) [] old new says takes running = absurd says
 
-got_running : (contents : List (List ℕ)) (old new : Wire) → GetsFirst contents old new → IsRunning old.session → IsRunning new.session
-got_running [] old new is running = subst (λ (v : Wire). IsRunning v.session) (sym is) running
-got_running (c ∷ rest) old new is running = subst (λ (v : Wire). IsRunning v.session) (sym is) running
+got_running : (contents : List (List ℕ)) (old new : Wire) → EditorGetsFirst contents old new → RunsWithEditor old.session → RunsWithEditor new.session
+got_running [] old new is running = subst (λ (v : Wire). RunsWithEditor v.session) (sym is) running
+got_running (c ∷ rest) old new is running = subst (λ (v : Wire). RunsWithEditor v.session) (sym is) running
 
-event_running : (event : Event) (old new : Connection) → Goes old → MovesWire event old.wire new.wire → IsRunning new.wire.session
-event_running (does act) old new goes (content, is) = subst (λ (v : Wire). IsRunning v.session) (sym is) goes.running
+event_running : (event : Event) (old new : Connection) → Goes old → MovesWire event old.wire new.wire → RunsWithEditor new.wire.session
+event_running (does act) old new goes (content, is) = subst (λ (v : Wire). RunsWithEditor v.session) (sym is) goes.running
 event_running serve old new goes takes = taken_running old.model.editor.requested old.model.to_server old.wire.to_server old.wire new.wire goes.says takes goes.running
 event_running take_message old new goes gets = got_running old.wire.to_editor old.wire new.wire gets goes.running
 
@@ -206,13 +206,13 @@ event_goes event old new goes step =
 
 -- ---- each event
 
-module _ (c : Connection) (announced : List Announced) (goes : Goes c) where
+module _ (c : Connection) (announced : List AnnouncedDocument) (goes : Goes c) where
   abbrev Comes : Editor → Wire → List Applied → Type 0
   Comes editor wire applied = ComesTo (exchange_of c announced) editor wire applied
 
-  still : (contents : List (List ℕ)) (done : Done) → done ≡ stays c.model.editor → AllSay done.editor.requested done.sent contents → Comes done.editor (with_contents c.wire contents) (c.model.applied ++ done.applied)
+  still : (contents : List (List ℕ)) (done : ActResult) → done ≡ unchanged_result c.model.editor → AreMessagesToServer done.editor.requested done.sent contents → Comes done.editor (with_contents c.wire contents) (c.model.applied ++ done.applied)
   still contents done is says =
-      let none : contents ≡ [] = none_said c.model.editor.requested contents (subst (λ (d : Done). AllSay d.editor.requested d.sent contents) is says) in
+      let none : contents ≡ [] = none_said c.model.editor.requested contents (subst (λ (d : ActResult). AreMessagesToServer d.editor.requested d.sent contents) is says) in
       record {
         turns = [];
         announced = announced;
@@ -220,21 +220,21 @@ module _ (c : Connection) (announced : List Announced) (goes : Goes c) where
           editor = (is i).editor;
           ids = ids_from 1 (is i).editor.requested;
           wire = record c.wire { to_server = (ap (λ cs. c.wire.to_server ++ cs) none ∙ append-nil c.wire.to_server) i };
-          applied = (ap (λ (d : Done). c.model.applied ++ d.applied) is ∙ append-nil c.model.applied) i;
+          applied = (ap (λ (d : ActResult). c.model.applied ++ d.applied) is ∙ append-nil c.model.applied) i;
         };
       }
 
-  act_comes : (contents : List (List ℕ)) (act : Act) → AllSay (done_by c.model.editor act).editor.requested (done_by c.model.editor act).sent contents
-      → Comes (done_by c.model.editor act).editor (with_contents c.wire contents) (c.model.applied ++ (done_by c.model.editor act).applied)
+  act_comes : (contents : List (List ℕ)) (act : Act) → AreMessagesToServer (act_result c.model.editor act).editor.requested (act_result c.model.editor act).sent contents
+      → Comes (act_result c.model.editor act).editor (with_contents c.wire contents) (c.model.applied ++ (act_result c.model.editor act).applied)
   act_comes contents act say = go (act_may c.model.editor act goes.knows)
     where
-      go : IsMove c.model.editor (done_by c.model.editor act)
-          → Comes (done_by c.model.editor act).editor (with_contents c.wire contents) (c.model.applied ++ (done_by c.model.editor act).applied)
-      go (inl is) = still contents (done_by c.model.editor act) is say
+      go : IsMove c.model.editor (act_result c.model.editor act)
+          → Comes (act_result c.model.editor act).editor (with_contents c.wire contents) (c.model.applied ++ (act_result c.model.editor act).applied)
+      go (inl is) = still contents (act_result c.model.editor act) is say
       go (inr (move, may)) =
-          let done : Done = done_by c.model.editor act in
-          let more : List Announced = announced_in done.editor done.sent in
-          let ids : List SentId = ids_from 1 done.editor.requested in
+          let done : ActResult = act_result c.model.editor act in
+          let more : List AnnouncedDocument = announced_in done.editor done.sent in
+          let ids : List SentRequestId = ids_from 1 done.editor.requested in
           let y : Exchange = record { editor = done.editor; ids = ids; wire = with_contents c.wire contents; announced = announced ++ more; applied = c.model.applied ++ done.applied } in
           record {
             turns = editor_does move ∷ [];
@@ -255,46 +255,46 @@ module _ (c : Connection) (announced : List Announced) (goes : Goes c) where
             );
           }
 
-serve_same : (w : ClientAndServer) (queue : List ToServer) (new : ClientAndServer) → ServerTakes w queue new → (new.editor ≡ w.editor) × (new.applied ≡ w.applied)
+serve_same : (w : ClientAndServer) (queue : List MessageToServer) (new : ClientAndServer) → ServerTakes w queue new → (new.editor ≡ w.editor) × (new.applied ≡ w.applied)
 serve_same w [] new is = (ap (λ (v : ClientAndServer). v.editor) is, ap (λ (v : ClientAndServer). v.applied) is)
 serve_same w (m ∷ rest) new (said, made, replies, is) = (ap (λ (v : ClientAndServer). v.editor) is, ap (λ (v : ClientAndServer). v.applied) is)
 
-reads_asks : (e : Editor) (m : ToEditor) → (reads e m).requested ≡ e.requested
+reads_asks : (e : Editor) (m : MessageToEditor) → (reads e m).requested ≡ e.requested
 reads_asks e (publishes uri version empty) = refl
 reads_asks e (answers k []) = refl
 reads_asks e (answers k (edit ∷ edits)) = refl
 
 -- An answer is read the same if the ids of asks are their numbers.
-read_so_too : (requested : List SentAsk) (content : List ℕ) (m : ToEditor) → understood requested content ≡ Some m → read_by (ids_from 1 requested) requested content ≡ Some m
-read_so_too requested content m h = subst (λ asks. read_so (ask_with (ids_from 1 requested)) asks content ≡ Some m) (append-nil requested) (read_still request_number (ask_with (ids_from 1 requested)) requested [] (named_so requested) content m h)
+read_so_too : (requested : List SentAsk) (content : List ℕ) (m : MessageToEditor) → message_to_editor_in requested content ≡ Some m → message_to_editor_by_ids (ids_from 1 requested) requested content ≡ Some m
+read_so_too requested content m h = subst (λ asks. message_to_editor_by (ask_number_by_id (ids_from 1 requested)) asks content ≡ Some m) (append-nil requested) (read_still request_number (ask_number_by_id (ids_from 1 requested)) requested [] (named_so requested) content m h)
 
-take_comes : (c : Connection) (announced : List Announced) (wire : Wire) (queue : List ToEditor) (contents : List (List ℕ)) → c.wire.to_editor ≡ contents
-    → map (understood c.model.editor.requested) contents ≡ map Some queue → GetsFirst contents c.wire wire
-    → ComesTo (exchange_of c announced) (after_taking c.model queue).editor wire (after_taking c.model queue).applied
+take_comes : (c : Connection) (announced : List AnnouncedDocument) (wire : Wire) (queue : List MessageToEditor) (contents : List (List ℕ)) → c.wire.to_editor ≡ contents
+    → map (message_to_editor_in c.model.editor.requested) contents ≡ map Some queue → EditorGetsFirst contents c.wire wire
+    → ComesTo (exchange_of c announced) (after_editor_takes c.model queue).editor wire (after_editor_takes c.model queue).applied
 take_comes c announced wire [] [] waits means is = record { turns = []; announced = announced; leads = λ i. record (exchange_of c announced) { wire = is i } }
 take_comes c announced wire (m ∷ queue) (content ∷ rest) waits means is =
     let e : Editor = c.model.editor in
-    let first : understood e.requested content ≡ Some m = ap (λ os. get_or os 0 None) means in
-    let so : read_by (ids_from 1 e.requested) e.requested content ≡ Some m = read_so_too e.requested content m first in
+    let first : message_to_editor_in e.requested content ≡ Some m = ap (λ os. get_or os 0 None) means in
+    let so : message_to_editor_by_ids (ids_from 1 e.requested) e.requested content ≡ Some m = read_so_too e.requested content m first in
     let x : Exchange = exchange_of c announced in
     let y : Exchange = record { editor = reads e m; ids = ids_from 1 (reads e m).requested; wire = wire; announced = announced; applied = c.model.applied } in
-    let gets : GetsOne (content ∷ rest) x y = λ i. record x { editor = reads_meaning x.editor (sym so i); ids = ids_from 1 (reads_asks e m i); wire = is i } in
+    let gets : EditorReadsFirst (content ∷ rest) x y = λ i. record x { editor = after_reading_if_any x.editor (sym so i); ids = ids_from 1 (reads_asks e m i); wire = is i } in
     record {
       turns = editor_takes ∷ [];
       announced = announced;
-      leads = (y, subst (λ cs. GetsOne cs x y) (sym waits) gets, refl);
+      leads = (y, subst (λ cs. EditorReadsFirst cs x y) (sym waits) gets, refl);
     }
 take_comes c announced wire [] (content ∷ rest) waits means is = absurd (cc)
 take_comes c announced wire (m ∷ queue) [] waits means is = absurd (cc)
 
-event_comes : (event : Event) (old new : Connection) (announced : List Announced) → Goes old → ConnectionStep old event new → ComesTo (exchange_of old announced) new.model.editor new.wire new.model.applied
+event_comes : (event : Event) (old new : Connection) (announced : List AnnouncedDocument) → Goes old → ConnectionStep old event new → ComesTo (exchange_of old announced) new.model.editor new.wire new.model.applied
 event_comes (does act) old new announced goes step =
     let (content, is) = step.moves in
-    let done : Done = done_by old.model.editor act in
+    let done : ActResult = act_result old.model.editor act in
     let contents : List (List ℕ) = option_to_list content in
-    let all : AllSay done.editor.requested (old.model.to_server ++ done.sent) (old.wire.to_server ++ contents) =
-    subst (λ (v : Wire). AllSay done.editor.requested (old.model.to_server ++ done.sent) v.to_server) is
-    (subst (λ (w : ClientAndServer). AllSay w.editor.requested w.to_server new.wire.to_server) step.happens step.tied.says) in
+    let all : AreMessagesToServer done.editor.requested (old.model.to_server ++ done.sent) (old.wire.to_server ++ contents) =
+    subst (λ (v : Wire). AreMessagesToServer done.editor.requested (old.model.to_server ++ done.sent) v.to_server) is
+    (subst (λ (w : ClientAndServer). AreMessagesToServer w.editor.requested w.to_server new.wire.to_server) step.happens step.tied.says) in
     subst (λ (w : ClientAndServer). ComesTo (exchange_of old announced) w.editor new.wire w.applied) (sym step.happens)
     (subst (λ v. ComesTo (exchange_of old announced) done.editor v (old.model.applied ++ done.applied)) (sym is)
     (act_comes old announced goes contents act (last_say old.model.editor.requested done.editor.requested old.model.to_server done.sent old.wire.to_server contents goes.says all)))
@@ -312,11 +312,11 @@ event_comes take_message old new announced goes step =
 
 -- ---- all events
 
-leads_append : (turns more : List Turn) (x between y : Exchange) → ExchangeLeads x turns between → ExchangeLeads between more y → ExchangeLeads x (turns ++ more) y
-leads_append [] more x between y is leads = subst (λ v. ExchangeLeads v more y) is leads
+leads_append : (turns more : List Turn) (x between y : Exchange) → ExchangeCourse x turns between → ExchangeCourse between more y → ExchangeCourse x (turns ++ more) y
+leads_append [] more x between y is leads = subst (λ v. ExchangeCourse v more y) is leads
 leads_append (turn ∷ turns) more x between y (mid, exchanges, rest) leads = (mid, exchanges, leads_append turns more mid between y rest leads)
 
-course_comes : (events : List Event) (begin end : Connection) (announced : List Announced) → Goes begin → ConnectionCourse begin events end → ComesTo (exchange_of begin announced) end.model.editor end.wire end.model.applied
+course_comes : (events : List Event) (begin end : Connection) (announced : List AnnouncedDocument) → Goes begin → ConnectionCourse begin events end → ComesTo (exchange_of begin announced) end.model.editor end.wire end.model.applied
 course_comes [] begin end announced goes is = record { turns = []; announced = announced; leads = ap (λ c. exchange_of c announced) is }
 course_comes (event ∷ events) begin end announced goes (between, step, rest) =
     let first : ComesTo (exchange_of begin announced) between.model.editor between.wire between.model.applied = event_comes event begin between announced goes step in

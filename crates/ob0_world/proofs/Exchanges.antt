@@ -13,83 +13,83 @@ use Rattle.ob0_text.specs.RefusalTexts.{refusal_text}
 use Rattle.ob0_text.specs.declared.edits.Indent.{Indent}
 use Rattle.ob0_text.specs.declared.refusals.EditRefusal.TheVariants.{TooLong}
 use Rattle.ob0_text.specs.declared.position_types.Unit.{Unit}
-use Rattle.ob0_text.specs.OpenDocuments.{OpenDocuments, Document, InStep, OutOfStep, Opened, Changed, Lost, Closed, after_event, none_open, document_at}
+use Rattle.ob0_text.specs.OpenDocuments.{OpenDocuments, Document, InStep, OutOfStep, Opened, Changed, Lost, Closed, after_event, no_open_documents, document_at}
 use Rattle.ob0_rpc.specs.declared.incoming.RpcFault.{RpcFault}
 use Rattle.ob0_rpc.specs.declared.incoming.RpcFault.TheVariants.{NotAMessage}
 use Rattle.ob0_rpc.specs.Faults.{minus, error_code, error_text}
 use Rattle.ob0_rpc.specs.Messages.{ReadsContent, MessageMeaning, not_json, not_a_message, response, request, notice, meaning_of}
 use Rattle.ob0_rpc.specs.Notifications.{other}
 use Rattle.ob0_rpc.specs.Requesting as asked
-use Rattle.ob0_rpc.specs.Requesting.{At, ClientRequest, request_by_method}
+use Rattle.ob0_rpc.specs.Requesting.{DocumentPlace, ClientRequest, request_by_method}
 use Rattle.ob0_rpc.specs.Shapes.{result_message, error_message}
 use Rattle.ob0_session_answers.specs.Questions.{NameQuestion, hover_asked, definition_asked, references_asked, renaming_asked}
 use Rattle.ob0_session_answers.specs.Actions.{RequestedActions}
 use Rattle.ob0_session_json.specs.Shapes.{edits_value, workspace_edit}
-use Rattle.ob0_session_server.specs.Answers.{ServerState, Reply, SaysReply, Sends, Reaction, react, react_to_request, react_to_notification, apply_notification, answer_request, answer_method, answers_about, answers_name, requests_name, renames, offers_actions, lays_out, refuses, Answers}
-use Rattle.ob0_world_editor.specs.Heard.{request_number, request_read, notification_read, message_read, heard}
-use Rattle.ob0_world_editor.specs.Understood.{understood, notice_understood, answer_read, value_read, read_so, answer_to, edits_for}
+use Rattle.ob0_session_server.specs.Answers.{ServerState, Reply, AreContentsOfReply, Sends, Reaction, react, react_to_request, react_to_notification, apply_notification, react_to_known_request, react_to_method, react_about_document, answers_name, react_to_question, renames, offers_actions, lays_out, react_with_error, Answers}
+use Rattle.ob0_world_editor.specs.MessagesToServer.{request_number, sent_request, message_of_notification, message_to_server_of, message_to_server_in}
+use Rattle.ob0_world_editor.specs.MessagesToEditor.{message_to_editor_in, publication_of_notification, answer_of_response, message_to_editor_of, message_to_editor_by, answer_to, edits_for}
 use Rattle.ob0_world_editor.proofs.Hearing.{said, says_heard, read_as}
 use Rattle.ob0_world_rules.specs.Asks.{Ask, rename, inline_here, inline_all, format}
-use Rattle.ob0_world_rules.specs.ClientAndServer.{Open, SentAsk, Editor, request_numbered, ToServer, notifies, requests, ToEditor, publishes, answers, Made, after_message}
-use Rattle.ob0_world_rules.specs.Editing.{Done, reads, without_answer}
-use Rattle.ob0_world_rules.specs.Editors.{Revision, Move, to_open, to_revise, to_close, to_ask, to_apply, to_drop, revised, with_document, Revises, May}
-use Rattle.ob0_world_rules.specs.EveryEditor.{EditorAndServer, nothing_yet, without_others, notes_among, Turn, editor_does, editor_says, server_takes, editor_takes, MayHappen, MayLead, HoldsWithEditor}
-use Rattle.ob0_world_rules.specs.Answers.{Here, Everywhere, IsEmptyIfCorrect}
+use Rattle.ob0_world_rules.specs.ClientAndServer.{OpenDocument, SentAsk, Editor, request_numbered, MessageToServer, notifies, requests, MessageToEditor, publishes, answers, Made, after_message}
+use Rattle.ob0_world_rules.specs.EditorActs.{ActResult, reads, without_answer}
+use Rattle.ob0_world_rules.specs.Editors.{Revision, Move, to_open, to_revise, to_close, to_ask, to_apply, to_drop, revised_document, with_document, Revises, IsAllowedMove}
+use Rattle.ob0_world_rules.specs.EveryEditor.{EditorAndServer, initial_editor_and_server, modeled_messages, notifications_among, Turn, editor_does, editor_says, server_takes, editor_takes, MayHappen, MayLeadTo, HoldsWithEditor}
+use Rattle.ob0_world_rules.specs.Answers.{Here, Everywhere, IsEmptyIfWellTyped}
 use Rattle.ob0_world_rules.specs.Serving.{Publishes, Replies}
-use Rattle.ob0_world_rules.specs.Headline.{IsRight, last_publication}
-use Rattle.ob0_world_rules.specs.MadeInOrder.{Announced, AreMadeOf, versions_announced, named_in}
+use Rattle.ob0_world_rules.specs.Headline.{IsCorrectPublication, last_publication}
+use Rattle.ob0_world_rules.specs.PublicationsInOrder.{AnnouncedDocument, AreMadeForDocuments, versions_announced_by, versions_announced_in}
 use Rattle.ob0_world_rules.proofs.UriLaws.{mapped_choice}
-use Rattle.ob0_world_rules.proofs.EveryEditor.{with_every_editor}
-use Rattle.ob0_world.specs.Worlds.{Wire, TakesFirst}
+use Rattle.ob0_world_rules.proofs.EveryEditor.{holds_for_every_editor}
+use Rattle.ob0_world.specs.Worlds.{Wire, SessionTakesFirst}
 use Rattle.ob0_session_server.specs.declared.session.Phase.TheVariants.{Running}
-use Rattle.ob0_world.specs.Queues.{made_first}
-use Rattle.ob0_world.specs.Exchanges.{Id, id_read, same_id, SentId, sent_with, ask_with, NamesAsks, with_other, IsOtherId, Exchange, BeginsExchange, SaysToSession, IsRequestFor, IsQuestion, IsOtherMessage, IsOther, read_by, reads_meaning, GetsOne, with_contents, Exchanges, ExchangeLeads, EachSays, EachMeans, EveryExchangeIsOfTheModel, Published, with_version, published_in, AreRightOf, last_published, notes_in, EveryExchangeHolds}
+use Rattle.ob0_world.specs.Queues.{publication_in_first_message}
+use Rattle.ob0_world.specs.Exchanges.{RequestId, id_of_value, same_id, SentRequestId, ask_of_request_id, ask_number_by_id, AssignsAskIds, with_non_ask_id, IsNonAskId, Exchange, BeginsExchange, IsMessageToSession, IsRequestFor, IsReadOnlyRequest, IsUnmodeledMessage, IsUnmodeledContent, message_to_editor_by_ids, after_reading_if_any, EditorReadsFirst, with_contents, Exchanges, ExchangeCourse, AreMessagesToSession, AreMessagesToEditor, EveryExchangeFollowsModel, VersionedPublication, versioned_publication, published_in, AreCorrectFor, last_published, notifications_in, HoldsForEveryExchange}
 use Rattle.ob0_world.proofs.Answering.{Served, note_answered, ask_answered, actions_answered, going_on, reacts_so}
 use Rattle.ob0_world.proofs.Waiting.{read_still}
 use Rattle.ob0_world.proofs.Ending.{ends_well}
 use Rattle.ob0_world.proofs.Courses.{Conversed, takes_conversed, gets_conversed, written_conversed, initialized_conversed, as_conversation}
 use Rattle.ob0_session_answers.specs.Renamed.{RequestedRename}
-use Rattle.ob0_rpc.specs.declared.clients.Client.{Client}
+use Rattle.ob0_rpc.specs.declared.clients.ClientFeatures.{ClientFeatures}
 use Rattle.ob0_world_rules.proofs.Asked.{numbered_push}
 use Rattle.std.proofs.lemmas.Option.{none-some}
 
 -- ---- more requests, and more contents
 
-sent_still : (ids later : List SentId) (id : Id) (o : Option ℕ) → sent_with ids id ≡ Some o → sent_with (ids ++ later) id ≡ Some o
+sent_still : (ids later : List SentRequestId) (id : RequestId) (o : Option ℕ) → ask_of_request_id ids id ≡ Some o → ask_of_request_id (ids ++ later) id ≡ Some o
 sent_still [] later id o h = absurd (none-some o h)
 sent_still (s ∷ ids) later id o h = go (same_id s.id id) h (sent_still ids later id o)
   where
-    go : (b : Bool) → cond b (Some s.ask) (sent_with ids id) ≡ Some o → (sent_with ids id ≡ Some o → sent_with (ids ++ later) id ≡ Some o) → cond b (Some s.ask) (sent_with (ids ++ later) id) ≡ Some o
+    go : (b : Bool) → cond b (Some s.ask) (ask_of_request_id ids id) ≡ Some o → (ask_of_request_id ids id ≡ Some o → ask_of_request_id (ids ++ later) id ≡ Some o) → cond b (Some s.ask) (ask_of_request_id (ids ++ later) id) ≡ Some o
     go true is next = is
     go false is next = next is
 
-ask_with_still : (ids later : List SentId) (d : Data) (k : ℕ) → ask_with ids d ≡ Some k → ask_with (ids ++ later) d ≡ Some k
-ask_with_still ids later d k h = go (id_read d) h
+ask_with_still : (ids later : List SentRequestId) (d : Data) (k : ℕ) → ask_number_by_id ids d ≡ Some k → ask_number_by_id (ids ++ later) d ≡ Some k
+ask_with_still ids later d k h = go (id_of_value d) h
   where
-    at : (id : Id) (o : Option (Option ℕ)) → sent_with ids id ≡ o → option_and_then (λ ask. ask) o ≡ Some k → option_and_then (λ ask. ask) (sent_with (ids ++ later) id) ≡ Some k
+    at : (id : RequestId) (o : Option (Option ℕ)) → ask_of_request_id ids id ≡ o → option_and_then (λ ask. ask) o ≡ Some k → option_and_then (λ ask. ask) (ask_of_request_id (ids ++ later) id) ≡ Some k
     at id None is h = absurd (none-some k h)
     at id (Some o) is h = ap (option_and_then (λ ask. ask)) (sent_still ids later id o is) ∙ h
 
-    go : (o : Option Id) → option_and_then (λ ask. ask) (option_and_then (sent_with ids) o) ≡ Some k → option_and_then (λ ask. ask) (option_and_then (sent_with (ids ++ later)) o) ≡ Some k
+    go : (o : Option RequestId) → option_and_then (λ ask. ask) (option_and_then (ask_of_request_id ids) o) ≡ Some k → option_and_then (λ ask. ask) (option_and_then (ask_of_request_id (ids ++ later)) o) ≡ Some k
     go None h = absurd (none-some k h)
-    go (Some id) h = at id (sent_with ids id) refl h
+    go (Some id) h = at id (ask_of_request_id ids id) refl h
 
-module _ (client : Client) (ids later : List SentId) (requested more : List SentAsk) where
-  id_still : (o : Option Id) → IsOtherId ids o → IsOtherId (ids ++ later) o
+module _ (client : ClientFeatures) (ids later : List SentRequestId) (requested more : List SentAsk) where
+  id_still : (o : Option RequestId) → IsNonAskId ids o → IsNonAskId (ids ++ later) o
   id_still None h = tt
   id_still (Some id) h = sent_still ids later id None h
 
-  message_still : (m : MessageMeaning) → IsOtherMessage ids m → IsOtherMessage (ids ++ later) m
+  message_still : (m : MessageMeaning) → IsUnmodeledMessage ids m → IsUnmodeledMessage (ids ++ later) m
   message_still not_json h = h
   message_still not_a_message h = h
   message_still response h = h
-  message_still (request id method params) (first, question, own) = (first, question, id_still (id_read id) own)
+  message_still (request id method params) (first, question, own) = (first, question, id_still (id_of_value id) own)
   message_still (notice method params) h = h
 
-  other_still : (content : List ℕ) → IsOther ids content → IsOther (ids ++ later) content
+  other_still : (content : List ℕ) → IsUnmodeledContent ids content → IsUnmodeledContent (ids ++ later) content
   other_still content (json, reads_so, is) = (json, reads_so, message_still (meaning_of json) is)
 
-  session_still : (m : ToServer) (content : List ℕ) → SaysToSession client ids requested m content → SaysToSession client (ids ++ later) (requested ++ more) m content
+  session_still : (m : MessageToServer) (content : List ℕ) → IsMessageToSession client ids requested m content → IsMessageToSession client (ids ++ later) (requested ++ more) m content
   session_still (notifies note) content h = h
   session_still (requests k uri ask) content (id, is, of, takes) = (
     id,
@@ -101,7 +101,7 @@ module _ (client : Client) (ids later : List SentId) (requested more : List Sent
     takes,
   )
 
-  says_on : (q : List (Option ToServer)) (contents : List (List ℕ)) → EachSays client ids requested q contents → EachSays client (ids ++ later) (requested ++ more) q contents
+  says_on : (q : List (Option MessageToServer)) (contents : List (List ℕ)) → AreMessagesToSession client ids requested q contents → AreMessagesToSession client (ids ++ later) (requested ++ more) q contents
   says_on [] [] h = tt
   says_on (Some m ∷ q) (c ∷ contents) h = (session_still m c h.0, says_on q contents h.1)
   says_on (None ∷ q) (c ∷ contents) h = (other_still c h.0, says_on q contents h.1)
@@ -109,16 +109,16 @@ module _ (client : Client) (ids later : List SentId) (requested more : List Sent
   says_on (Some m ∷ q) [] h = absurd h
   says_on (None ∷ q) [] h = absurd h
 
-  means_on : (r : List (Option ToEditor)) (contents : List (List ℕ)) → EachMeans ids requested r contents → EachMeans (ids ++ later) (requested ++ more) r contents
+  means_on : (r : List (Option MessageToEditor)) (contents : List (List ℕ)) → AreMessagesToEditor ids requested r contents → AreMessagesToEditor (ids ++ later) (requested ++ more) r contents
   means_on [] [] h = tt
-  means_on (Some m ∷ r) (c ∷ contents) h = (read_still (ask_with ids) (ask_with (ids ++ later)) requested more (λ d k a is named. ask_with_still ids later d k named) c m h.0, means_on r contents h.1)
-  means_on (None ∷ r) (c ∷ contents) h = (λ further all. subst (λ more. read_by more all c ≡ None) (sym (append_assoc ids later further)) (h.0 (later ++ further) all), means_on r contents h.1)
+  means_on (Some m ∷ r) (c ∷ contents) h = (read_still (ask_number_by_id ids) (ask_number_by_id (ids ++ later)) requested more (λ d k a is named. ask_with_still ids later d k named) c m h.0, means_on r contents h.1)
+  means_on (None ∷ r) (c ∷ contents) h = (λ further all. subst (λ more. message_to_editor_by_ids more all c ≡ None) (sym (append_assoc ids later further)) (h.0 (later ++ further) all), means_on r contents h.1)
   means_on [] (c ∷ contents) h = absurd h
   means_on (Some m ∷ r) [] h = absurd h
   means_on (None ∷ r) [] h = absurd h
 
-module _ (client : Client) (ids : List SentId) (requested : List SentAsk) where
-  says_append : (q p : List (Option ToServer)) (contents others : List (List ℕ)) → EachSays client ids requested q contents → EachSays client ids requested p others → EachSays client ids requested (q ++ p) (contents ++ others)
+module _ (client : ClientFeatures) (ids : List SentRequestId) (requested : List SentAsk) where
+  says_append : (q p : List (Option MessageToServer)) (contents others : List (List ℕ)) → AreMessagesToSession client ids requested q contents → AreMessagesToSession client ids requested p others → AreMessagesToSession client ids requested (q ++ p) (contents ++ others)
   says_append [] p [] others h k = k
   says_append (Some m ∷ q) p (c ∷ contents) others h k = (h.0, says_append q p contents others h.1 k)
   says_append (None ∷ q) p (c ∷ contents) others h k = (h.0, says_append q p contents others h.1 k)
@@ -126,7 +126,7 @@ module _ (client : Client) (ids : List SentId) (requested : List SentAsk) where
   says_append (Some m ∷ q) p [] others h k = absurd h
   says_append (None ∷ q) p [] others h k = absurd h
 
-  means_append : (r p : List (Option ToEditor)) (contents others : List (List ℕ)) → EachMeans ids requested r contents → EachMeans ids requested p others → EachMeans ids requested (r ++ p) (contents ++ others)
+  means_append : (r p : List (Option MessageToEditor)) (contents others : List (List ℕ)) → AreMessagesToEditor ids requested r contents → AreMessagesToEditor ids requested p others → AreMessagesToEditor ids requested (r ++ p) (contents ++ others)
   means_append [] p [] others h k = k
   means_append (Some m ∷ r) p (c ∷ contents) others h k = (h.0, means_append r p contents others h.1 k)
   means_append (None ∷ r) p (c ∷ contents) others h k = (h.0, means_append r p contents others h.1 k)
@@ -134,43 +134,43 @@ module _ (client : Client) (ids : List SentId) (requested : List SentAsk) where
   means_append (Some m ∷ r) p [] others h k = absurd h
   means_append (None ∷ r) p [] others h k = absurd h
 
-  each_means : (sent : List (List ℕ)) → All (λ content. (m : ToEditor) × (read_by ids requested content ≡ Some m)) sent → EachMeans ids requested (map Some (filter_map (read_by ids requested) sent)) sent
+  each_means : (sent : List (List ℕ)) → All (λ content. (m : MessageToEditor) × (message_to_editor_by_ids ids requested content ≡ Some m)) sent → AreMessagesToEditor ids requested (map Some (filter_map (message_to_editor_by_ids ids requested) sent)) sent
   each_means [] all = tt
   each_means (c ∷ sent) all =
-      let first : (m : ToEditor) × (read_by ids requested c ≡ Some m) = All-head (λ content. (m : ToEditor) × (read_by ids requested content ≡ Some m)) c sent all in
-      subst (λ o. EachMeans ids requested (map Some (cons_option o (filter_map (read_by ids requested) sent))) (c ∷ sent)) (sym first.1)
-      (first.1, each_means sent (All-tail (λ content. (m : ToEditor) × (read_by ids requested content ≡ Some m)) c sent all))
+      let first : (m : MessageToEditor) × (message_to_editor_by_ids ids requested c ≡ Some m) = All-head (λ content. (m : MessageToEditor) × (message_to_editor_by_ids ids requested content ≡ Some m)) c sent all in
+      subst (λ o. AreMessagesToEditor ids requested (map Some (cons_option o (filter_map (message_to_editor_by_ids ids requested) sent))) (c ∷ sent)) (sym first.1)
+      (first.1, each_means sent (All-tail (λ content. (m : MessageToEditor) × (message_to_editor_by_ids ids requested content ≡ Some m)) c sent all))
 
 -- ---- what a move asks
 
-revises_asks : (revisions : List Revision) (e : Editor) (uri : List ℕ) (new : Editor) (announced : List Announced) → Revises e uri revisions new announced → new.requested ≡ e.requested
+revises_asks : (revisions : List Revision) (e : Editor) (uri : List ℕ) (new : Editor) (announced : List AnnouncedDocument) → Revises e uri revisions new announced → new.requested ≡ e.requested
 revises_asks [] e uri new announced h = ap (λ (x : Editor). x.requested) h.0
-revises_asks (r ∷ more) e uri new announced (d, later, at, makes, rest, is) = revises_asks more (with_document e uri (revised d r)) uri new later rest
+revises_asks (r ∷ more) e uri new announced (d, later, at, makes, rest, is) = revises_asks more (with_document e uri (revised_document d r)) uri new later rest
 
-abbrev AsksMore : Editor → Done → Type 0
+abbrev AsksMore : Editor → ActResult → Type 0
 AsksMore e done = (more : List SentAsk) × (done.editor.requested ≡ e.requested ++ more)
 
-asks_none : (e : Editor) (done : Done) → done.editor.requested ≡ e.requested → AsksMore e done
+asks_none : (e : Editor) (done : ActResult) → done.editor.requested ≡ e.requested → AsksMore e done
 asks_none e done same = ([], same ∙ sym (append-nil e.requested))
 
-asks_more : (e : Editor) (move : Move) (done : Done) (announced : List Announced) → May e move done announced → AsksMore e done
-asks_more e (to_open uri version text) done announced (is, are) = asks_none e done (ap (λ (x : Done). x.editor.requested) is)
-asks_more e (to_revise uri revisions) done announced (new, revises, is) = asks_none e done (ap (λ (x : Done). x.editor.requested) is ∙ revises_asks revisions e uri new announced revises)
-asks_more e (to_close uri) done announced (is, are) = asks_none e done (ap (λ (x : Done). x.editor.requested) is)
-asks_more e (to_ask uri ask) done announced (d, at, is, are) = (record { ask = ask; uri = uri; text = d.text; opening = d.opening; version = d.version } ∷ [], ap (λ (x : Done). x.editor.requested) is)
-asks_more e (to_apply k revisions) done announced a = asks_none e done (ap (λ (x : Done). x.editor.requested) a.is ∙ revises_asks revisions (without_answer e k) a.requested.uri a.new announced a.revises)
-asks_more e (to_drop k) done announced (is, are) = asks_none e done (ap (λ (x : Done). x.editor.requested) is)
+asks_more : (e : Editor) (move : Move) (done : ActResult) (announced : List AnnouncedDocument) → IsAllowedMove e move done announced → AsksMore e done
+asks_more e (to_open uri version text) done announced (is, are) = asks_none e done (ap (λ (x : ActResult). x.editor.requested) is)
+asks_more e (to_revise uri revisions) done announced (new, revises, is) = asks_none e done (ap (λ (x : ActResult). x.editor.requested) is ∙ revises_asks revisions e uri new announced revises)
+asks_more e (to_close uri) done announced (is, are) = asks_none e done (ap (λ (x : ActResult). x.editor.requested) is)
+asks_more e (to_ask uri ask) done announced (d, at, is, are) = (record { ask = ask; uri = uri; text = d.text; opening = d.opening; version = d.version } ∷ [], ap (λ (x : ActResult). x.editor.requested) is)
+asks_more e (to_apply k revisions) done announced a = asks_none e done (ap (λ (x : ActResult). x.editor.requested) a.is ∙ revises_asks revisions (without_answer e k) a.requested.uri a.new announced a.revises)
+asks_more e (to_drop k) done announced (is, are) = asks_none e done (ap (λ (x : ActResult). x.editor.requested) is)
 
-names_more : (ids : List SentId) (sent : List ToServer) (new : List SentId) → NamesAsks ids sent new → (later : List SentId) × (new ≡ ids ++ later)
+names_more : (ids : List SentRequestId) (sent : List MessageToServer) (new : List SentRequestId) → AssignsAskIds ids sent new → (later : List SentRequestId) × (new ≡ ids ++ later)
 names_more ids [] new is = ([], is ∙ sym (append-nil ids))
 names_more ids (notifies note ∷ sent) new names = names_more ids sent new names
 names_more ids (requests k uri ask ∷ sent) new (id, fresh, names) =
-    let s : SentId = record { id = id; ask = Some k } in
-    let more : (later : List SentId) × (new ≡ (ids ++ s ∷ []) ++ later) = names_more (ids ++ s ∷ []) sent new names in
+    let s : SentRequestId = record { id = id; ask = Some k } in
+    let more : (later : List SentRequestId) × (new ≡ (ids ++ s ∷ []) ++ later) = names_more (ids ++ s ∷ []) sent new names in
     (s ∷ more.0, more.1 ∙ append_assoc ids (s ∷ []) more.0)
 
 -- The ids after another request are the old ids and perhaps one more.
-others_more : (ids : List SentId) (id : Option Id) → (later : List SentId) × (with_other ids id ≡ ids ++ later)
+others_more : (ids : List SentRequestId) (id : Option RequestId) → (later : List SentRequestId) × (with_non_ask_id ids id ≡ ids ++ later)
 others_more ids None = ([], sym (append-nil ids))
 others_more ids (Some id) = (record { id = id; ask = None } ∷ [], refl)
 
@@ -181,72 +181,72 @@ abbrev IsReply : Data → Data → Type 0
 IsReply id message = (is_some (get (codes "method") message) ≡ false) × (get (codes "id") message ≡ Some id)
 
 -- A reply to a request that isn't an ask is no answer to an ask.
-no_answer_to : (ids : List SentId) (id message : Data) → IsReply id message → IsOtherId ids (id_read id) → (later : List SentId) (requested : List SentAsk) → value_read (ask_with (ids ++ later)) requested message ≡ None
+no_answer_to : (ids : List SentRequestId) (id message : Data) → IsReply id message → IsNonAskId ids (id_of_value id) → (later : List SentRequestId) (requested : List SentAsk) → message_to_editor_of (ask_number_by_id (ids ++ later)) requested message ≡ None
 no_answer_to ids id message (no_method, has_id) own later requested =
-    ap (λ b. cond b (notice_understood message) (answer_read (ask_with (ids ++ later)) requested message)) no_method
-    ∙ ap (λ o. option_and_then (answer_to requested message) (option_and_then (ask_with (ids ++ later)) o)) has_id
-    ∙ go (id_read id) own
+    ap (λ b. cond b (publication_of_notification message) (answer_of_response (ask_number_by_id (ids ++ later)) requested message)) no_method
+    ∙ ap (λ o. option_and_then (answer_to requested message) (option_and_then (ask_number_by_id (ids ++ later)) o)) has_id
+    ∙ go (id_of_value id) own
   where
-    go : (o : Option Id) → IsOtherId ids o → option_and_then (answer_to requested message) (option_and_then (λ ask. ask) (option_and_then (sent_with (ids ++ later)) o)) ≡ None
+    go : (o : Option RequestId) → IsNonAskId ids o → option_and_then (answer_to requested message) (option_and_then (λ ask. ask) (option_and_then (ask_of_request_id (ids ++ later)) o)) ≡ None
     go None h = refl
     go (Some i) h = ap (λ x. option_and_then (answer_to requested message) (option_and_then (λ ask. ask) x)) (sent_still ids later i None h)
 
-record OtherServed (ids : List SentId) (requested : List SentAsk) (before after : ServerState) (sent : List (List ℕ)) : Type 0 where
+record OtherServed (ids : List SentRequestId) (requested : List SentAsk) (before after : ServerState) (sent : List (List ℕ)) : Type 0 where
   same : after ≡ before
-  said : List (Option ToEditor)
-  none : without_others said ≡ []
-  means : EachMeans ids requested said sent
+  said : List (Option MessageToEditor)
+  none : modeled_messages said ≡ []
+  means : AreMessagesToEditor ids requested said sent
 
-module _ (ids : List SentId) (requested : List SentAsk) (before after : ServerState) (sent : List (List ℕ)) where
+module _ (ids : List SentRequestId) (requested : List SentAsk) (before after : ServerState) (sent : List (List ℕ)) where
   no_reply : after ≡ before → sent ≡ [] → OtherServed ids requested before after sent
-  no_reply same none = record { same = same; said = []; none = refl; means = subst (EachMeans ids requested []) (sym none) tt }
+  no_reply same none = record { same = same; said = []; none = refl; means = subst (AreMessagesToEditor ids requested []) (sym none) tt }
 
   -- holds if the session sends one reply to the request with this id
   abbrev Replied : Data → Type 0
   Replied id = (message : Data) × Sends message sent × IsReply id message
 
-  one_reply : (id : Data) → IsOtherId ids (id_read id) → after ≡ before → Replied id → OtherServed ids requested before after sent
-  one_reply id own same (message, (content, is, writes), reply) =
+  reply_is_determined : (id : Data) → IsNonAskId ids (id_of_value id) → after ≡ before → Replied id → OtherServed ids requested before after sent
+  reply_is_determined id own same (message, (content, is, writes), reply) =
       record {
         same = same;
         said = None ∷ [];
         none = refl;
-        means = subst (EachMeans ids requested (None ∷ [])) (sym is)
-            (λ later all. read_as (ask_with (ids ++ later)) all content message writes.reads ∙ no_answer_to ids id message reply own later all, tt);
+        means = subst (AreMessagesToEditor ids requested (None ∷ [])) (sym is)
+            (λ later all. read_as (ask_number_by_id (ids ++ later)) all content message writes.reads ∙ no_answer_to ids id message reply own later all, tt);
       }
 
-  refused_other : (id : Data) (code : ℤ) (why : List ℕ) → IsOtherId ids (id_read id) → after ≡ before → Sends (error_message id code why) sent → OtherServed ids requested before after sent
-  refused_other id code why own same sends = one_reply id own same (error_message id code why, sends, (refl, refl))
+  refused_other : (id : Data) (code : ℤ) (why : List ℕ) → IsNonAskId ids (id_of_value id) → after ≡ before → Sends (error_message id code why) sent → OtherServed ids requested before after sent
+  refused_other id code why own same sends = reply_is_determined id own same (error_message id code why, sends, (refl, refl))
 
   -- A request about a document changes nothing and gets one reply or a refusal.
-  about_served : (id : Data) (say : ℤ → List ℕ → Reply) → IsOtherId ids (id_read id) → ((version : ℤ) (text : List ℕ) → SaysReply (say version text) sent → Replied id) → (o : Option Document)
-      → after ≡ (answers_about before id o say).after → SaysReply (answers_about before id o say).say sent → OtherServed ids requested before after sent
+  about_served : (id : Data) (say : ℤ → List ℕ → Reply) → IsNonAskId ids (id_of_value id) → ((version : ℤ) (text : List ℕ) → AreContentsOfReply (say version text) sent → Replied id) → (o : Option Document)
+      → after ≡ (react_about_document before id o say).after → AreContentsOfReply (react_about_document before id o say).say sent → OtherServed ids requested before after sent
   about_served id say own in_step None same saying = refused_other id (minus 32803) (codes "unopened") own same saying
   about_served id say own in_step (Some OutOfStep) same saying = refused_other id (minus 32803) (codes "out of step") own same saying
-  about_served id say own in_step (Some (InStep version text)) same saying = one_reply id own same (in_step version text saying)
+  about_served id say own in_step (Some (InStep version text)) same saying = reply_is_determined id own same (in_step version text saying)
 
-  named_replied : (unit : Unit) (id : Data) (at : At) (question : NameQuestion) (text : List ℕ) → SaysReply (answers_name unit id at question text) sent → Replied id
+  named_replied : (unit : Unit) (id : Data) (at : DocumentPlace) (question : NameQuestion) (text : List ℕ) → AreContentsOfReply (answers_name unit id at question text) sent → Replied id
   named_replied unit id at question text (value, answers_it, sends) = (result_message id value, sends, (refl, refl))
 
-  rename_replied : (unit : Unit) (r : RequestedRename) (text : List ℕ) → SaysReply (renames unit r text) sent → Replied r.id
+  rename_replied : (unit : Unit) (r : RequestedRename) (text : List ℕ) → AreContentsOfReply (renames unit r text) sent → Replied r.id
   rename_replied unit r text (message, inl (edits, found, is), sends) = (result_message r.id (workspace_edit r.client r.at.uri r.version edits), subst (λ m. Sends m sent) is sends, (refl, refl))
   rename_replied unit r text (message, inr (inl (refusal, why, is)), sends) = (error_message r.id (minus 32803) (refusal_text refusal), subst (λ m. Sends m sent) is sends, (refl, refl))
   rename_replied unit r text (message, inr (inr (unfit, is)), sends) = (error_message r.id (minus 32803) (codes "ill-typed"), subst (λ m. Sends m sent) is sends, (refl, refl))
 
-  actions_replied : (unit : Unit) (r : RequestedActions) (text : List ℕ) → SaysReply (offers_actions unit r text) sent → Replied r.id
+  actions_replied : (unit : Unit) (r : RequestedActions) (text : List ℕ) → AreContentsOfReply (offers_actions unit r text) sent → Replied r.id
   actions_replied unit r text (message, (value, how, is), sends) = (result_message r.id value, subst (λ m. Sends m sent) is sends, (refl, refl))
 
-  layout_replied : (unit : Unit) (id : Data) (indent : Indent) (text : List ℕ) → SaysReply (lays_out unit id indent text) sent → Replied id
+  layout_replied : (unit : Unit) (id : Data) (indent : Indent) (text : List ℕ) → AreContentsOfReply (lays_out unit id indent text) sent → Replied id
   layout_replied unit id indent text (message, inl (edits, laid, is), sends) = (result_message id (edits_value edits), subst (λ m. Sends m sent) is sends, (refl, refl))
   layout_replied unit id indent text (message, inr (inl (long, is)), sends) = (error_message id (minus 32803) (refusal_text TooLong), subst (λ m. Sends m sent) is sends, (refl, refl))
   layout_replied unit id indent text (message, inr (inr (unfit, is)), sends) = (error_message id (minus 32803) (codes "ill-typed"), subst (λ m. Sends m sent) is sends, (refl, refl))
 
   -- A question about the name at a position changes nothing and gets one reply or a refusal.
-  name_served : (id : Data) (at : At) (question : NameQuestion) → IsOtherId ids (id_read id) → after ≡ (requests_name before id at question).after → SaysReply (requests_name before id at question).say sent → OtherServed ids requested before after sent
+  name_served : (id : Data) (at : DocumentPlace) (question : NameQuestion) → IsNonAskId ids (id_of_value id) → after ≡ (react_to_question before id at question).after → AreContentsOfReply (react_to_question before id at question).say sent → OtherServed ids requested before after sent
   name_served id at question own same saying =
       about_served id (λ version. answers_name before.held.unit id at question) own (λ version text. named_replied before.held.unit id at question text) (document_at before.held at.uri) same saying
 
-  question_served : (id : Data) → IsOtherId ids (id_read id) → (q : Result ClientRequest RpcFault) → IsQuestion q → after ≡ (answer_request before id q).after → SaysReply (answer_request before id q).say sent → OtherServed ids requested before after sent
+  question_served : (id : Data) → IsNonAskId ids (id_of_value id) → (q : Result ClientRequest RpcFault) → IsReadOnlyRequest q → after ≡ (react_to_known_request before id q).after → AreContentsOfReply (react_to_known_request before id q).say sent → OtherServed ids requested before after sent
   question_served id own (Ok (asked.initialize client)) h same saying = absurd h
   question_served id own (Ok asked.shutdown) h same saying = absurd h
   question_served id own (Ok (asked.hover at)) h same saying = name_served id at hover_asked own same saying
@@ -263,22 +263,22 @@ module _ (ids : List SentId) (requested : List SentAsk) (before after : ServerSt
       about_served id (λ version. lays_out before.held.unit id indent) own (λ version text. layout_replied before.held.unit id indent text) (document_at before.held uri) same saying
   question_served id own (Err fault) h same saying = refused_other id (error_code fault) (error_text fault) own same saying
 
-  message_served : before.phase ≡ Running → (m : MessageMeaning) → IsOtherMessage ids m → after ≡ (react before m).after → SaysReply (react before m).say sent → OtherServed ids requested before after sent
+  message_served : before.phase ≡ Running → (m : MessageMeaning) → IsUnmodeledMessage ids m → after ≡ (react before m).after → AreContentsOfReply (react before m).say sent → OtherServed ids requested before after sent
   message_served running not_json h same saying = absurd h
   message_served running not_a_message h same saying = refused_other null (error_code NotAMessage) (error_text NotAMessage) tt same saying
   message_served running response h same saying = no_reply same saying
   message_served running (request id method params) (first, question, own) same saying =
-      let so : react before (request id method params) ≡ answer_method before id method params =
+      let so : react before (request id method params) ≡ react_to_method before id method params =
       ap (λ phase. react_to_request phase before id method params) running
-      ∙ ap (λ b. cond b (refuses before id (minus 32600) (codes "already initialized")) (answer_method before id method params)) first in
+      ∙ ap (λ b. cond b (react_with_error before id (minus 32600) (codes "already initialized")) (react_to_method before id method params)) first in
       question_served id own (request_by_method method params) question
-      (same ∙ ap (λ (x : Reaction). x.after) so) (subst (λ (x : Reaction). SaysReply x.say sent) so saying)
+      (same ∙ ap (λ (x : Reaction). x.after) so) (subst (λ (x : Reaction). AreContentsOfReply x.say sent) so saying)
   message_served running (notice method params) h same saying =
       let so : react before (notice method params) ≡ apply_notification before other =
       ap (λ phase. react_to_notification phase before method params) running ∙ ap (apply_notification before) h in
-      no_reply (same ∙ ap (λ (x : Reaction). x.after) so) (subst (λ (x : Reaction). SaysReply x.say sent) so saying)
+      no_reply (same ∙ ap (λ (x : Reaction). x.after) so) (subst (λ (x : Reaction). AreContentsOfReply x.say sent) so saying)
 
-  other_served : (content : List ℕ) → before.phase ≡ Running → IsOther ids content → Answers before content sent after → OtherServed ids requested before after sent
+  other_served : (content : List ℕ) → before.phase ≡ Running → IsUnmodeledContent ids content → Answers before content sent after → OtherServed ids requested before after sent
   other_served content running (json, reads_so, is) h =
       let answer = reacts_so before after content sent json (going_on before after content sent running h) reads_so in
       message_served running (meaning_of json) is answer.0 answer.1
@@ -286,62 +286,62 @@ module _ (ids : List SentId) (requested : List SentAsk) (before after : ServerSt
 -- ---- diagnostics
 
 -- An answer has no list of diagnostics in it, whatever was requested.
-answer_published : (number_of : Data → Option ℕ) (requested : List SentAsk) (d : Data) → with_version (answer_read number_of requested d) ≡ []
+answer_published : (number_of : Data → Option ℕ) (requested : List SentAsk) (d : Data) → versioned_publication (answer_of_response number_of requested d) ≡ []
 answer_published number_of requested d = go (option_and_then number_of (get (codes "id") d))
   where
-    at : (k : ℕ) (o : Option SentAsk) → with_version (option_map (λ (a : SentAsk). answers k (edits_for a.uri a.ask d)) o) ≡ []
+    at : (k : ℕ) (o : Option SentAsk) → versioned_publication (option_map (λ (a : SentAsk). answers k (edits_for a.uri a.ask d)) o) ≡ []
     at k None = refl
     at k (Some a) = refl
 
-    go : (o : Option ℕ) → with_version (option_and_then (answer_to requested d) o) ≡ []
+    go : (o : Option ℕ) → versioned_publication (option_and_then (answer_to requested d) o) ≡ []
     go None = refl
     go (Some k) = at k (request_numbered requested k)
 
-any_published : (number_of : Data → Option ℕ) (requested : List SentAsk) (content : List ℕ) → with_version (read_so number_of requested content) ≡ with_version (understood [] content)
-unfolding read_so
+any_published : (number_of : Data → Option ℕ) (requested : List SentAsk) (content : List ℕ) → versioned_publication (message_to_editor_by number_of requested content) ≡ versioned_publication (message_to_editor_in [] content)
+unfolding message_to_editor_by
 any_published number_of requested content = go (is_utf8 content) (read content)
   where
-    value : (d : Data) (b : Bool) → with_version (cond b (notice_understood d) (answer_read number_of requested d)) ≡ with_version (cond b (notice_understood d) (answer_read request_number [] d))
+    value : (d : Data) (b : Bool) → versioned_publication (cond b (publication_of_notification d) (answer_of_response number_of requested d)) ≡ versioned_publication (cond b (publication_of_notification d) (answer_of_response request_number [] d))
     value d true = refl
     value d false = answer_published number_of requested d ∙ sym (answer_published request_number [] d)
 
-    go : (b : Bool) (o : Option Data) → with_version (cond b (option_and_then (value_read number_of requested) o) None) ≡ with_version (cond b (option_and_then (value_read request_number []) o) None)
+    go : (b : Bool) (o : Option Data) → versioned_publication (cond b (option_and_then (message_to_editor_of number_of requested) o) None) ≡ versioned_publication (cond b (option_and_then (message_to_editor_of request_number []) o) None)
     go false o = refl
     go true None = refl
     go true (Some d) = value d (is_some (get (codes "method") d))
 
-abbrev versions : List (Option ToEditor) → List Published
+abbrev versions : List (Option MessageToEditor) → List VersionedPublication
 versions [] = []
-versions (o ∷ r) = with_version o ++ versions r
+versions (o ∷ r) = versioned_publication o ++ versions r
 
-means_published : (ids : List SentId) (requested : List SentAsk) (r : List (Option ToEditor)) (contents : List (List ℕ)) → EachMeans ids requested r contents → published_in contents ≡ versions r
+means_published : (ids : List SentRequestId) (requested : List SentAsk) (r : List (Option MessageToEditor)) (contents : List (List ℕ)) → AreMessagesToEditor ids requested r contents → published_in contents ≡ versions r
 means_published ids requested [] [] h = refl
-means_published ids requested (Some m ∷ r) (c ∷ contents) h = λ i. (sym (any_published (ask_with ids) requested c) ∙ ap with_version h.0) i ++ means_published ids requested r contents h.1 i
+means_published ids requested (Some m ∷ r) (c ∷ contents) h = λ i. (sym (any_published (ask_number_by_id ids) requested c) ∙ ap versioned_publication h.0) i ++ means_published ids requested r contents h.1 i
 means_published ids requested (None ∷ r) (c ∷ contents) h =
-    λ i. (sym (any_published (ask_with (ids ++ [])) requested c) ∙ ap with_version (h.0 [] requested)) i ++ means_published ids requested r contents h.1 i
+    λ i. (sym (any_published (ask_number_by_id (ids ++ [])) requested c) ∙ ap versioned_publication (h.0 [] requested)) i ++ means_published ids requested r contents h.1 i
 means_published ids requested [] (c ∷ contents) h = absurd h
 means_published ids requested (Some m ∷ r) [] h = absurd h
 means_published ids requested (None ∷ r) [] h = absurd h
 
 published_append : (xs ys : List (List ℕ)) → published_in (xs ++ ys) ≡ published_in xs ++ published_in ys
 published_append [] ys = refl
-published_append (c ∷ xs) ys = ap (λ ps. with_version (understood [] c) ++ ps) (published_append xs ys) ∙ sym (append_assoc (with_version (understood [] c)) (published_in xs) (published_in ys))
+published_append (c ∷ xs) ys = ap (λ ps. versioned_publication (message_to_editor_in [] c) ++ ps) (published_append xs ys) ∙ sym (append_assoc (versioned_publication (message_to_editor_in [] c)) (published_in xs) (published_in ys))
 
-others_published : (said : List (Option ToEditor)) → without_others said ≡ [] → versions said ≡ []
+others_published : (said : List (Option MessageToEditor)) → modeled_messages said ≡ [] → versions said ≡ []
 others_published [] none = refl
 others_published (None ∷ said) none = others_published said none
 others_published (Some m ∷ said) none = absurd (cc)
 
 -- returns the sent parts of a publication of the model: its uri, its version and whether it is empty
-abbrev named : Made → Published
+abbrev named : Made → VersionedPublication
 named m = record { uri = m.uri; version = m.version; empty = m.empty }
 
-publishes_named : (uri : List ℕ) (o : Option Document) (said : List ToEditor) (made : List Made) → Publishes uri o said made → versions (map Some said) ≡ map named made
+publishes_named : (uri : List ℕ) (o : Option Document) (said : List MessageToEditor) (made : List Made) → Publishes uri o said made → versions (map Some said) ≡ map named made
 publishes_named uri (Some (InStep version text)) said made (empty, right, is_said, is_made) = ap (λ ms. versions (map Some ms)) is_said ∙ sym (ap (map named) is_made)
 publishes_named uri (Some OutOfStep) said made h = ap (λ ms. versions (map Some ms)) h.0 ∙ sym (ap (map named) h.1)
 publishes_named uri None said made h = ap (λ ms. versions (map Some ms)) h.0 ∙ sym (ap (map named) h.1)
 
-replies_named : (held : OpenDocuments) (m : ToServer) (said : List ToEditor) (made : List Made) → Replies held m said made → versions (map Some said) ≡ map named made
+replies_named : (held : OpenDocuments) (m : MessageToServer) (said : List MessageToEditor) (made : List Made) → Replies held m said made → versions (map Some said) ≡ map named made
 replies_named held (notifies (Opened uri version text)) said made h = publishes_named uri (document_at (after_event held (Opened uri version text)) uri) said made h
 replies_named held (notifies (Changed uri version how)) said made h = publishes_named uri (document_at (after_event held (Changed uri version how)) uri) said made h
 replies_named held (notifies (Lost uri)) said made h = ap (λ ms. versions (map Some ms)) h.0 ∙ sym (ap (map named) h.1)
@@ -376,22 +376,22 @@ shown_got got rest content wire made waits h =
 
 -- ---- what is replied to asks and notifications
 
-session_served : (ids : List SentId) (requested : List SentAsk) (m : ToServer) (before after : ServerState) (content : List ℕ) (sent : List (List ℕ)) → before.phase ≡ Running → SaysToSession before.client ids requested m content → Answers before content sent after
-    → Served (ask_with ids) requested m before after sent
-session_served ids requested (notifies note) before after content sent running is answered = note_answered (ask_with ids) requested note before after content sent running is answered
+session_served : (ids : List SentRequestId) (requested : List SentAsk) (m : MessageToServer) (before after : ServerState) (content : List ℕ) (sent : List (List ℕ)) → before.phase ≡ Running → IsMessageToSession before.client ids requested m content → Answers before content sent after
+    → Served (ask_number_by_id ids) requested m before after sent
+session_served ids requested (notifies note) before after content sent running is answered = note_answered (ask_number_by_id ids) requested note before after content sent running is answered
 session_served ids requested (requests k uri (rename position name)) before after content sent running (id, is, of, takes) answered =
-    ask_answered (ask_with ids) requested id k uri (rename position name) before after content sent running takes of.numbered of.is is answered
+    ask_answered (ask_number_by_id ids) requested id k uri (rename position name) before after content sent running takes of.numbered of.is is answered
 session_served ids requested (requests k uri (inline_here position)) before after content sent running (id, is, of, takes) answered =
-    actions_answered (ask_with ids) requested Here id k uri position before after content sent running takes of.numbered of.is is answered
+    actions_answered (ask_number_by_id ids) requested Here id k uri position before after content sent running takes of.numbered of.is is answered
 session_served ids requested (requests k uri (inline_all position)) before after content sent running (id, is, of, takes) answered =
-    actions_answered (ask_with ids) requested Everywhere id k uri position before after content sent running takes of.numbered of.is is answered
+    actions_answered (ask_number_by_id ids) requested Everywhere id k uri position before after content sent running takes of.numbered of.is is answered
 session_served ids requested (requests k uri (format indent)) before after content sent running (id, is, of, takes) answered =
-    ask_answered (ask_with ids) requested id k uri (format indent) before after content sent running takes of.numbered of.is is answered
+    ask_answered (ask_number_by_id ids) requested id k uri (format indent) before after content sent running takes of.numbered of.is is answered
 
 -- ---- turn by turn
 
 -- returns the model's state of an exchange, with these messages in its queues
-abbrev model_of : Exchange → List (Option ToServer) → List (Option ToEditor) → List Made → EditorAndServer
+abbrev model_of : Exchange → List (Option MessageToServer) → List (Option MessageToEditor) → List Made → EditorAndServer
 model_of x q r made =
     record {
       editor = x.editor;
@@ -403,27 +403,27 @@ model_of x q r made =
       made = made;
     }
 
-record Tied (got : List (List ℕ)) (x : Exchange) (q : List (Option ToServer)) (r : List (Option ToEditor)) (made : List Made) : Type 0 where
-  says : EachSays x.wire.session.client x.ids x.editor.requested q x.wire.to_server
-  means : EachMeans x.ids x.editor.requested r x.wire.to_editor
+record Tied (got : List (List ℕ)) (x : Exchange) (q : List (Option MessageToServer)) (r : List (Option MessageToEditor)) (made : List Made) : Type 0 where
+  says : AreMessagesToSession x.wire.session.client x.ids x.editor.requested q x.wire.to_server
+  means : AreMessagesToEditor x.ids x.editor.requested r x.wire.to_editor
   running : x.wire.session.phase ≡ Running
   conversed : Conversed x.wire
   shown : Shown got x.wire made
 
 record Step (got : List (List ℕ)) (w : EditorAndServer) (turn : Turn) (y : Exchange) : Type 0 where
-  q : List (Option ToServer)
-  r : List (Option ToEditor)
+  q : List (Option MessageToServer)
+  r : List (Option MessageToEditor)
   made : List Made
   happens : MayHappen w turn (model_of y q r made)
   tied : Tied got y q r made
 
 module _ (got : List (List ℕ)) (x : Exchange) (made : List Made) where
-  does_step : (q : List (Option ToServer)) (r : List (Option ToEditor)) (move : Move) (y : Exchange) → Tied got x q r made → Exchanges x (editor_does move) y → Step got (model_of x q r made) (editor_does move) y
+  does_step : (q : List (Option MessageToServer)) (r : List (Option MessageToEditor)) (move : Move) (y : Exchange) → Tied got x q r made → Exchanges x (editor_does move) y → Step got (model_of x q r made) (editor_does move) y
   does_step q r move y tied (done, announced, ids, contents, may, names, say, is) =
-      let client : Client = x.wire.session.client in
+      let client : ClientFeatures = x.wire.session.client in
       let known : List SentAsk = x.editor.requested in
       let more : AsksMore x.editor done = asks_more x.editor move done announced may in
-      let later : (later : List SentId) × (ids ≡ x.ids ++ later) = names_more x.ids done.sent ids names in
+      let later : (later : List SentRequestId) × (ids ≡ x.ids ++ later) = names_more x.ids done.sent ids names in
       subst (Step got (model_of x q r made) (editor_does move)) (sym is)
       (record {
         q = q ++ map Some done.sent;
@@ -432,23 +432,23 @@ module _ (got : List (List ℕ)) (x : Exchange) (made : List Made) where
         happens = (done, announced, may, refl);
         tied = record {
           says = says_append client ids done.editor.requested q (map Some done.sent) x.wire.to_server contents
-              (subst (λ asks. EachSays client ids asks q x.wire.to_server) (sym more.1)
-              (subst (λ all. EachSays client all (known ++ more.0) q x.wire.to_server) (sym later.1) (says_on client x.ids later.0 known more.0 q x.wire.to_server tied.says)))
+              (subst (λ asks. AreMessagesToSession client ids asks q x.wire.to_server) (sym more.1)
+              (subst (λ all. AreMessagesToSession client all (known ++ more.0) q x.wire.to_server) (sym later.1) (says_on client x.ids later.0 known more.0 q x.wire.to_server tied.says)))
               say;
-          means = subst (λ asks. EachMeans ids asks r x.wire.to_editor) (sym more.1)
-              (subst (λ all. EachMeans all (known ++ more.0) r x.wire.to_editor) (sym later.1) (means_on client x.ids later.0 known more.0 r x.wire.to_editor tied.means));
+          means = subst (λ asks. AreMessagesToEditor ids asks r x.wire.to_editor) (sym more.1)
+              (subst (λ all. AreMessagesToEditor all (known ++ more.0) r x.wire.to_editor) (sym later.1) (means_on client x.ids later.0 known more.0 r x.wire.to_editor tied.means));
           running = tied.running;
           conversed = written_conversed x.wire contents tied.conversed;
           shown = shown_written got contents x.wire made tied.shown;
         };
       })
 
-  says_step : (q : List (Option ToServer)) (r : List (Option ToEditor)) (y : Exchange) → Tied got x q r made → Exchanges x editor_says y → Step got (model_of x q r made) editor_says y
+  says_step : (q : List (Option MessageToServer)) (r : List (Option MessageToEditor)) (y : Exchange) → Tied got x q r made → Exchanges x editor_says y → Step got (model_of x q r made) editor_says y
   says_step q r y tied (id, content, is_other, is) =
-      let client : Client = x.wire.session.client in
+      let client : ClientFeatures = x.wire.session.client in
       let known : List SentAsk = x.editor.requested in
-      let ids : List SentId = with_other x.ids id in
-      let later : (later : List SentId) × (ids ≡ x.ids ++ later) = others_more x.ids id in
+      let ids : List SentRequestId = with_non_ask_id x.ids id in
+      let later : (later : List SentRequestId) × (ids ≡ x.ids ++ later) = others_more x.ids id in
       subst (Step got (model_of x q r made) editor_says) (sym is)
       (record {
         q = q ++ None ∷ [];
@@ -457,18 +457,18 @@ module _ (got : List (List ℕ)) (x : Exchange) (made : List Made) where
         happens = refl;
         tied = record {
           says = says_append client ids known q (None ∷ []) x.wire.to_server (content ∷ [])
-              (subst (λ asks. EachSays client ids asks q x.wire.to_server) (append-nil known)
-              (subst (λ all. EachSays client all (known ++ []) q x.wire.to_server) (sym later.1) (says_on client x.ids later.0 known [] q x.wire.to_server tied.says)))
+              (subst (λ asks. AreMessagesToSession client ids asks q x.wire.to_server) (append-nil known)
+              (subst (λ all. AreMessagesToSession client all (known ++ []) q x.wire.to_server) (sym later.1) (says_on client x.ids later.0 known [] q x.wire.to_server tied.says)))
               (is_other, tt);
-          means = subst (λ asks. EachMeans ids asks r x.wire.to_editor) (append-nil known)
-              (subst (λ all. EachMeans all (known ++ []) r x.wire.to_editor) (sym later.1) (means_on client x.ids later.0 known [] r x.wire.to_editor tied.means));
+          means = subst (λ asks. AreMessagesToEditor ids asks r x.wire.to_editor) (append-nil known)
+              (subst (λ all. AreMessagesToEditor all (known ++ []) r x.wire.to_editor) (sym later.1) (means_on client x.ids later.0 known [] r x.wire.to_editor tied.means));
           running = tied.running;
           conversed = written_conversed x.wire (content ∷ []) tied.conversed;
           shown = shown_written got (content ∷ []) x.wire made tied.shown;
         };
       })
 
-  serve_step : (q : List (Option ToServer)) (r : List (Option ToEditor)) (contents : List (List ℕ)) (wire : Wire) → x.wire.to_server ≡ contents → Tied got x q r made → TakesFirst contents x.wire wire → Step got (model_of x q r made) server_takes (record x { wire = wire })
+  serve_step : (q : List (Option MessageToServer)) (r : List (Option MessageToEditor)) (contents : List (List ℕ)) (wire : Wire) → x.wire.to_server ≡ contents → Tied got x q r made → SessionTakesFirst contents x.wire wire → Step got (model_of x q r made) server_takes (record x { wire = wire })
   serve_step [] r [] wire waits tied is =
       record {
         q = [];
@@ -478,13 +478,13 @@ module _ (got : List (List ℕ)) (x : Exchange) (made : List Made) where
         tied = subst (λ v. Tied got (record x { wire = v }) [] r made) (sym is) tied;
       }
   serve_step (Some m ∷ q) r (c ∷ rest) wire waits tied (after, sent, answered, is) =
-      let client : Client = x.wire.session.client in
+      let client : ClientFeatures = x.wire.session.client in
       let known : List SentAsk = x.editor.requested in
-      let says : EachSays client x.ids known (Some m ∷ q) (c ∷ rest) = subst (EachSays client x.ids known (Some m ∷ q)) waits tied.says in
-      let s : Served (ask_with x.ids) known m x.wire.session after sent = session_served x.ids known m x.wire.session after c sent tied.running says.0 answered in
+      let says : AreMessagesToSession client x.ids known (Some m ∷ q) (c ∷ rest) = subst (AreMessagesToSession client x.ids known (Some m ∷ q)) waits tied.says in
+      let s : Served (ask_number_by_id x.ids) known m x.wire.session after sent = session_served x.ids known m x.wire.session after c sent tied.running says.0 answered in
       let now : Wire = record x.wire { session = after; taken = x.wire.taken ++ c ∷ []; to_server = rest; to_editor = x.wire.to_editor ++ sent } in
-      let more : List Made = option_to_list (made_first after.held s.said) in
-      let means : EachMeans x.ids known (map Some s.said) sent = subst (λ ms. EachMeans x.ids known (map Some ms) sent) s.heard.all (each_means client x.ids known sent s.heard.each) in
+      let more : List Made = option_to_list (publication_in_first_message after.held s.said) in
+      let means : AreMessagesToEditor x.ids known (map Some s.said) sent = subst (λ ms. AreMessagesToEditor x.ids known (map Some ms) sent) s.message_to_server_in.all (each_means client x.ids known sent s.message_to_server_in.each) in
       let y : Exchange = record x { wire = now } in
       subst (λ v. Step got (model_of x (Some m ∷ q) r made) server_takes (record x { wire = v })) (sym is)
       (record {
@@ -493,7 +493,7 @@ module _ (got : List (List ℕ)) (x : Exchange) (made : List Made) where
         made = made ++ more;
         happens = (s.said, more, s.replies, λ i. record (model_of y q (r ++ map Some s.said) (made ++ more)) { held = s.held i });
         tied = record {
-          says = subst (λ c. EachSays c x.ids known q rest) (sym s.client) says.1;
+          says = subst (λ c. AreMessagesToSession c x.ids known q rest) (sym s.client) says.1;
           means = means_append client x.ids known r (map Some s.said) x.wire.to_editor sent tied.means means;
           running = s.phase;
           conversed = takes_conversed (c ∷ rest) x.wire now (after, sent, answered, refl) tied.conversed;
@@ -502,9 +502,9 @@ module _ (got : List (List ℕ)) (x : Exchange) (made : List Made) where
         };
       })
   serve_step (None ∷ q) r (c ∷ rest) wire waits tied (after, sent, answered, is) =
-      let client : Client = x.wire.session.client in
+      let client : ClientFeatures = x.wire.session.client in
       let known : List SentAsk = x.editor.requested in
-      let says : EachSays client x.ids known (None ∷ q) (c ∷ rest) = subst (EachSays client x.ids known (None ∷ q)) waits tied.says in
+      let says : AreMessagesToSession client x.ids known (None ∷ q) (c ∷ rest) = subst (AreMessagesToSession client x.ids known (None ∷ q)) waits tied.says in
       let s : OtherServed x.ids known x.wire.session after sent = other_served x.ids known x.wire.session after sent c tied.running says.0 answered in
       let now : Wire = record x.wire { session = after; taken = x.wire.taken ++ c ∷ []; to_server = rest; to_editor = x.wire.to_editor ++ sent } in
       let y : Exchange = record x { wire = now } in
@@ -515,7 +515,7 @@ module _ (got : List (List ℕ)) (x : Exchange) (made : List Made) where
         made = made;
         happens = (s.said, s.none, λ i. record (model_of y q (r ++ s.said) made) { held = (s.same i).held });
         tied = record {
-          says = subst (λ (v : ServerState). EachSays v.client x.ids known q rest) (sym s.same) says.1;
+          says = subst (λ (v : ServerState). AreMessagesToSession v.client x.ids known q rest) (sym s.same) says.1;
           means = means_append client x.ids known r s.said x.wire.to_editor sent tied.means s.means;
           running = subst (λ (v : ServerState). v.phase ≡ Running) (sym s.same) tied.running;
           conversed = takes_conversed (c ∷ rest) x.wire now (after, sent, answered, refl) tied.conversed;
@@ -523,46 +523,46 @@ module _ (got : List (List ℕ)) (x : Exchange) (made : List Made) where
               (shown_served got sent (x.wire.taken ++ c ∷ []) rest x.wire after made [] tied.shown (means_published x.ids known s.said sent s.means ∙ others_published s.said s.none));
         };
       })
-  serve_step [] r (c ∷ rest) wire waits tied takes = absurd (subst (EachSays x.wire.session.client x.ids x.editor.requested []) waits tied.says)
-  serve_step (Some m ∷ q) r [] wire waits tied takes = absurd (subst (EachSays x.wire.session.client x.ids x.editor.requested (Some m ∷ q)) waits tied.says)
-  serve_step (None ∷ q) r [] wire waits tied takes = absurd (subst (EachSays x.wire.session.client x.ids x.editor.requested (None ∷ q)) waits tied.says)
+  serve_step [] r (c ∷ rest) wire waits tied takes = absurd (subst (AreMessagesToSession x.wire.session.client x.ids x.editor.requested []) waits tied.says)
+  serve_step (Some m ∷ q) r [] wire waits tied takes = absurd (subst (AreMessagesToSession x.wire.session.client x.ids x.editor.requested (Some m ∷ q)) waits tied.says)
+  serve_step (None ∷ q) r [] wire waits tied takes = absurd (subst (AreMessagesToSession x.wire.session.client x.ids x.editor.requested (None ∷ q)) waits tied.says)
 
-  reads_asks : (e : Editor) (m : ToEditor) → (reads e m).requested ≡ e.requested
+  reads_asks : (e : Editor) (m : MessageToEditor) → (reads e m).requested ≡ e.requested
   reads_asks e (publishes uri version empty) = refl
   reads_asks e (answers k []) = refl
   reads_asks e (answers k (edit ∷ edits)) = refl
 
   -- The contents still say the messages after the editor has got a content and become e.
-  got_so : (q : List (Option ToServer)) (r rest_meant : List (Option ToEditor)) (content : List ℕ) (rest : List (List ℕ)) (e : Editor) → x.wire.to_editor ≡ content ∷ rest → Tied got x q r made → e.requested ≡ x.editor.requested → EachMeans x.ids x.editor.requested rest_meant rest
+  got_so : (q : List (Option MessageToServer)) (r rest_meant : List (Option MessageToEditor)) (content : List ℕ) (rest : List (List ℕ)) (e : Editor) → x.wire.to_editor ≡ content ∷ rest → Tied got x q r made → e.requested ≡ x.editor.requested → AreMessagesToEditor x.ids x.editor.requested rest_meant rest
       → Tied got (record x { editor = e; wire = record x.wire { got = x.wire.got ++ content ∷ []; to_editor = rest } }) q rest_meant made
   got_so q r rest_meant content rest e waits tied same means =
       record {
-        says = subst (λ asks. EachSays x.wire.session.client x.ids asks q x.wire.to_server) (sym same) tied.says;
-        means = subst (λ asks. EachMeans x.ids asks rest_meant rest) (sym same) means;
+        says = subst (λ asks. AreMessagesToSession x.wire.session.client x.ids asks q x.wire.to_server) (sym same) tied.says;
+        means = subst (λ asks. AreMessagesToEditor x.ids asks rest_meant rest) (sym same) means;
         running = tied.running;
         conversed = gets_conversed (content ∷ rest) x.wire (record x.wire { got = x.wire.got ++ content ∷ []; to_editor = rest }) waits refl tied.conversed;
         shown = shown_got got rest content x.wire made waits tied.shown;
       }
 
-  get_step : (q : List (Option ToServer)) (r : List (Option ToEditor)) (contents : List (List ℕ)) (y : Exchange) → x.wire.to_editor ≡ contents → Tied got x q r made → GetsOne contents x y → Step got (model_of x q r made) editor_takes y
+  get_step : (q : List (Option MessageToServer)) (r : List (Option MessageToEditor)) (contents : List (List ℕ)) (y : Exchange) → x.wire.to_editor ≡ contents → Tied got x q r made → EditorReadsFirst contents x y → Step got (model_of x q r made) editor_takes y
   get_step q [] [] y waits tied is =
       record { q = q; r = []; made = made; happens = ap (λ v. model_of v q [] made) is; tied = subst (λ v. Tied got v q [] made) (sym is) tied }
   get_step q (Some m ∷ r) (c ∷ rest) y waits tied is =
-      let means : EachMeans x.ids x.editor.requested (Some m ∷ r) (c ∷ rest) = subst (EachMeans x.ids x.editor.requested (Some m ∷ r)) waits tied.means in
+      let means : AreMessagesToEditor x.ids x.editor.requested (Some m ∷ r) (c ∷ rest) = subst (AreMessagesToEditor x.ids x.editor.requested (Some m ∷ r)) waits tied.means in
       let now : Wire = record x.wire { got = x.wire.got ++ c ∷ []; to_editor = rest } in
-      subst (Step got (model_of x q (Some m ∷ r) made) editor_takes) (sym (is ∙ (λ i. record x { editor = reads_meaning x.editor (means.0 i); wire = now })))
+      subst (Step got (model_of x q (Some m ∷ r) made) editor_takes) (sym (is ∙ (λ i. record x { editor = after_reading_if_any x.editor (means.0 i); wire = now })))
       (record { q = q; r = r; made = made; happens = refl; tied = got_so q (Some m ∷ r) r c rest (reads x.editor m) waits tied (reads_asks x.editor m) means.1 })
   get_step q (None ∷ r) (c ∷ rest) y waits tied is =
-      let means : EachMeans x.ids x.editor.requested (None ∷ r) (c ∷ rest) = subst (EachMeans x.ids x.editor.requested (None ∷ r)) waits tied.means in
+      let means : AreMessagesToEditor x.ids x.editor.requested (None ∷ r) (c ∷ rest) = subst (AreMessagesToEditor x.ids x.editor.requested (None ∷ r)) waits tied.means in
       let now : Wire = record x.wire { got = x.wire.got ++ c ∷ []; to_editor = rest } in
-      let none : read_by x.ids x.editor.requested c ≡ None = subst (λ all. read_by all x.editor.requested c ≡ None) (append-nil x.ids) (means.0 [] x.editor.requested) in
-      subst (Step got (model_of x q (None ∷ r) made) editor_takes) (sym (is ∙ (λ i. record x { editor = reads_meaning x.editor (none i); wire = now })))
+      let none : message_to_editor_by_ids x.ids x.editor.requested c ≡ None = subst (λ all. message_to_editor_by_ids all x.editor.requested c ≡ None) (append-nil x.ids) (means.0 [] x.editor.requested) in
+      subst (Step got (model_of x q (None ∷ r) made) editor_takes) (sym (is ∙ (λ i. record x { editor = after_reading_if_any x.editor (none i); wire = now })))
       (record { q = q; r = r; made = made; happens = refl; tied = got_so q (None ∷ r) r c rest x.editor waits tied refl means.1 })
-  get_step q [] (c ∷ rest) y waits tied is = absurd (subst (EachMeans x.ids x.editor.requested []) waits tied.means)
-  get_step q (Some m ∷ r) [] y waits tied is = absurd (subst (EachMeans x.ids x.editor.requested (Some m ∷ r)) waits tied.means)
-  get_step q (None ∷ r) [] y waits tied is = absurd (subst (EachMeans x.ids x.editor.requested (None ∷ r)) waits tied.means)
+  get_step q [] (c ∷ rest) y waits tied is = absurd (subst (AreMessagesToEditor x.ids x.editor.requested []) waits tied.means)
+  get_step q (Some m ∷ r) [] y waits tied is = absurd (subst (AreMessagesToEditor x.ids x.editor.requested (Some m ∷ r)) waits tied.means)
+  get_step q (None ∷ r) [] y waits tied is = absurd (subst (AreMessagesToEditor x.ids x.editor.requested (None ∷ r)) waits tied.means)
 
-  turn_step : (q : List (Option ToServer)) (r : List (Option ToEditor)) (turn : Turn) (y : Exchange) → Tied got x q r made → Exchanges x turn y → Step got (model_of x q r made) turn y
+  turn_step : (q : List (Option MessageToServer)) (r : List (Option MessageToEditor)) (turn : Turn) (y : Exchange) → Tied got x q r made → Exchanges x turn y → Step got (model_of x q r made) turn y
   turn_step q r (editor_does move) y tied h = does_step q r move y tied h
   turn_step q r editor_says y tied h = says_step q r y tied h
   turn_step q r server_takes y tied (wire, takes, is) = subst (Step got (model_of x q r made) server_takes) (sym is) (serve_step q r x.wire.to_server wire refl tied takes)
@@ -571,20 +571,20 @@ module _ (got : List (List ℕ)) (x : Exchange) (made : List Made) where
 -- ---- all turns
 
 record Led (got : List (List ℕ)) (w : EditorAndServer) (turns : List Turn) (y : Exchange) : Type 0 where
-  q : List (Option ToServer)
-  r : List (Option ToEditor)
+  q : List (Option MessageToServer)
+  r : List (Option MessageToEditor)
   made : List Made
-  leads : MayLead w turns (model_of y q r made)
+  leads : MayLeadTo w turns (model_of y q r made)
   tied : Tied got y q r made
 
-turns_lead : (got : List (List ℕ)) (turns : List Turn) (x y : Exchange) (q : List (Option ToServer)) (r : List (Option ToEditor)) (made : List Made) → Tied got x q r made → ExchangeLeads x turns y → Led got (model_of x q r made) turns y
+turns_lead : (got : List (List ℕ)) (turns : List Turn) (x y : Exchange) (q : List (Option MessageToServer)) (r : List (Option MessageToEditor)) (made : List Made) → Tied got x q r made → ExchangeCourse x turns y → Led got (model_of x q r made) turns y
 turns_lead got [] x y q r made tied is = record { q = q; r = r; made = made; leads = ap (λ v. model_of v q r made) is; tied = subst (λ v. Tied got v q r made) (sym is) tied }
 turns_lead got (turn ∷ turns) x y q r made tied (between, exchanges, rest) =
     let step : Step got (model_of x q r made) turn between = turn_step got x made q r turn between tied exchanges in
     let led : Led got (model_of between step.q step.r step.made) turns y = turns_lead got turns between y step.q step.r step.made step.tied rest in
     record { q = led.q; r = led.r; made = led.made; leads = (model_of between step.q step.r step.made, step.happens, led.leads); tied = led.tied }
 
-begun_led : (unit : Unit) (begin now : Exchange) (turns : List Turn) → BeginsExchange unit begin → ExchangeLeads begin turns now → Led begin.wire.got (nothing_yet unit) turns now
+begun_led : (unit : Unit) (begin now : Exchange) (turns : List Turn) → BeginsExchange unit begin → ExchangeCourse begin turns now → Led begin.wire.got (initial_editor_and_server unit) turns now
 begun_led unit begin now turns b leads =
     let tied : Tied begin.wire.got begin [] [] [] =
     subst (λ (x : Exchange). Tied x.wire.got x [] [] []) (sym b.is)
@@ -595,12 +595,12 @@ begun_led unit begin now turns b leads =
       conversed = initialized_conversed b.client b.taken b.got b.initialized;
       shown = record { since = []; sent = refl; published = refl };
     }) in
-    let first : model_of begin [] [] [] ≡ nothing_yet unit = ap (λ x. model_of x [] [] []) b.is ∙ (λ i. record (nothing_yet unit) { held = none_open (b.counts i) }) in
+    let first : model_of begin [] [] [] ≡ initial_editor_and_server unit = ap (λ x. model_of x [] [] []) b.is ∙ (λ i. record (initial_editor_and_server unit) { held = no_open_documents (b.counts i) }) in
     subst (λ w. Led begin.wire.got w turns now) first (turns_lead begin.wire.got turns begin now [] [] [] tied leads)
 
-pub every_exchange_is_of_the_model : EveryExchangeIsOfTheModel
-every_exchange_is_of_the_model unit begin now turns b leads =
-    let led : Led begin.wire.got (nothing_yet unit) turns now = begun_led unit begin now turns b leads in
+pub every_exchange_follows_model : EveryExchangeFollowsModel
+every_exchange_follows_model unit begin now turns b leads =
+    let led : Led begin.wire.got (initial_editor_and_server unit) turns now = begun_led unit begin now turns b leads in
     record {
       model = model_of now led.q led.r led.made;
       leads = led.leads;
@@ -610,20 +610,20 @@ every_exchange_is_of_the_model unit begin now turns b leads =
       applied = refl;
       says = led.tied.says;
       means = led.tied.means;
-      holds = with_every_editor unit turns (model_of now led.q led.r led.made) led.leads;
+      holds = holds_for_every_editor unit turns (model_of now led.q led.r led.made) led.leads;
       conversation = as_conversation now.wire led.tied.conversed;
     }
 
 -- ---- the headline of an exchange
 
 -- Publications that are right and made for these documents are right of them when sent.
-right_of : (made : List Made) (announced : List Announced) → All IsRight made → AreMadeOf made announced → AreRightOf (map named made) announced
+right_of : (made : List Made) (announced : List AnnouncedDocument) → All IsCorrectPublication made → AreMadeForDocuments made announced → AreCorrectFor (map named made) announced
 right_of [] [] all h = tt
 right_of (m ∷ made) (t ∷ announced) all ((uri_is, version_is, text_is), rest) = (
   uri_is,
   version_is,
-  subst (λ text. IsEmptyIfCorrect text m.empty) text_is (All-head IsRight m made all),
-  right_of made announced (All-tail IsRight m made all) rest,
+  subst (λ text. IsEmptyIfWellTyped text m.empty) text_is (All-head IsCorrectPublication m made all),
+  right_of made announced (All-tail IsCorrectPublication m made all) rest,
 )
 right_of [] (t ∷ announced) all h = absurd h
 right_of (m ∷ made) [] all h = absurd h
@@ -636,51 +636,51 @@ last_named uri last (m ∷ made) =
     ap (λ o. fold (λ last p. cond (bytes_eq p.uri uri) (Some p) last) o (map named made)) (sym (mapped_choice named (bytes_eq m.uri uri) (Some m) last)) ∙ last_named uri (cond (bytes_eq m.uri uri) (Some m) last) made
 
 -- If all publications are right, the last one for a uri is right.
-last_right : (uri : List ℕ) (last : Option Made) (made : List Made) → MatchOption last ⊤ IsRight → All IsRight made → MatchOption (fold (λ last m. cond (bytes_eq m.uri uri) (Some m) last) last made) ⊤ IsRight
+last_right : (uri : List ℕ) (last : Option Made) (made : List Made) → MatchOption last ⊤ IsCorrectPublication → All IsCorrectPublication made → MatchOption (fold (λ last m. cond (bytes_eq m.uri uri) (Some m) last) last made) ⊤ IsCorrectPublication
 last_right uri last [] h all = h
-last_right uri last (m ∷ made) h all = last_right uri (cond (bytes_eq m.uri uri) (Some m) last) made (go (bytes_eq m.uri uri)) (All-tail IsRight m made all)
+last_right uri last (m ∷ made) h all = last_right uri (cond (bytes_eq m.uri uri) (Some m) last) made (go (bytes_eq m.uri uri)) (All-tail IsCorrectPublication m made all)
   where
-    go : (b : Bool) → MatchOption (cond b (Some m) last) ⊤ IsRight
-    go true = All-head IsRight m made all
+    go : (b : Bool) → MatchOption (cond b (Some m) last) ⊤ IsCorrectPublication
+    go true = All-head IsCorrectPublication m made all
     go false = h
 
-latest_right : (d : Open) (o : Option Made) → MatchOption o ⊥ (λ m. (m.version ≡ d.version) × (m.text ≡ d.text)) → MatchOption o ⊤ IsRight
-    → MatchOption (option_map named o) ⊥ (λ p. (p.version ≡ d.version) × IsEmptyIfCorrect d.text p.empty)
+latest_right : (d : OpenDocument) (o : Option Made) → MatchOption o ⊥ (λ m. (m.version ≡ d.version) × (m.text ≡ d.text)) → MatchOption o ⊤ IsCorrectPublication
+    → MatchOption (option_map named o) ⊥ (λ p. (p.version ≡ d.version) × IsEmptyIfWellTyped d.text p.empty)
 latest_right d None h right = h
-latest_right d (Some m) h right = (h.0, subst (λ text. IsEmptyIfCorrect text m.empty) h.1 right)
+latest_right d (Some m) h right = (h.0, subst (λ text. IsEmptyIfWellTyped text m.empty) h.1 right)
 
 -- ---- the meaning of waiting contents
 
 -- Without known asks no request is read.
-none_read : (o : Option ℕ) → option_and_then (request_read []) o ≡ None
+none_read : (o : Option ℕ) → option_and_then (sent_request []) o ≡ None
 none_read None = refl
 none_read (Some zero) = refl
 none_read (Some (suc k)) = refl
 
-request_unheard : (content : List ℕ) (json id params : Data) (method : List ℕ) → ReadsContent content (Some json) → meaning_of json ≡ request id method params → heard [] content ≡ None
-unfolding heard
+request_unheard : (content : List ℕ) (json id params : Data) (method : List ℕ) → ReadsContent content (Some json) → meaning_of json ≡ request id method params → message_to_server_in [] content ≡ None
+unfolding message_to_server_in
 request_unheard content json id params method reads_so means =
-    said (λ d. message_read [] (meaning_of d)) content json reads_so ∙ ap (message_read []) means ∙ none_read (request_number id)
+    said (λ d. message_to_server_of [] (meaning_of d)) content json reads_so ∙ ap (message_to_server_of []) means ∙ none_read (request_number id)
 
-ask_unheard : (id : Data) (uri : List ℕ) (ask : Ask) (content : List ℕ) → IsRequestFor id uri ask content → heard [] content ≡ None
+ask_unheard : (id : Data) (uri : List ℕ) (ask : Ask) (content : List ℕ) → IsRequestFor id uri ask content → message_to_server_in [] content ≡ None
 ask_unheard id uri (rename position name) content is = request_unheard content is.json id is.params (codes "textDocument/rename") is.reads is.means
 ask_unheard id uri (inline_here position) content is = request_unheard content is.json id is.params (codes "textDocument/codeAction") is.reads is.means
 ask_unheard id uri (inline_all position) content is = request_unheard content is.json id is.params (codes "textDocument/codeAction") is.reads is.means
 ask_unheard id uri (format indent) content is = request_unheard content is.json id is.params (codes "textDocument/formatting") is.reads is.means
 
-other_unheard : (ids : List SentId) (content : List ℕ) → IsOther ids content → heard [] content ≡ None
-unfolding heard
-other_unheard ids content (json, reads_so, is) = said (λ d. message_read [] (meaning_of d)) content json reads_so ∙ go (meaning_of json) is
+other_unheard : (ids : List SentRequestId) (content : List ℕ) → IsUnmodeledContent ids content → message_to_server_in [] content ≡ None
+unfolding message_to_server_in
+other_unheard ids content (json, reads_so, is) = said (λ d. message_to_server_of [] (meaning_of d)) content json reads_so ∙ go (meaning_of json) is
   where
-    go : (m : MessageMeaning) → IsOtherMessage ids m → message_read [] m ≡ None
+    go : (m : MessageMeaning) → IsUnmodeledMessage ids m → message_to_server_of [] m ≡ None
     go not_json is = refl
     go not_a_message is = refl
     go response is = refl
     go (request id method params) is = none_read (request_number id)
-    go (notice method params) is = ap notification_read is
+    go (notice method params) is = ap message_of_notification is
 
 -- The notifications in the waiting contents are the notifications among the model's messages.
-notes_waiting : (client : Client) (ids : List SentId) (requested : List SentAsk) (q : List (Option ToServer)) (contents : List (List ℕ)) → EachSays client ids requested q contents → notes_in contents ≡ notes_among (without_others q)
+notes_waiting : (client : ClientFeatures) (ids : List SentRequestId) (requested : List SentAsk) (q : List (Option MessageToServer)) (contents : List (List ℕ)) → AreMessagesToSession client ids requested q contents → notifications_in contents ≡ notifications_among (modeled_messages q)
 notes_waiting client ids requested [] [] h = refl
 notes_waiting client ids requested (Some (notifies note) ∷ q) (c ∷ contents) h = λ i. cons_option (says_heard [] (notifies note) c h.0 i) (notes_waiting client ids requested q contents h.1 i)
 notes_waiting client ids requested (Some (requests k uri ask) ∷ q) (c ∷ contents) ((id, is, of, takes), h) = λ i. cons_option (ask_unheard id uri ask c is i) (notes_waiting client ids requested q contents h i)
@@ -690,24 +690,24 @@ notes_waiting client ids requested (Some m ∷ q) [] h = absurd h
 notes_waiting client ids requested (None ∷ q) [] h = absurd h
 
 -- Only notifications announce documents.
-notes_named : (q : List ToServer) → named_in q ≡ named_in (notes_among q)
+notes_named : (q : List MessageToServer) → versions_announced_in q ≡ versions_announced_in (notifications_among q)
 notes_named [] = refl
-notes_named (notifies note ∷ q) = ap (λ names. versions_announced (notifies note) ++ names) (notes_named q)
+notes_named (notifies note ∷ q) = ap (λ names. versions_announced_by (notifies note) ++ names) (notes_named q)
 notes_named (requests k uri ask ∷ q) = notes_named q
 
-notes_change : (held : OpenDocuments) (q : List ToServer) → fold after_message held (notes_among q) ≡ fold after_message held q
+notes_change : (held : OpenDocuments) (q : List MessageToServer) → fold after_message held (notifications_among q) ≡ fold after_message held q
 notes_change held [] = refl
 notes_change held (notifies note ∷ q) = notes_change (after_message held (notifies note)) q
 notes_change held (requests k uri ask ∷ q) = notes_change held q
 
-pub every_exchange_holds : EveryExchangeHolds
-every_exchange_holds unit begin now turns b leads =
-    let led : Led begin.wire.got (nothing_yet unit) turns now = begun_led unit begin now turns b leads in
+pub holds_for_every_exchange : HoldsForEveryExchange
+holds_for_every_exchange unit begin now turns b leads =
+    let led : Led begin.wire.got (initial_editor_and_server unit) turns now = begun_led unit begin now turns b leads in
     let w : EditorAndServer = model_of now led.q led.r led.made in
-    let holds : HoldsWithEditor w = with_every_editor unit turns w led.leads in
+    let holds : HoldsWithEditor w = holds_for_every_editor unit turns w led.leads in
     let shown : Shown begin.wire.got now.wire led.made = led.tied.shown in
-    let waiting : List ToServer = without_others led.q in
-    let notes : notes_in now.wire.to_server ≡ notes_among waiting = notes_waiting now.wire.session.client now.ids now.editor.requested led.q now.wire.to_server led.tied.says in
+    let waiting : List MessageToServer = modeled_messages led.q in
+    let notes : notifications_in now.wire.to_server ≡ notifications_among waiting = notes_waiting now.wire.session.client now.ids now.editor.requested led.q now.wire.to_server led.tied.says in
     record {
       applied = holds.holds.applied;
       since = shown.since;
@@ -715,10 +715,10 @@ every_exchange_holds unit begin now turns b leads =
       published_of = holds.published;
       not_yet = holds.waiting;
       announced = holds.all;
-      right = subst (λ ps. AreRightOf ps holds.published) (sym shown.published) (right_of led.made holds.published holds.holds.made holds.made_of);
-      still_wait = holds.still_wait ∙ notes_named waiting ∙ ap named_in (sym notes);
+      right = subst (λ ps. AreCorrectFor ps holds.published) (sym shown.published) (right_of led.made holds.published holds.holds.made holds.made_of);
+      still_wait = holds.still_wait ∙ notes_named waiting ∙ ap versions_announced_in (sym notes);
       latest = λ quiet uri d at.
-          subst (λ o. MatchOption o ⊥ (λ p. (p.version ≡ d.version) × IsEmptyIfCorrect d.text p.empty)) (sym (ap (last_published uri) shown.published ∙ last_named uri None led.made))
+          subst (λ o. MatchOption o ⊥ (λ p. (p.version ≡ d.version) × IsEmptyIfWellTyped d.text p.empty)) (sym (ap (last_published uri) shown.published ∙ last_named uri None led.made))
           (latest_right d (last_publication uri led.made)
           (holds.latest (sym notes ∙ quiet) uri d at)
           (last_right uri None led.made tt holds.holds.made));

@@ -8,23 +8,23 @@ use Rattle.std.proofs.lemmas.List.Elements.{All-head, All-push, All-tail}
 use Rattle.ob0_text.specs.OpenDocuments.{TextChange}
 use Rattle.ob0_session_server.specs.Answers.{ServerState}
 use Rattle.ob0_world_editor.specs.Code.{applied_of}
-use Rattle.ob0_world_editor.specs.Heard.{heard, SaysToServer}
-use Rattle.ob0_world_editor.specs.Moves.{SaysSent, Acts, IsSilent, ComesOf}
-use Rattle.ob0_world_editor.specs.Understood.{understood}
+use Rattle.ob0_world_editor.specs.MessagesToServer.{message_to_server_in, IsMessageToServer}
+use Rattle.ob0_world_editor.specs.Moves.{IsSentContent, PerformsAct, IsSilent, IsApplyOutcome}
+use Rattle.ob0_world_editor.specs.MessagesToEditor.{message_to_editor_in}
 use Rattle.ob0_world_editor.specs.declared.applied.Applied as applied
-use Rattle.ob0_world_editor.specs.declared.applied.Applying as applying
+use Rattle.ob0_world_editor.specs.declared.applied.ApplyOutcome as applying
 use Rattle.ob0_world_editor.proofs.Hearing.{says_heard}
-use Rattle.ob0_world_rules.specs.Edited.{Replacement, after_changes}
+use Rattle.ob0_world_rules.specs.Edited.{Replacement, text_after_changes}
 use Rattle.ob0_world_rules.specs.Asks.{Ask}
-use Rattle.ob0_world_rules.specs.ClientAndServer.{Open, SentAsk, Editor, open_at, ToServer, ToEditor, publishes, answers, ClientAndServer}
-use Rattle.ob0_world_rules.specs.Editing.{Act, open_document, change_document, close_document, ask_about, apply, discard, Done, stays, opens, rewrites, closes, asks, kept_answer, without_answer, done_by, reads}
-use Rattle.ob0_world_rules.specs.Happens.{does, take_message, after_act, after_taking, Happens}
-use Rattle.ob0_world_rules.proofs.Acts.{of_each}
+use Rattle.ob0_world_rules.specs.ClientAndServer.{OpenDocument, SentAsk, Editor, open_at, MessageToServer, MessageToEditor, publishes, answers, ClientAndServer}
+use Rattle.ob0_world_rules.specs.EditorActs.{Act, open_document, change_document, close_document, ask_about, apply, discard, ActResult, unchanged_result, opening_result, rewriting_result, closing_result, asks, edits_of_answer, without_answer, act_result, reads}
+use Rattle.ob0_world_rules.specs.Happens.{does, take_message, after_act, after_editor_takes, Happens}
+use Rattle.ob0_world_rules.proofs.PerformsAct.{of_each}
 use Rattle.ob0_world.specs.declared.events.Seen as seen
 use Rattle.ob0_world.specs.declared.played.Made as made
-use Rattle.ob0_world.specs.Seen.{Seen, nothing, applies, drops, if_any, sent_of, act_seen, taken_seen, seen_of, Shows}
+use Rattle.ob0_world.specs.Seen.{Seen, nothing, applies, drops, report_if_any, send_report, act_report, take_report, report_of, HappensWithReport}
 use Rattle.ob0_world.specs.Seen as seen_as
-use Rattle.ob0_world.specs.Queues.{Contents, bytes, all_heard, all_understood, IsHeard, IsUnderstood, Sound, model_from, wire_from, IsSent, MovesFirst}
+use Rattle.ob0_world.specs.Queues.{Contents, content_bytes, all_messages_to_server, all_messages_to_editor, HasMessageToServer, HasMessageToEditor, Sound, model_from, wire_from, QueuesContent, MovesFirst}
 use Rattle.ob0_world.specs.Worlds.{WritesContent}
 use Rattle.ob0_world.proofs.Waiting.{all_heard_still, all_understood_still, heard_still, understood_same, said_push, said_first}
 
@@ -33,7 +33,7 @@ use Rattle.ob0_world.proofs.Waiting.{all_heard_still, all_understood_still, hear
 abbrev pub Grows : Editor → Editor → Type 0
 Grows e new = (more : List SentAsk) × (new.requested ≡ e.requested ++ more)
 
-pub act_grows : (e : Editor) (act : Act) → Grows e (done_by e act).editor
+pub act_grows : (e : Editor) (act : Act) → Grows e (act_result e act).editor
 act_grows e = of_each e (λ done. Grows e done.editor) (record {
   still = ([], sym (append-nil e.requested));
   opened = λ uri text none. ([], sym (append-nil e.requested));
@@ -44,7 +44,7 @@ act_grows e = of_each e (λ done. Grows e done.editor) (record {
   dropped = λ k. ([], sym (append-nil e.requested));
 })
 
-pub grown : (e new : Editor) (done : Done) → Grows e done.editor → new ≡ done.editor → Grows e new
+pub grown : (e new : Editor) (done : ActResult) → Grows e done.editor → new ≡ done.editor → Grows e new
 grown e new done (more, grows) is = (more, ap (λ (x : Editor). x.requested) is ∙ grows)
 
 -- ---- waiting contents are still messages
@@ -57,168 +57,168 @@ grown_sound e new q r s (more, is) sound =
 pub same_sound : (e new : Editor) (q r : Contents) (s : ServerState) → new.requested ≡ e.requested → Sound e.requested q r s → Sound new.requested q r s
 same_sound e new q r s is sound = subst (λ requested. Sound requested q r s) (sym is) sound
 
-pushed_sound : (requested : List SentAsk) (q r : Contents) (s : ServerState) (c : Vec ℕ Global) (m : ToServer) → SaysToServer requested m c.items → Sound requested q r s → Sound requested (q ++ c ∷ []) r s
+pushed_sound : (requested : List SentAsk) (q r : Contents) (s : ServerState) (c : Vec ℕ Global) (m : MessageToServer) → IsMessageToServer requested m c.items → Sound requested q r s → Sound requested (q ++ c ∷ []) r s
 pushed_sound requested q r s c m says sound =
-    record { heard_all = All-push (IsHeard requested) q c sound.heard_all (m, says); understood_all = sound.understood_all; running = sound.running }
+    record { heard_all = All-push (HasMessageToServer requested) q c sound.heard_all (m, says); understood_all = sound.understood_all; running = sound.running }
 
 -- After an act the waiting contents are still messages, including the content of that act.
-pub acted_sound : (e new : Editor) (done : Done) (content : Option (Vec ℕ Global)) (q q' r : Contents) (s : ServerState) → Grows e done.editor → Acts done content new → q' ≡ q ++ option_to_list content → Sound e.requested q r s → Sound new.requested q' r s
+pub acted_sound : (e new : Editor) (done : ActResult) (content : Option (Vec ℕ Global)) (q q' r : Contents) (s : ServerState) → Grows e done.editor → PerformsAct done content new → q' ≡ q ++ option_to_list content → Sound e.requested q r s → Sound new.requested q' r s
 acted_sound e new done content q q' r s grows acts is sound =
     let still : Sound new.requested q r s = grown_sound e new q r s (grown e new done grows acts.0) sound in
     subst (λ x. Sound new.requested x r s) (sym is) (go done.sent content acts.1 still)
   where
-    go : (sent : List ToServer) (content : Option (Vec ℕ Global)) → SaysSent new.requested sent content → Sound new.requested q r s → Sound new.requested (q ++ option_to_list content) r s
+    go : (sent : List MessageToServer) (content : Option (Vec ℕ Global)) → IsSentContent new.requested sent content → Sound new.requested q r s → Sound new.requested (q ++ option_to_list content) r s
     go [] None says still = subst (λ x. Sound new.requested x r s) (sym (append-nil q)) still
     go [] (Some c) says still = absurd says
     go (m ∷ more) None says still = absurd says
     go (m ∷ more) (Some c) says still = pushed_sound new.requested q r s c m says.0 still
 
 -- The queue to the session has the messages that it had and the one that the act sent.
-heard_acted : (requested : List SentAsk) (sent : List ToServer) (content : Option (Vec ℕ Global)) (q : Contents) → SaysSent requested sent content → all_heard requested (q ++ option_to_list content) ≡ all_heard requested q ++ sent
-heard_acted requested [] None q says = ap (all_heard requested) (append-nil q) ∙ sym (append-nil (all_heard requested q))
+heard_acted : (requested : List SentAsk) (sent : List MessageToServer) (content : Option (Vec ℕ Global)) (q : Contents) → IsSentContent requested sent content → all_messages_to_server requested (q ++ option_to_list content) ≡ all_messages_to_server requested q ++ sent
+heard_acted requested [] None q says = ap (all_messages_to_server requested) (append-nil q) ∙ sym (append-nil (all_messages_to_server requested q))
 heard_acted requested [] (Some c) q says = absurd says
 heard_acted requested (m ∷ more) None q says = absurd says
 heard_acted requested (m ∷ more) (Some c) q says =
-    said_push (heard requested) q c m (says_heard requested m c.items says.0) ∙ ap (λ ms. all_heard requested q ++ m ∷ ms) (sym says.1)
+    said_push (message_to_server_in requested) q c m (says_heard requested m c.items says.0) ∙ ap (λ ms. all_messages_to_server requested q ++ m ∷ ms) (sym says.1)
 
 -- After an act of the code, the stored state is the model's state after that act.
-pub acted : (e new : Editor) (done : Done) (content : Option (Vec ℕ Global)) (q q' r : Contents) (s : ServerState) (ap_list ap_new : List applied.Applied) (md : List made.Made) → Grows e done.editor → Acts done content new → q' ≡ q ++ option_to_list content
+pub acted : (e new : Editor) (done : ActResult) (content : Option (Vec ℕ Global)) (q q' r : Contents) (s : ServerState) (ap_list ap_new : List applied.Applied) (md : List made.Made) → Grows e done.editor → PerformsAct done content new → q' ≡ q ++ option_to_list content
     → map applied_of ap_new ≡ map applied_of ap_list ++ done.applied → Sound e.requested q r s → model_from new q' s r ap_new md ≡ after_act (model_from e q s r ap_list md) done
 acted e new done content q q' r s ap_list ap_new md grows acts is more sound =
     let (since, grew) = grown e new done grows acts.0 in
-    let waits : all_heard new.requested q' ≡ all_heard e.requested q ++ done.sent =
-    ap (all_heard new.requested) is ∙ heard_acted new.requested done.sent content q acts.1
-    ∙ ap (λ ms. ms ++ done.sent) (ap (λ requested. all_heard requested q) grew ∙ heard_still e.requested since q sound.heard_all) in
+    let waits : all_messages_to_server new.requested q' ≡ all_messages_to_server e.requested q ++ done.sent =
+    ap (all_messages_to_server new.requested) is ∙ heard_acted new.requested done.sent content q acts.1
+    ∙ ap (λ ms. ms ++ done.sent) (ap (λ requested. all_messages_to_server requested q) grew ∙ heard_still e.requested since q sound.heard_all) in
     (λ i. record (model_from e q s r ap_list md) {
       editor = acts.0 i;
       to_server = waits i;
-      to_editor = (ap (λ requested. all_understood requested r) grew ∙ understood_same e.requested since r sound.understood_all) i;
+      to_editor = (ap (λ requested. all_messages_to_editor requested r) grew ∙ understood_same e.requested since r sound.understood_all) i;
       applied = more i;
     })
 
 -- ---- an act that applies nothing
 
 -- The content of an act, if there is one, was put at the end of the queue.
-pub put : (q q' : Contents) (content : Option (Vec ℕ Global)) (shown : seen.Seen) → IsSent q content shown q' → q' ≡ q ++ option_to_list content
+pub put : (q q' : Contents) (content : Option (Vec ℕ Global)) (shown : seen.Seen) → QueuesContent q content shown q' → q' ≡ q ++ option_to_list content
 put q q' None shown sent = sent.1 ∙ sym (append-nil q)
 put q q' (Some c) shown sent = sent.1
 
-seen_sent : (done : Done) (requested : List SentAsk) (q q' : Contents) (content : Option (Vec ℕ Global)) (shown : seen.Seen) → SaysSent requested done.sent content → IsSent q content shown q' → seen_of shown ≡ sent_of done
+seen_sent : (done : ActResult) (requested : List SentAsk) (q q' : Contents) (content : Option (Vec ℕ Global)) (shown : seen.Seen) → IsSentContent requested done.sent content → QueuesContent q content shown q' → report_of shown ≡ send_report done
 seen_sent done requested q q' content shown says sent = go done.sent content says sent
   where
-    go : (ms : List ToServer) (content : Option (Vec ℕ Global)) → SaysSent requested ms content → IsSent q content shown q' → seen_of shown ≡ if_any ms seen_as.sent seen_as.nothing
+    go : (ms : List MessageToServer) (content : Option (Vec ℕ Global)) → IsSentContent requested ms content → QueuesContent q content shown q' → report_of shown ≡ report_if_any ms seen_as.sent seen_as.nothing
     go [] None says sent = sent.0
     go [] (Some c) says sent = absurd says
     go (m ∷ more) None says sent = absurd says
     go (m ∷ more) (Some c) says sent = sent.0
 
-none_applied : (e : Editor) (o : Option Done) → ((done : Done) → o ≡ Some done → done.applied ≡ []) → (unwrap_or o (stays e)).applied ≡ []
+none_applied : (e : Editor) (o : Option ActResult) → ((done : ActResult) → o ≡ Some done → done.applied ≡ []) → (unwrap_or o (unchanged_result e)).applied ≡ []
 none_applied e None none = refl
 none_applied e (Some done) none = none done refl
 
-pub open_applies : (e : Editor) (uri text : List ℕ) → (done_by e (open_document uri text)).applied ≡ []
+pub open_applies : (e : Editor) (uri text : List ℕ) → (act_result e (open_document uri text)).applied ≡ []
 open_applies e uri text = go (is_some (open_at e uri))
   where
-    go : (b : Bool) → (cond b (stays e) (opens e uri text)).applied ≡ []
+    go : (b : Bool) → (cond b (unchanged_result e) (opening_result e uri text)).applied ≡ []
     go true = refl
     go false = refl
 
-pub close_applies : (e : Editor) (uri : List ℕ) → (done_by e (close_document uri)).applied ≡ []
+pub close_applies : (e : Editor) (uri : List ℕ) → (act_result e (close_document uri)).applied ≡ []
 close_applies e uri = go (is_some (open_at e uri))
   where
-    go : (b : Bool) → (cond b (closes e uri) (stays e)).applied ≡ []
+    go : (b : Bool) → (cond b (closing_result e uri) (unchanged_result e)).applied ≡ []
     go true = refl
     go false = refl
 
-pub ask_applies : (e : Editor) (uri : List ℕ) (ask : Ask) → (done_by e (ask_about uri ask)).applied ≡ []
+pub ask_applies : (e : Editor) (uri : List ℕ) (ask : Ask) → (act_result e (ask_about uri ask)).applied ≡ []
 ask_applies e uri ask = go (open_at e uri)
   where
-    go : (o : Option Open) → (unwrap_or (option_and_then (λ d. Some (asks e uri ask d)) o) (stays e)).applied ≡ []
+    go : (o : Option OpenDocument) → (unwrap_or (option_and_then (λ d. Some (asks e uri ask d)) o) (unchanged_result e)).applied ≡ []
     go None = refl
     go (Some d) = refl
 
-pub change_applies : (e : Editor) (uri : List ℕ) (how : List TextChange) → (done_by e (change_document uri how)).applied ≡ []
+pub change_applies : (e : Editor) (uri : List ℕ) (how : List TextChange) → (act_result e (change_document uri how)).applied ≡ []
 change_applies e uri how = go (open_at e uri)
   where
-    of_text : (d : Open) (o : Option (List ℕ)) → (unwrap_or (option_and_then (λ text. Some (rewrites e uri d text how [])) o) (stays e)).applied ≡ []
+    of_text : (d : OpenDocument) (o : Option (List ℕ)) → (unwrap_or (option_and_then (λ text. Some (rewriting_result e uri d text how [])) o) (unchanged_result e)).applied ≡ []
     of_text d None = refl
     of_text d (Some text) = refl
 
-    go : (o : Option Open) → (unwrap_or (option_and_then (λ d. option_and_then (λ text. Some (rewrites e uri d text how [])) (after_changes e.unit (Some d.text) how)) o) (stays e)).applied ≡ []
+    go : (o : Option OpenDocument) → (unwrap_or (option_and_then (λ d. option_and_then (λ text. Some (rewriting_result e uri d text how [])) (text_after_changes e.unit (Some d.text) how)) o) (unchanged_result e)).applied ≡ []
     go None = refl
-    go (Some d) = of_text d (after_changes e.unit (Some d.text) how)
+    go (Some d) = of_text d (text_after_changes e.unit (Some d.text) how)
 
-pub sent_sound : {X : Type 0} (act : Act) (e new : Editor) (content : Option (Vec ℕ Global)) (q q' r : Contents) (s : ServerState) (result : Result seen.Seen X) → Acts (done_by e act) content new
-    → IfOk result (λ shown. IsSent q content shown q') → OnErr result (q' ≡ q) → Sound e.requested q r s → Sound new.requested q' r s
-sent_sound act e new content q q' r s (Ok shown) acts sent none sound = acted_sound e new (done_by e act) content q q' r s (act_grows e act) acts (put q q' content shown sent) sound
+pub sent_sound : {X : Type 0} (act : Act) (e new : Editor) (content : Option (Vec ℕ Global)) (q q' r : Contents) (s : ServerState) (result : Result seen.Seen X) → PerformsAct (act_result e act) content new
+    → IfOk result (λ shown. QueuesContent q content shown q') → OnErr result (q' ≡ q) → Sound e.requested q r s → Sound new.requested q' r s
+sent_sound act e new content q q' r s (Ok shown) acts sent none sound = acted_sound e new (act_result e act) content q q' r s (act_grows e act) acts (put q q' content shown sent) sound
 sent_sound act e new content q q' r s (Err x) acts sent none sound =
-    subst (λ x. Sound new.requested x r s) (sym none) (grown_sound e new q r s (grown e new (done_by e act) (act_grows e act) acts.0) sound)
+    subst (λ x. Sound new.requested x r s) (sym none) (grown_sound e new q r s (grown e new (act_result e act) (act_grows e act) acts.0) sound)
 
 pub sent_shows : {X : Type 0} (act : Act) (old : ClientAndServer) (e new : Editor) (content : Option (Vec ℕ Global)) (q q' r : Contents) (s : ServerState) (ap_list : List applied.Applied) (md : List made.Made) (result : Result seen.Seen X)
-    → model_from e q s r ap_list md ≡ old → (done_by e act).applied ≡ [] → act_seen e act ≡ sent_of (done_by e act) → Acts (done_by e act) content new → IfOk result (λ shown. IsSent q content shown q') → Sound e.requested q r s
-    → IfOk result (λ shown. Shows old (does act) (seen_of shown) (model_from new q' s r ap_list md))
+    → model_from e q s r ap_list md ≡ old → (act_result e act).applied ≡ [] → act_report e act ≡ send_report (act_result e act) → PerformsAct (act_result e act) content new → IfOk result (λ shown. QueuesContent q content shown q') → Sound e.requested q r s
+    → IfOk result (λ shown. HappensWithReport old (does act) (report_of shown) (model_from new q' s r ap_list md))
 sent_shows act old e new content q q' r s ap_list md (Ok shown) was none as_sent acts sent sound =
-    subst (λ (w : ClientAndServer). Shows w (does act) (seen_of shown) (model_from new q' s r ap_list md)) was (
-      acted e new (done_by e act) content q q' r s ap_list ap_list md (act_grows e act) acts (put q q' content shown sent) (sym (append-nil (map applied_of ap_list)) ∙ ap (λ x. map applied_of ap_list ++ x) (sym none)) sound,
-      seen_sent (done_by e act) new.requested q q' content shown acts.1 sent ∙ sym as_sent,
+    subst (λ (w : ClientAndServer). HappensWithReport w (does act) (report_of shown) (model_from new q' s r ap_list md)) was (
+      acted e new (act_result e act) content q q' r s ap_list ap_list md (act_grows e act) acts (put q q' content shown sent) (sym (append-nil (map applied_of ap_list)) ∙ ap (λ x. map applied_of ap_list ++ x) (sym none)) sound,
+      seen_sent (act_result e act) new.requested q q' content shown acts.1 sent ∙ sym as_sent,
     )
 sent_shows act old e new content q q' r s ap_list md (Err x) was none as_sent acts sent sound = tt
 
 -- ---- answers
 
 -- An answer that isn't applied sends nothing.
-pub silent_acts : (done : Done) (new : Editor) → IsSilent done new → Acts done None new
-silent_acts done new (is, nothing_sent, none) = (is, subst (λ ms. SaysSent new.requested ms None) (sym nothing_sent) tt)
+pub silent_acts : (done : ActResult) (new : Editor) → IsSilent done new → PerformsAct done None new
+silent_acts done new (is, nothing_sent, none) = (is, subst (λ ms. IsSentContent new.requested ms None) (sym nothing_sent) tt)
 
-pub silent_shows : (act : Act) (e new : Editor) (q r : Contents) (s : ServerState) (ap_list : List applied.Applied) (md : List made.Made) → IsSilent (done_by e act) new → Sound e.requested q r s
+pub silent_shows : (act : Act) (e new : Editor) (q r : Contents) (s : ServerState) (ap_list : List applied.Applied) (md : List made.Made) → IsSilent (act_result e act) new → Sound e.requested q r s
     → Happens (model_from e q s r ap_list md) (does act) (model_from new q s r ap_list md)
 silent_shows act e new q r s ap_list md silent sound =
-    acted e new (done_by e act) None q q r s ap_list ap_list md (act_grows e act) (silent_acts (done_by e act) new silent) (sym (append-nil q)) (sym (append-nil (map applied_of ap_list)) ∙ ap (λ x. map applied_of ap_list ++ x) (sym silent.2)) sound
+    acted e new (act_result e act) None q q r s ap_list ap_list md (act_grows e act) (silent_acts (act_result e act) new silent) (sym (append-nil q)) (sym (append-nil (map applied_of ap_list)) ∙ ap (λ x. map applied_of ap_list ++ x) (sym silent.2)) sound
 
 -- returns the report on an answer that was to be applied
-abbrev pub apply_seen : (e new : Editor) (k : ℕ) (outcome : applying.Applying) → ComesOf (done_by e (apply k)) (is_some (kept_answer k e.answers)) outcome new → Seen
+abbrev pub apply_seen : (e new : Editor) (k : ℕ) (outcome : applying.ApplyOutcome) → IsApplyOutcome (act_result e (apply k)) (is_some (edits_of_answer k e.answers)) outcome new → Seen
 apply_seen e new k applying.TheVariants.NotHeld comes = nothing
 apply_seen e new k applying.TheVariants.Dropped comes = drops k
 apply_seen e new k (applying.TheVariants.Made a c) comes = applies k
 
-pub apply_seen_so : (e new : Editor) (k : ℕ) (outcome : applying.Applying) (comes : ComesOf (done_by e (apply k)) (is_some (kept_answer k e.answers)) outcome new) → apply_seen e new k outcome comes ≡ act_seen e (apply k)
-apply_seen_so e new k applying.TheVariants.NotHeld comes = sym (ap (λ b. cond b (if_any (done_by e (apply k)).applied (applies k) (drops k)) nothing) comes.1)
+pub apply_seen_so : (e new : Editor) (k : ℕ) (outcome : applying.ApplyOutcome) (comes : IsApplyOutcome (act_result e (apply k)) (is_some (edits_of_answer k e.answers)) outcome new) → apply_seen e new k outcome comes ≡ act_report e (apply k)
+apply_seen_so e new k applying.TheVariants.NotHeld comes = sym (ap (λ b. cond b (report_if_any (act_result e (apply k)).applied (applies k) (drops k)) nothing) comes.1)
 apply_seen_so e new k applying.TheVariants.Dropped comes =
-    sym (ap (λ b. cond b (if_any (done_by e (apply k)).applied (applies k) (drops k)) nothing) comes.1 ∙ ap (λ xs. if_any xs (applies k) (drops k)) comes.0.2)
+    sym (ap (λ b. cond b (report_if_any (act_result e (apply k)).applied (applies k) (drops k)) nothing) comes.1 ∙ ap (λ xs. report_if_any xs (applies k) (drops k)) comes.0.2)
 apply_seen_so e new k (applying.TheVariants.Made a c) comes =
-    sym (ap (λ b. cond b (if_any (done_by e (apply k)).applied (applies k) (drops k)) nothing) comes.2 ∙ ap (λ xs. if_any xs (applies k) (drops k)) comes.1)
+    sym (ap (λ b. cond b (report_if_any (act_result e (apply k)).applied (applies k) (drops k)) nothing) comes.2 ∙ ap (λ xs. report_if_any xs (applies k) (drops k)) comes.1)
 
-pub apply_requested : (e new : Editor) (k : ℕ) (outcome : applying.Applying) → ComesOf (done_by e (apply k)) (is_some (kept_answer k e.answers)) outcome new → new ≡ (done_by e (apply k)).editor
+pub apply_requested : (e new : Editor) (k : ℕ) (outcome : applying.ApplyOutcome) → IsApplyOutcome (act_result e (apply k)) (is_some (edits_of_answer k e.answers)) outcome new → new ≡ (act_result e (apply k)).editor
 apply_requested e new k applying.TheVariants.NotHeld comes = comes.0.0
 apply_requested e new k applying.TheVariants.Dropped comes = comes.0.0
 apply_requested e new k (applying.TheVariants.Made a c) comes = comes.0.0
 
 -- After an answer was applied or dropped, the waiting contents are still messages.
-pub applied_sound : (e new : Editor) (k : ℕ) (outcome : applying.Applying) (q r : Contents) (s : ServerState) → ComesOf (done_by e (apply k)) (is_some (kept_answer k e.answers)) outcome new → Sound e.requested q r s → Sound new.requested q r s
-applied_sound e new k outcome q r s comes sound = grown_sound e new q r s (grown e new (done_by e (apply k)) (act_grows e (apply k)) (apply_requested e new k outcome comes)) sound
+pub applied_sound : (e new : Editor) (k : ℕ) (outcome : applying.ApplyOutcome) (q r : Contents) (s : ServerState) → IsApplyOutcome (act_result e (apply k)) (is_some (edits_of_answer k e.answers)) outcome new → Sound e.requested q r s → Sound new.requested q r s
+applied_sound e new k outcome q r s comes sound = grown_sound e new q r s (grown e new (act_result e (apply k)) (act_grows e (apply k)) (apply_requested e new k outcome comes)) sound
 
 -- The content that tells of an applied edit is a message to the server.
-pub made_says : (e new : Editor) (k : ℕ) (a : applied.Applied) (c : Vec ℕ Global) → ComesOf (done_by e (apply k)) (is_some (kept_answer k e.answers)) (applying.TheVariants.Made a c) new → IsHeard new.requested c
-made_says e new k a c comes = go (done_by e (apply k)).sent comes.0.1
+pub made_says : (e new : Editor) (k : ℕ) (a : applied.Applied) (c : Vec ℕ Global) → IsApplyOutcome (act_result e (apply k)) (is_some (edits_of_answer k e.answers)) (applying.TheVariants.Made a c) new → HasMessageToServer new.requested c
+made_says e new k a c comes = go (act_result e (apply k)).sent comes.0.1
   where
-    go : (sent : List ToServer) → SaysSent new.requested sent (Some c) → IsHeard new.requested c
+    go : (sent : List MessageToServer) → IsSentContent new.requested sent (Some c) → HasMessageToServer new.requested c
     go [] says = absurd says
     go (m ∷ more) says = (m, says.0)
 
-pub made_happens : (e new : Editor) (k : ℕ) (a : applied.Applied) (c : Vec ℕ Global) (q q' r : Contents) (s : ServerState) (ap_list ap_new : List applied.Applied) (md : List made.Made) → ComesOf (done_by e (apply k)) (is_some (kept_answer k e.answers)) (applying.TheVariants.Made a c) new
-    → q' ≡ q ++ c ∷ [] → ap_new ≡ ap_list ++ a ∷ [] → Sound e.requested q r s → Shows (model_from e q s r ap_list md) (does (apply k)) (applies k) (model_from new q' s r ap_new md)
+pub made_happens : (e new : Editor) (k : ℕ) (a : applied.Applied) (c : Vec ℕ Global) (q q' r : Contents) (s : ServerState) (ap_list ap_new : List applied.Applied) (md : List made.Made) → IsApplyOutcome (act_result e (apply k)) (is_some (edits_of_answer k e.answers)) (applying.TheVariants.Made a c) new
+    → q' ≡ q ++ c ∷ [] → ap_new ≡ ap_list ++ a ∷ [] → Sound e.requested q r s → HappensWithReport (model_from e q s r ap_list md) (does (apply k)) (applies k) (model_from new q' s r ap_new md)
 made_happens e new k a c q q' r s ap_list ap_new md comes is_q is_ap sound = (
-  acted e new (done_by e (apply k)) (Some c) q q' r s ap_list ap_new md (act_grows e (apply k)) comes.0 is_q
+  acted e new (act_result e (apply k)) (Some c) q q' r s ap_list ap_new md (act_grows e (apply k)) comes.0 is_q
       (ap (map applied_of) is_ap ∙ map-append applied_of ap_list (a ∷ []) ∙ ap (λ x. map applied_of ap_list ++ x) (sym comes.1)) sound,
   apply_seen_so e new k (applying.TheVariants.Made a c) comes,
 )
 
-pub dropped_happens : (e new : Editor) (k : ℕ) (q r : Contents) (s : ServerState) (ap_list : List applied.Applied) (md : List made.Made) → ComesOf (done_by e (apply k)) (is_some (kept_answer k e.answers)) applying.TheVariants.Dropped new → Sound e.requested q r s
-    → Shows (model_from e q s r ap_list md) (does (apply k)) (drops k) (model_from new q s r ap_list md)
+pub dropped_happens : (e new : Editor) (k : ℕ) (q r : Contents) (s : ServerState) (ap_list : List applied.Applied) (md : List made.Made) → IsApplyOutcome (act_result e (apply k)) (is_some (edits_of_answer k e.answers)) applying.TheVariants.Dropped new → Sound e.requested q r s
+    → HappensWithReport (model_from e q s r ap_list md) (does (apply k)) (drops k) (model_from new q s r ap_list md)
 dropped_happens e new k q r s ap_list md comes sound = (silent_shows (apply k) e new q r s ap_list md comes.0 sound, apply_seen_so e new k applying.TheVariants.Dropped comes)
 
-pub not_held_happens : (e new : Editor) (k : ℕ) (q r : Contents) (s : ServerState) (ap_list : List applied.Applied) (md : List made.Made) → ComesOf (done_by e (apply k)) (is_some (kept_answer k e.answers)) applying.TheVariants.NotHeld new → Sound e.requested q r s
-    → Shows (model_from e q s r ap_list md) (does (apply k)) nothing (model_from new q s r ap_list md)
+pub not_held_happens : (e new : Editor) (k : ℕ) (q r : Contents) (s : ServerState) (ap_list : List applied.Applied) (md : List made.Made) → IsApplyOutcome (act_result e (apply k)) (is_some (edits_of_answer k e.answers)) applying.TheVariants.NotHeld new → Sound e.requested q r s
+    → HappensWithReport (model_from e q s r ap_list md) (does (apply k)) nothing (model_from new q s r ap_list md)
 not_held_happens e new k q r s ap_list md comes sound = (silent_shows (apply k) e new q r s ap_list md comes.0 sound, apply_seen_so e new k applying.TheVariants.NotHeld comes)
 
 -- ---- taking
@@ -227,22 +227,22 @@ pub keep_asks : (e : Editor) (number : ℕ) (edits : List Replacement) → (read
 keep_asks e number [] = refl
 keep_asks e number (edit ∷ edits) = refl
 
-pub read_asks : (e : Editor) (m : ToEditor) → (reads e m).requested ≡ e.requested
+pub read_asks : (e : Editor) (m : MessageToEditor) → (reads e m).requested ≡ e.requested
 read_asks e (publishes uri version empty) = refl
 read_asks e (answers number edits) = keep_asks e number edits
 
 -- When the editor has read the first waiting content, the model's editor has taken the message that it says.
-pub taken_happens : (e new : Editor) (q r rest : Contents) (s : ServerState) (ap_list : List applied.Applied) (md : List made.Made) (c : Vec ℕ Global) (m : ToEditor) → r ≡ c ∷ rest → understood e.requested c.items ≡ Some m → new ≡ reads e m
-    → Shows (model_from e q s r ap_list md) take_message (taken_seen (m ∷ [])) (model_from new q s rest ap_list md)
+pub taken_happens : (e new : Editor) (q r rest : Contents) (s : ServerState) (ap_list : List applied.Applied) (md : List made.Made) (c : Vec ℕ Global) (m : MessageToEditor) → r ≡ c ∷ rest → message_to_editor_in e.requested c.items ≡ Some m → new ≡ reads e m
+    → HappensWithReport (model_from e q s r ap_list md) take_message (take_report (m ∷ [])) (model_from new q s rest ap_list md)
 taken_happens e new q r rest s ap_list md c m first means is =
-    let waits : all_understood e.requested r ≡ m ∷ all_understood e.requested rest = ap (all_understood e.requested) first ∙ said_first (understood e.requested) c rest m means in
+    let waits : all_messages_to_editor e.requested r ≡ m ∷ all_messages_to_editor e.requested rest = ap (all_messages_to_editor e.requested) first ∙ said_first (message_to_editor_in e.requested) c rest m means in
     let same : new.requested ≡ e.requested = ap (λ (x : Editor). x.requested) is ∙ read_asks e m in
     let w : ClientAndServer = model_from e q s r ap_list md in
-    let after : model_from new q s rest ap_list md ≡ after_taking w (m ∷ all_understood e.requested rest) =
-    (λ i. record w { editor = is i; to_server = all_heard (same i) q; to_editor = all_understood (same i) rest }) in
-    (after ∙ ap (after_taking w) (sym waits), of_message m ∙ ap taken_seen (sym waits))
+    let after : model_from new q s rest ap_list md ≡ after_editor_takes w (m ∷ all_messages_to_editor e.requested rest) =
+    (λ i. record w { editor = is i; to_server = all_messages_to_server (same i) q; to_editor = all_messages_to_editor (same i) rest }) in
+    (after ∙ ap (after_editor_takes w) (sym waits), of_message m ∙ ap take_report (sym waits))
   where
-    of_message : (m : ToEditor) → taken_seen (m ∷ []) ≡ taken_seen (m ∷ all_understood e.requested rest)
+    of_message : (m : MessageToEditor) → take_report (m ∷ []) ≡ take_report (m ∷ all_messages_to_editor e.requested rest)
     of_message (publishes uri version empty) = refl
     of_message (answers k edits) = refl
 
@@ -250,19 +250,19 @@ taken_happens e new q r rest s ap_list md c m first means is =
 
 module _ (s : ServerState) (tk q gt r : Contents) where
   pub writes_none : WritesContent (wire_from s tk q gt r) (wire_from s tk q gt r)
-  writes_none = (None, λ i. record (wire_from s tk q gt r) { to_server = sym (append-nil (bytes q)) i })
+  writes_none = (None, λ i. record (wire_from s tk q gt r) { to_server = sym (append-nil (content_bytes q)) i })
 
   pub writes_one : (q' : Contents) (c : Vec ℕ Global) → q' ≡ q ++ c ∷ [] → WritesContent (wire_from s tk q gt r) (wire_from s tk q' gt r)
-  writes_one q' c is = (Some c.items, λ i. record (wire_from s tk q gt r) { to_server = (ap bytes is ∙ map-append (λ v. v.items) q (c ∷ [])) i })
+  writes_one q' c is = (Some c.items, λ i. record (wire_from s tk q gt r) { to_server = (ap content_bytes is ∙ map-append (λ v. v.items) q (c ∷ [])) i })
 
-  pub writes_sent : {X : Type 0} (q' : Contents) (content : Option (Vec ℕ Global)) (result : Result seen.Seen X) → IfOk result (λ shown. IsSent q content shown q') → OnOk result (WritesContent (wire_from s tk q gt r) (wire_from s tk q' gt r))
+  pub writes_sent : {X : Type 0} (q' : Contents) (content : Option (Vec ℕ Global)) (result : Result seen.Seen X) → IfOk result (λ shown. QueuesContent q content shown q') → OnOk result (WritesContent (wire_from s tk q gt r) (wire_from s tk q' gt r))
   writes_sent q' content (Err x) sent = tt
   writes_sent q' None (Ok shown) sent = subst (λ x. WritesContent (wire_from s tk q gt r) (wire_from s tk x gt r)) (sym sent.1) writes_none
   writes_sent q' (Some c) (Ok shown) sent = writes_one q' c sent.1
 
 pub taken_sound : (requested : List SentAsk) (q r rest : Contents) (s : ServerState) (c : Vec ℕ Global) → r ≡ c ∷ rest → Sound requested q r s → Sound requested q rest s
 taken_sound requested q r rest s c is sound =
-    record { heard_all = sound.heard_all; understood_all = All-tail (IsUnderstood requested) c rest (subst (All (IsUnderstood requested)) is sound.understood_all); running = sound.running }
+    record { heard_all = sound.heard_all; understood_all = All-tail (HasMessageToEditor requested) c rest (subst (All (HasMessageToEditor requested)) is sound.understood_all); running = sound.running }
 
 -- A queue that isn't empty is its first content and the rest.
 pub first_of : (r : Contents) (c : Vec ℕ Global) → 0 < length r → c ≡ slice_index_or r 0 c → (rest : Contents) × (r ≡ c ∷ rest)
@@ -274,18 +274,18 @@ pub moved_first : (r r' gt gt' : Contents) (c : Vec ℕ Global) (rest : Contents
 moved_first r r' gt gt' c rest is moves = subst (λ x. MovesFirst x gt r' gt') is moves
 
 -- A content that waits for the editor is a message to it.
-pub taken_says : (requested : List SentAsk) (q r rest : Contents) (s : ServerState) (c : Vec ℕ Global) → r ≡ c ∷ rest → Sound requested q r s → understood requested c.items ≡ None → ⊥
+pub taken_says : (requested : List SentAsk) (q r rest : Contents) (s : ServerState) (c : Vec ℕ Global) → r ≡ c ∷ rest → Sound requested q r s → message_to_editor_in requested c.items ≡ None → ⊥
 taken_says requested q r rest s c is sound silent =
-    let says : IsUnderstood requested c = All-head (IsUnderstood requested) c rest (subst (All (IsUnderstood requested)) is sound.understood_all) in
+    let says : HasMessageToEditor requested c = All-head (HasMessageToEditor requested) c rest (subst (All (HasMessageToEditor requested)) is sound.understood_all) in
     let clash : Some says.0 ≡ None = sym says.1 ∙ silent in
     cc
 
 -- The waiting contents are still messages after a message was put at the end, or not.
-pub maybe_pushed : (requested : List SentAsk) (q q' r : Contents) (s : ServerState) (c : Vec ℕ Global) (b : Bool) → q' ≡ cond b (q ++ c ∷ []) q → IsHeard requested c → Sound requested q r s → Sound requested q' r s
+pub maybe_pushed : (requested : List SentAsk) (q q' r : Contents) (s : ServerState) (c : Vec ℕ Global) (b : Bool) → q' ≡ cond b (q ++ c ∷ []) q → HasMessageToServer requested c → Sound requested q r s → Sound requested q' r s
 maybe_pushed requested q q' r s c true is says sound = subst (λ x. Sound requested x r s) (sym is) (pushed_sound requested q r s c says.0 says.1 sound)
 maybe_pushed requested q q' r s c false is says sound = subst (λ x. Sound requested x r s) (sym is) sound
 
-pub discard_shows : (e new : Editor) (k : ℕ) (q r : Contents) (s : ServerState) (ap_list : List applied.Applied) (md : List made.Made) (held : Bool) → held ≡ is_some (kept_answer k e.answers) → new ≡ without_answer e k → Sound e.requested q r s
-    → Shows (model_from e q s r ap_list md) (does (discard k)) (cond held (drops k) nothing) (model_from new q s r ap_list md)
+pub discard_shows : (e new : Editor) (k : ℕ) (q r : Contents) (s : ServerState) (ap_list : List applied.Applied) (md : List made.Made) (held : Bool) → held ≡ is_some (edits_of_answer k e.answers) → new ≡ without_answer e k → Sound e.requested q r s
+    → HappensWithReport (model_from e q s r ap_list md) (does (discard k)) (cond held (drops k) nothing) (model_from new q s r ap_list md)
 discard_shows e new k q r s ap_list md held is after sound =
     (silent_shows (discard k) e new q r s ap_list md (after, refl, refl) sound, ap (λ b. cond b (drops k) nothing) is)

@@ -10,8 +10,8 @@ use Rattle.ob0_text.specs.declared.position_types.Unit.{Unit}
 use Rattle.ob0_text.specs.Texts.{Line, lines, joined, body_at, fitting, before, byte_len, offset_of}
 use Rattle.ob0_text.specs.Units.{width_of}
 use Rattle.ob0_session_answers.specs.Actions.{actions_offset}
-use Rattle.ob0_world_rules.specs.Answers.{place_at}
-use Rattle.ob0_world.specs.Exchanges.{IsNotAfter}
+use Rattle.ob0_world_rules.specs.Answers.{position_offset}
+use Rattle.ob0_world.specs.Exchanges.{IsAtOrBefore}
 
 len-append : (xs ys : List ℕ) → byte_len (xs ++ ys) ≡ byte_len xs + byte_len ys
 len-append xs ys = ap length (encodes-append xs ys) ∙ length-append (encode_utf8_all xs) (encode_utf8_all ys)
@@ -91,7 +91,7 @@ module _ (width : ℕ → ℕ) where
   unfolding before up_to
   before_up_to text p = refl
 
-  pub place_further : (text : List ℕ) (p q : Position) → IsNotAfter p q → offset_of width text p ≤ offset_of width text q
+  pub place_further : (text : List ℕ) (p q : Position) → IsAtOrBefore p q → offset_of width text p ≤ offset_of width text q
   place_further text p q h =
       let one : offset_of width text p ≡ byte_len (up_to (lines text) p.line p.character) = ap byte_len (before_up_to text p) in
       let other : offset_of width text q ≡ byte_len (up_to (lines text) q.line q.character) = ap byte_len (before_up_to text q) in
@@ -99,10 +99,10 @@ module _ (width : ℕ → ℕ) where
       omega (arith, one, other, more)
 
 -- The offset for the code actions of a range is the offset of its start.
-pub place_of_range : (range : Range) (position : Position) → range.start ≡ position → IsNotAfter range.start range.end → (unit : Unit) (text : List ℕ) → actions_offset unit text range ≡ place_at unit text position
+pub place_of_range : (range : Range) (position : Position) → range.start ≡ position → IsAtOrBefore range.start range.end → (unit : Unit) (text : List ℕ) → actions_offset unit text range ≡ position_offset unit text position
 place_of_range range position from ordered unit text =
-    let more : place_at unit text range.start ≤ place_at unit text range.end = place_further (width_of unit) text range.start range.end ordered in
-    least (place_at unit text range.start) (place_at unit text range.end) more ∙ ap (place_at unit text) from
+    let more : position_offset unit text range.start ≤ position_offset unit text range.end = place_further (width_of unit) text range.start range.end ordered in
+    least (position_offset unit text range.start) (position_offset unit text range.end) more ∙ ap (position_offset unit text) from
   where
     least : (a b : ℕ) → a ≤ b → min a b ≡ a
     least a b h = omega arith

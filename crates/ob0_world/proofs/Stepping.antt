@@ -4,38 +4,38 @@ use Rattle.ob0_world_rules.specs.ClientAndServer.{ClientAndServer, start}
 use Rattle.ob0_world_rules.specs.Happens.{Event, Happens}
 use Rattle.ob0_world_rules.specs.Mirror.{Mirrors}
 use Rattle.ob0_world_rules.specs.Headline.{Holds}
-use Rattle.ob0_world_rules.proofs.ModelEditor.{in_every_interleaving, server_mirrors}
-use Rattle.ob0_world_rules.proofs.OneCourse.{course_push}
+use Rattle.ob0_world_rules.proofs.ModelEditor.{holds_in_every_interleaving, server_mirrors_editor}
+use Rattle.ob0_world_rules.proofs.CourseIsDetermined.{course_push}
 use Rattle.ob0_text.specs.declared.position_types.Unit.{Unit}
-use Rattle.ob0_world.specs.Queues.{IsReached}
-use Rattle.ob0_world.specs.Seen.{Seen, Shows}
-use Rattle.ob0_world.specs.Worlds.{World, MovesWire, IsTied, SameHistory, StepsFrom, WorldSteps, FailsFrom, WorldFails}
+use Rattle.ob0_world.specs.Queues.{IsReachable}
+use Rattle.ob0_world.specs.Seen.{Seen, HappensWithReport}
+use Rattle.ob0_world.specs.Worlds.{World, MovesWire, IsTied, SameHistory, StepsUnlessEnded, WorldSteps, FailsGivenEnded, WorldFails}
 use Rattle.ob0_world.specs.declared.faults.WorldFault.{WorldFault}
 use Rattle.ob0_world.specs.declared.faults.WorldFault.TheVariants.{Memory, Ended}
 
-pub made_step : (w old : World) (event : Event) (seen : Seen) (new : World) → w ≡ old → w.ended ≡ false → Shows w.connection.model event seen new.connection.model → MovesWire event w.connection.wire new.connection.wire → IsTied new.connection
+pub made_step : (w old : World) (event : Event) (seen : Seen) (new : World) → w ≡ old → w.ended ≡ false → HappensWithReport w.connection.model event seen new.connection.model → MovesWire event w.connection.wire new.connection.wire → IsTied new.connection
     → new.steps ≡ w.steps + 1 → new.ended ≡ false → WorldSteps old event seen new
 made_step w old event seen new same on shows moves tied counted goes_on =
-    subst (λ (x : World). WorldSteps x event seen new) same (subst (λ b. StepsFrom b w event seen new) (sym on) (record { made = record { happens = shows.0; moves = moves; tied = tied }; shown = shows.1; counted = counted; goes_on = goes_on }))
+    subst (λ (x : World). WorldSteps x event seen new) same (subst (λ b. StepsUnlessEnded b w event seen new) (sym on) (record { made = record { happens = shows.0; moves = moves; tied = tied }; shown = shows.1; counted = counted; goes_on = goes_on }))
 
 -- A step of a world that hasn't ended is a step that is made and counted.
-pub step_made : (old : World) (event : Event) (seen : Seen) (new : World) → old.ended ≡ false → WorldSteps old event seen new → StepsFrom false old event seen new
-step_made old event seen new on steps = subst (λ b. StepsFrom b old event seen new) on steps
+pub step_made : (old : World) (event : Event) (seen : Seen) (new : World) → old.ended ≡ false → WorldSteps old event seen new → StepsUnlessEnded false old event seen new
+step_made old event seen new on steps = subst (λ b. StepsUnlessEnded b old event seen new) on steps
 
 pub step_failed : (old : World) (fault : WorldFault) (new : World) → old.ended ≡ false → WorldFails old fault new → SameHistory old.connection new.connection × (new.steps ≡ old.steps)
-step_failed old Memory new on fails = let so : FailsFrom false old Memory new = subst (λ b. FailsFrom b old Memory new) on fails in (so.0, so.1)
-step_failed old Ended new on fails = let no : FailsFrom false old Ended new = subst (λ b. FailsFrom b old Ended new) on fails in absurd no
+step_failed old Memory new on fails = let so : FailsGivenEnded false old Memory new = subst (λ b. FailsGivenEnded b old Memory new) on fails in (so.0, so.1)
+step_failed old Ended new on fails = let no : FailsGivenEnded false old Ended new = subst (λ b. FailsGivenEnded b old Ended new) on fails in absurd no
 
 -- ---- what is reached
 
-pub reached_start : (unit : Unit) → IsReached (start unit)
+pub reached_start : (unit : Unit) → IsReachable (start unit)
 reached_start unit = (unit, [], refl)
 
-pub reached_more : (w : ClientAndServer) (event : Event) (new : ClientAndServer) → IsReached w → Happens w event new → IsReached new
+pub reached_more : (w : ClientAndServer) (event : Event) (new : ClientAndServer) → IsReachable w → Happens w event new → IsReachable new
 reached_more w event new (unit, events, course) happens = (unit, events ++ event ∷ [], course_push (start unit) events w event new course happens)
 
-pub reached_holds : (w : ClientAndServer) → IsReached w → Holds w
-reached_holds w (unit, events, course) = in_every_interleaving unit events w course
+pub reached_holds : (w : ClientAndServer) → IsReachable w → Holds w
+reached_holds w (unit, events, course) = holds_in_every_interleaving unit events w course
 
-pub reached_mirrors : (w : ClientAndServer) → IsReached w → Mirrors w
-reached_mirrors w (unit, events, course) = server_mirrors unit events w course
+pub reached_mirrors : (w : ClientAndServer) → IsReachable w → Mirrors w
+reached_mirrors w (unit, events, course) = server_mirrors_editor unit events w course

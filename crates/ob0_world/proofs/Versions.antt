@@ -15,36 +15,36 @@ use Rattle.ob0_text.specs.declared.position_types.Position.{Position}
 use Rattle.ob0_text.specs.declared.position_types.Unit.{Unit}
 use Rattle.ob0_text.specs.declared.position_types.Unit.TheVariants.{Utf16, Utf8}
 use Rattle.ob0_text.specs.declared.refusals.EditRefusal.TheVariants.{TooLong}
-use Rattle.ob0_text.specs.OpenDocuments.{OpenDocuments, Document, InStep, OutOfStep, DocumentEvent, Opened, Changed, Lost, Closed, document_at, after_event, opened, changed}
+use Rattle.ob0_text.specs.OpenDocuments.{OpenDocuments, Document, InStep, OutOfStep, DocumentEvent, Opened, Changed, Lost, Closed, document_at, after_event, documents_after_open, documents_after_change}
 use Rattle.ob0_text.specs.RefusalTexts.{refusal_text}
 use Rattle.ob0_rpc.specs.Faults.{minus}
 use Rattle.ob0_rpc.specs.Messages.{ReadsContent, meaning_of}
 use Rattle.ob0_rpc.specs.Requesting.{request_by_method}
 use Rattle.ob0_rpc.specs.Shapes.{result_message, error_message}
-use Rattle.ob0_rpc.specs.declared.clients.Client.{Client}
-use Rattle.ob0_session_answers.specs.Actions.{RequestedActions, ListsActions, actions_value}
+use Rattle.ob0_rpc.specs.declared.clients.ClientFeatures.{ClientFeatures}
+use Rattle.ob0_session_answers.specs.Actions.{RequestedActions, ListsActions, actions_array}
 use Rattle.ob0_session_answers.specs.Formatted.{AnswersFormatting}
 use Rattle.ob0_session_answers.specs.Renamed.{RequestedRename, AnswersRenaming}
 use Rattle.ob0_session_json.specs.Shapes.{document_edit, edits_value, workspace_edit, publication}
 use Rattle.ob0_session_server.specs.Answers as answers_of
-use Rattle.ob0_session_server.specs.Answers.{ServerState, Reply, SaysReply, Sends, Reaction, begins, react, apply_notification, react_to_notification, answer_method, answer_request, answers_about, lays_out, renames, offers_actions, published, Answers, AnswersInState, AnswersGoingOn, says}
+use Rattle.ob0_session_server.specs.Answers.{ServerState, Reply, AreContentsOfReply, Sends, Reaction, begins, react, apply_notification, react_to_notification, react_to_method, react_to_known_request, react_about_document, lays_out, renames, offers_actions, publication_reply, Answers, AnswersInPhase, AnswersBeforeEnd, says}
 use Rattle.ob0_session_server.specs.Units.{unit_for}
-use Rattle.ob0_world_editor.specs.Beginning.{client_for}
-use Rattle.ob0_world_editor.specs.Heard.{SaysToServer, IsAsk, sent_as, call_for, request_number}
+use Rattle.ob0_world_editor.specs.InitializeRequest.{client_for}
+use Rattle.ob0_world_editor.specs.MessagesToServer.{IsMessageToServer, IsAsk, notification_for, client_request_for, request_number}
 use Rattle.ob0_world_editor.specs.Shapes.{method_of}
-use Rattle.ob0_world_editor.specs.Understood.{edits_for}
+use Rattle.ob0_world_editor.specs.MessagesToEditor.{edits_for}
 use Rattle.ob0_world_rules.specs.Answers.{Inlining, Here, Everywhere}
-use Rattle.ob0_world_rules.specs.Asks.{Ask, rename, inline_here, inline_all, format, indent_read}
-use Rattle.ob0_world_rules.specs.Edited.{edited, whole_text}
-use Rattle.ob0_world_rules.specs.Editing.{Act, Done, next_version, same_version, done_by, rewrites, if_same}
-use Rattle.ob0_world_rules.specs.ClientAndServer.{Open, SentAsk, request_numbered, open_at, ToServer, notifies, requests, ToEditor, publishes, answers, ClientAndServer, start, after_message}
-use Rattle.ob0_world_rules.specs.Happens.{Event, does, serve, take_message, after_taking, ServerTakes}
-use Rattle.ob0_world_rules.specs.Mirror.{as_open, Mirrors}
-use Rattle.ob0_world_rules.proofs.Acts.{of_each}
+use Rattle.ob0_world_rules.specs.Asks.{Ask, rename, inline_here, inline_all, format, clamped_indent}
+use Rattle.ob0_world_rules.specs.Edited.{edited, whole_text_change}
+use Rattle.ob0_world_rules.specs.EditorActs.{Act, ActResult, next_version, same_version, act_result, rewriting_result, if_unchanged_since}
+use Rattle.ob0_world_rules.specs.ClientAndServer.{OpenDocument, SentAsk, request_numbered, open_at, MessageToServer, notifies, requests, MessageToEditor, publishes, answers, ClientAndServer, start, after_message}
+use Rattle.ob0_world_rules.specs.Happens.{Event, does, serve, take_message, after_editor_takes, ServerTakes}
+use Rattle.ob0_world_rules.specs.Mirror.{in_step_document, Mirrors}
+use Rattle.ob0_world_rules.proofs.PerformsAct.{of_each}
 use Rattle.ob0_world_rules.proofs.Asked.{numbered_push, slice_get_last}
-use Rattle.ob0_world.specs.Queues.{IsReached, IsRunning}
-use Rattle.ob0_world.specs.Versions.{named_in, named_by_edit, NamesAsked, NamesItsAsk, IsLayout, VersionsAreNamed, VersionsSuffice}
-use Rattle.ob0_world.specs.Worlds.{Wire, Connection, Begins, TakesFirst, GetsFirst, AllSay, IsTied, ConnectionStep, ConnectionCourse}
+use Rattle.ob0_world.specs.Queues.{IsReachable, RunsWithEditor}
+use Rattle.ob0_world.specs.Versions.{answer_uri_and_version, edited_uri_and_version, MentionsAskedDocument, MentionsDocumentOfAsk, IsFormatting, AnswersMentionVersions, VersionsSuffice}
+use Rattle.ob0_world.specs.Worlds.{Wire, Connection, Begins, SessionTakesFirst, EditorGetsFirst, AreMessagesToServer, IsTied, ConnectionStep, ConnectionCourse}
 use Rattle.ob0_world.proofs.Answering.{reacts_so, request_reaction, served, runs_on, inlining_at, none_read_back, actions_requested_at}
 use Rattle.ob0_world.proofs.Stepping.{reached_start, reached_more, reached_mirrors}
 
@@ -59,59 +59,59 @@ pub record IsHeldAsAsked (requested : List SentAsk) (held : OpenDocuments) (k : 
 
 -- holds if the server, when it takes each waiting request, has the document with the version that it had when the
 -- request was sent
-abbrev pub AsksHeld : List SentAsk → OpenDocuments → List ToServer → Type 0
+abbrev pub AsksHeld : List SentAsk → OpenDocuments → List MessageToServer → Type 0
 AsksHeld requested held [] = ⊤
 AsksHeld requested held (notifies note ∷ rest) = AsksHeld requested (after_event held note) rest
 AsksHeld requested held (requests k uri ask ∷ rest) = IsHeldAsAsked requested held k uri × AsksHeld requested held rest
 
-asks_more : (requested more : List SentAsk) (held : OpenDocuments) (q : List ToServer) → AsksHeld requested held q → AsksHeld (requested ++ more) held q
+asks_more : (requested more : List SentAsk) (held : OpenDocuments) (q : List MessageToServer) → AsksHeld requested held q → AsksHeld (requested ++ more) held q
 asks_more requested more held [] h = tt
 asks_more requested more held (notifies note ∷ rest) h = asks_more requested more (after_event held note) rest h
 asks_more requested more held (requests k uri ask ∷ rest) (h, others) =
     (record { sent = h.sent; is = numbered_push requested more k h.sent h.is; text = h.text; holds = h.holds }, asks_more requested more held rest others)
 
-asks_append : (requested : List SentAsk) (held : OpenDocuments) (q more : List ToServer) → AsksHeld requested held q → AsksHeld requested (fold after_message held q) more → AsksHeld requested held (q ++ more)
+asks_append : (requested : List SentAsk) (held : OpenDocuments) (q more : List MessageToServer) → AsksHeld requested held q → AsksHeld requested (fold after_message held q) more → AsksHeld requested held (q ++ more)
 asks_append requested held [] more h k = k
 asks_append requested held (notifies note ∷ rest) more h k = asks_append requested (after_event held note) rest more h k
 asks_append requested held (requests n uri ask ∷ rest) more (h, others) k = (h, asks_append requested held rest more others k)
 
 -- If the property holds of a queue, it holds of its first message, and of the rest after that message.
-sees_first : (requested : List SentAsk) (held : OpenDocuments) (m : ToServer) (rest : List ToServer) → AsksHeld requested held (m ∷ rest) → AsksHeld requested held (m ∷ []) × AsksHeld requested (after_message held m) rest
+sees_first : (requested : List SentAsk) (held : OpenDocuments) (m : MessageToServer) (rest : List MessageToServer) → AsksHeld requested held (m ∷ rest) → AsksHeld requested held (m ∷ []) × AsksHeld requested (after_message held m) rest
 sees_first requested held (notifies note) rest h = (tt, h)
 sees_first requested held (requests k uri ask) rest h = ((h.0, tt), h.1)
 
 -- ---- an act
 
-names_more : (requested more : List SentAsk) (contents : List (List ℕ)) → All (NamesItsAsk requested) contents → All (NamesItsAsk (requested ++ more)) contents
+names_more : (requested more : List SentAsk) (contents : List (List ℕ)) → All (MentionsDocumentOfAsk requested) contents → All (MentionsDocumentOfAsk (requested ++ more)) contents
 names_more requested more contents all =
-    All-weaker (NamesItsAsk requested) (NamesItsAsk (requested ++ more))
+    All-weaker (MentionsDocumentOfAsk requested) (MentionsDocumentOfAsk (requested ++ more))
     (λ content names answer k reads is. let n = names answer k reads is in (n.0, numbered_push requested more k n.0 n.1, n.2))
     contents all
 
-abbrev Keeps : ClientAndServer → List (List ℕ) → Done → Type 0
-Keeps w contents done = AsksHeld done.editor.requested w.held (w.to_server ++ done.sent) × All (NamesItsAsk done.editor.requested) contents
+abbrev Keeps : ClientAndServer → List (List ℕ) → ActResult → Type 0
+Keeps w contents done = AsksHeld done.editor.requested w.held (w.to_server ++ done.sent) × All (MentionsDocumentOfAsk done.editor.requested) contents
 
-module _ (w : ClientAndServer) (contents : List (List ℕ)) (mirrors : Mirrors w) (asked : AsksHeld w.editor.requested w.held w.to_server) (named : All (NamesItsAsk w.editor.requested) contents) where
+module _ (w : ClientAndServer) (contents : List (List ℕ)) (mirrors : Mirrors w) (asked : AsksHeld w.editor.requested w.held w.to_server) (named : All (MentionsDocumentOfAsk w.editor.requested) contents) where
   quiet : AsksHeld w.editor.requested w.held (w.to_server ++ [])
   quiet = subst (AsksHeld w.editor.requested w.held) (sym (append-nil w.to_server)) asked
 
   noted : (note : DocumentEvent) → AsksHeld w.editor.requested w.held (w.to_server ++ notifies note ∷ [])
   noted note = asks_append w.editor.requested w.held w.to_server (notifies note ∷ []) asked tt
 
-  asks_now : (uri : List ℕ) (ask : Ask) (d : Open) → open_at w.editor uri ≡ Some d → (a : SentAsk) → a.version ≡ d.version
-      → AsksHeld (w.editor.requested ++ a ∷ []) w.held (w.to_server ++ requests (suc (length w.editor.requested)) uri ask ∷ []) × All (NamesItsAsk (w.editor.requested ++ a ∷ [])) contents
+  asks_now : (uri : List ℕ) (ask : Ask) (d : OpenDocument) → open_at w.editor uri ≡ Some d → (a : SentAsk) → a.version ≡ d.version
+      → AsksHeld (w.editor.requested ++ a ∷ []) w.held (w.to_server ++ requests (suc (length w.editor.requested)) uri ask ∷ []) × All (MentionsDocumentOfAsk (w.editor.requested ++ a ∷ [])) contents
   asks_now uri ask d is a same =
       let this : IsHeldAsAsked (w.editor.requested ++ a ∷ []) (fold after_message w.held w.to_server) (suc (length w.editor.requested)) uri = record {
         sent = a;
         is = slice_get_last w.editor.requested a;
         text = d.text;
-        holds = mirrors uri ∙ ap (option_map as_open) is ∙ ap (λ v. Some (InStep v d.text)) (sym same);
+        holds = mirrors uri ∙ ap (option_map in_step_document) is ∙ ap (λ v. Some (InStep v d.text)) (sym same);
       } in (
         asks_append (w.editor.requested ++ a ∷ []) w.held w.to_server (requests (suc (length w.editor.requested)) uri ask ∷ []) (asks_more w.editor.requested (a ∷ []) w.held w.to_server asked) (this, tt),
         names_more w.editor.requested (a ∷ []) contents named,
       )
 
-  act_keeps : (act : Act) → Keeps w contents (done_by w.editor act)
+  act_keeps : (act : Act) → Keeps w contents (act_result w.editor act)
   act_keeps =
       of_each w.editor (Keeps w contents)
       (record {
@@ -120,7 +120,7 @@ module _ (w : ClientAndServer) (contents : List (List ℕ)) (mirrors : Mirrors w
         changed = λ uri d how text at made. (noted (Changed uri (next_version d.version) how), named);
         closed = λ uri d at. (noted (Closed uri), named);
         asked = λ uri ask d at. asks_now uri ask d at (record { ask = ask; uri = uri; text = d.text; opening = d.opening; version = d.version }) refl;
-        made = λ k edits a d text held numbered same makes. (noted (Changed a.uri (next_version d.version) (whole_text text ∷ [])), named);
+        made = λ k edits a d text held numbered same makes. (noted (Changed a.uri (next_version d.version) (whole_text_change text ∷ [])), named);
         dropped = λ k. (quiet, named);
       })
 
@@ -130,36 +130,36 @@ same_data : (content : List ℕ) (d e : Data) → ReadsContent content (Some d) 
 same_data content d e one other = same_Some d e (sym one.1 ∙ other.1)
 
 abbrev Names : List SentAsk → ℕ → Data → Type 0
-Names requested k answer = (a : SentAsk) × (request_numbered requested k ≡ Some a) × NamesAsked a answer
+Names requested k answer = (a : SentAsk) × (request_numbered requested k ≡ Some a) × MentionsAskedDocument a answer
 
--- If one message is sent, `NamesItsAsk` holds of the sent contents if it holds of that message.
-sent_one : (requested : List SentAsk) (message : Data) (sent : List (List ℕ)) → Sends message sent → ((k : ℕ) → option_and_then request_number (get (codes "id") message) ≡ Some k → Names requested k message) → All (NamesItsAsk requested) sent
+-- If one message is sent, `MentionsDocumentOfAsk` holds of the sent contents if it holds of that message.
+sent_one : (requested : List SentAsk) (message : Data) (sent : List (List ℕ)) → Sends message sent → ((k : ℕ) → option_and_then request_number (get (codes "id") message) ≡ Some k → Names requested k message) → All (MentionsDocumentOfAsk requested) sent
 sent_one requested message sent (content, is, writes) names =
-    subst (All (NamesItsAsk requested)) (sym is) (All-push (NamesItsAsk requested) [] content (All-nil (NamesItsAsk requested)) this)
+    subst (All (MentionsDocumentOfAsk requested)) (sym is) (All-push (MentionsDocumentOfAsk requested) [] content (All-nil (MentionsDocumentOfAsk requested)) this)
   where
-    this : NamesItsAsk requested content
+    this : MentionsDocumentOfAsk requested content
     this answer k reads numbered =
         let same : message ≡ answer = same_data content message answer writes.reads reads in
         subst (Names requested k) same (names k (subst (λ m. option_and_then request_number (get (codes "id") m) ≡ Some k) (sym same) numbered))
 
-sent_none : (requested : List SentAsk) (sent : List (List ℕ)) → sent ≡ [] → All (NamesItsAsk requested) sent
-sent_none requested sent none = subst (All (NamesItsAsk requested)) (sym none) (All-nil (NamesItsAsk requested))
+sent_none : (requested : List SentAsk) (sent : List (List ℕ)) → sent ≡ [] → All (MentionsDocumentOfAsk requested) sent
+sent_none requested sent none = subst (All (MentionsDocumentOfAsk requested)) (sym none) (All-nil (MentionsDocumentOfAsk requested))
 
--- A publication answers no request, so `NamesItsAsk` holds of it.
-published_names : (requested : List SentAsk) (unit : Unit) (uri : List ℕ) (o : Option Document) (sent : List (List ℕ)) → SaysReply (published unit uri o) sent → All (NamesItsAsk requested) sent
+-- A publication answers no request, so `MentionsDocumentOfAsk` holds of it.
+published_names : (requested : List SentAsk) (unit : Unit) (uri : List ℕ) (o : Option Document) (sent : List (List ℕ)) → AreContentsOfReply (publication_reply unit uri o) sent → All (MentionsDocumentOfAsk requested) sent
 published_names requested unit uri (Some (InStep version text)) sent (ds, diagnoses, sends) = sent_one requested (publication uri (Some version) ds) sent sends (λ k numbered. absurd (none-some k numbered))
 published_names requested unit uri (Some OutOfStep) sent saying = sent_none requested sent saying
 published_names requested unit uri None sent saying = sent_none requested sent saying
 
-note_names : (requested : List SentAsk) (note : DocumentEvent) (before : ServerState) (sent : List (List ℕ)) → SaysReply (apply_notification before (sent_as note)).say sent → All (NamesItsAsk requested) sent
+note_names : (requested : List SentAsk) (note : DocumentEvent) (before : ServerState) (sent : List (List ℕ)) → AreContentsOfReply (apply_notification before (notification_for note)).say sent → All (MentionsDocumentOfAsk requested) sent
 note_names requested (Opened uri version text) before sent saying =
-    published_names requested before.held.unit uri (document_at (opened before.held uri version text) uri) sent saying
+    published_names requested before.held.unit uri (document_at (documents_after_open before.held uri version text) uri) sent saying
 note_names requested (Changed uri version how) before sent saying =
-    published_names requested before.held.unit uri (document_at (changed before.held uri version how) uri) sent saying
+    published_names requested before.held.unit uri (document_at (documents_after_change before.held uri version how) uri) sent saying
 note_names requested (Lost uri) before sent saying = sent_none requested sent saying
 note_names requested (Closed uri) before sent saying = go (is_some (document_at before.held uri)) saying
   where
-    go : (b : Bool) → SaysReply (cond b (says (publication uri None [])) answers_of.nothing) sent → All (NamesItsAsk requested) sent
+    go : (b : Bool) → AreContentsOfReply (cond b (says (publication uri None [])) answers_of.nothing) sent → All (MentionsDocumentOfAsk requested) sent
     go true saying = sent_one requested (publication uri None []) sent saying (λ k numbered. absurd (none-some k numbered))
     go false saying = sent_none requested sent saying
 
@@ -168,23 +168,23 @@ integer_back (pos n) = refl
 integer_back (negsuc n) = refl
 
 -- The uri and the version that a WorkspaceEdit has are read back.
-edit_names : (client : Client) (uri : List ℕ) (version : ℤ) (edits : List Edit) → client.takes_document_changes ≡ true → named_by_edit (workspace_edit client uri version edits) ≡ Some (uri, version)
-edit_names client uri version edits takes = go client.takes_document_changes takes
+edit_names : (client : ClientFeatures) (uri : List ℕ) (version : ℤ) (edits : List Edit) → client.accepts_document_changes ≡ true → edited_uri_and_version (workspace_edit client uri version edits) ≡ Some (uri, version)
+edit_names client uri version edits takes = go client.accepts_document_changes takes
   where
     pair : ℤ → List ℕ × ℤ
     pair v = (uri, v)
 
     go : (b : Bool) → b ≡ true
-        → named_by_edit (cond b (object (member (codes "documentChanges") (array (item (document_edit uri version edits) no_items)) no_members)) (object (member (codes "changes") (object (member uri (edits_value edits) no_members)) no_members)))
+        → edited_uri_and_version (cond b (object (member (codes "documentChanges") (array (item (document_edit uri version edits) no_items)) no_members)) (object (member (codes "changes") (object (member uri (edits_value edits) no_members)) no_members)))
         ≡ Some (uri, version)
     go true is = ap (option_map pair) (integer_back version)
     go false is = absurd (cc)
 
 abbrev NamesFor : Ask → List ℕ → ℤ → Data → Type 0
-NamesFor ask uri version answer = (named_in ask answer ≡ Some (uri, version)) ⊎ ((edits_for uri ask answer ≡ []) ⊎ IsLayout ask)
+NamesFor ask uri version answer = (answer_uri_and_version ask answer ≡ Some (uri, version)) ⊎ ((edits_for uri ask answer ≡ []) ⊎ IsFormatting ask)
 
 module _ (requested : List SentAsk) (k : ℕ) (uri : List ℕ) (sent : List (List ℕ)) where
-  answer_names : (ask : Ask) (of : IsAsk requested k uri ask) (message : Data) → Sends message sent → option_and_then request_number (get (codes "id") message) ≡ Some k → NamesFor ask uri of.sent.version message → All (NamesItsAsk requested) sent
+  answer_names : (ask : Ask) (of : IsAsk requested k uri ask) (message : Data) → Sends message sent → option_and_then request_number (get (codes "id") message) ≡ Some k → NamesFor ask uri of.sent.version message → All (MentionsDocumentOfAsk requested) sent
   answer_names ask of message sends numbered names =
       sent_one requested message sent sends
       (λ n is. (
@@ -193,33 +193,33 @@ module _ (requested : List SentAsk) (k : ℕ) (uri : List ℕ) (sent : List (Lis
         subst (λ u. NamesFor of.sent.ask u of.sent.version message) (sym of.about) (subst (λ x. NamesFor x uri of.sent.version message) (sym of.asks_this) names),
       ))
 
-  refusal_names : (ask : Ask) (of : IsAsk requested k uri ask) (code : ℤ) (why : List ℕ) (message : Data) → Sends message sent → message ≡ error_message (number (unsigned k)) code why → All (NamesItsAsk requested) sent
+  refusal_names : (ask : Ask) (of : IsAsk requested k uri ask) (code : ℤ) (why : List ℕ) (message : Data) → Sends message sent → message ≡ error_message (number (unsigned k)) code why → All (MentionsDocumentOfAsk requested) sent
   refusal_names ask of code why message sends is = answer_names ask of (error_message (number (unsigned k)) code why) (subst (λ m. Sends m sent) is sends) refl (inr (inl refl))
 
-  rename_names : (position : Position) (name : List ℕ) (of : IsAsk requested k uri (rename position name)) (client : Client) (unit : Unit) (text : List ℕ) → client.takes_document_changes ≡ true
-      → SaysReply (renames unit (record { id = number (unsigned k); client = client; at = record { uri = uri; position = position }; version = of.sent.version; new = name }) text) sent → All (NamesItsAsk requested) sent
+  rename_names : (position : Position) (name : List ℕ) (of : IsAsk requested k uri (rename position name)) (client : ClientFeatures) (unit : Unit) (text : List ℕ) → client.accepts_document_changes ≡ true
+      → AreContentsOfReply (renames unit (record { id = number (unsigned k); client = client; at = record { uri = uri; position = position }; version = of.sent.version; new = name }) text) sent → All (MentionsDocumentOfAsk requested) sent
   rename_names position name of client unit text takes (message, how, sends) = go how
     where
       request : RequestedRename
       request = record { id = number (unsigned k); client = client; at = record { uri = uri; position = position }; version = of.sent.version; new = name }
 
-      go : AnswersRenaming unit request text message → All (NamesItsAsk requested) sent
+      go : AnswersRenaming unit request text message → All (MentionsDocumentOfAsk requested) sent
       go (inl (edits, found, is)) =
           answer_names (rename position name) of (result_message (number (unsigned k)) (workspace_edit client uri of.sent.version edits)) (subst (λ m. Sends m sent) is sends) refl (inl (edit_names client uri of.sent.version edits takes))
       go (inr (inl (refusal, why, is))) = refusal_names (rename position name) of (minus 32803) (refusal_text refusal) message sends is
       go (inr (inr (unfit, is))) = refusal_names (rename position name) of (minus 32803) (codes "ill-typed") message sends is
 
-  inline_names : (how : Inlining) (position : Position) (of : IsAsk requested k uri (inlining_at how position)) (client : Client) (unit : Unit) (text : List ℕ) → client.takes_document_changes ≡ true
-      → SaysReply (offers_actions unit (actions_requested_at client (number (unsigned k)) uri position of.sent.version) text) sent → All (NamesItsAsk requested) sent
+  inline_names : (how : Inlining) (position : Position) (of : IsAsk requested k uri (inlining_at how position)) (client : ClientFeatures) (unit : Unit) (text : List ℕ) → client.accepts_document_changes ≡ true
+      → AreContentsOfReply (offers_actions unit (actions_requested_at client (number (unsigned k)) uri position of.sent.version) text) sent → All (MentionsDocumentOfAsk requested) sent
   inline_names how position of client unit text takes (message, (value, listed, is), sends) = go listed
     where
       request : RequestedActions
       request = actions_requested_at client (number (unsigned k)) uri position of.sent.version
 
-      names_edit : (edits : List Edit) → named_by_edit (workspace_edit client uri of.sent.version edits) ≡ Some (uri, of.sent.version)
+      names_edit : (edits : List Edit) → edited_uri_and_version (workspace_edit client uri of.sent.version edits) ≡ Some (uri, of.sent.version)
       names_edit edits = edit_names client uri of.sent.version edits takes
 
-      offered : (how : Inlining) (here everywhere : Option (Vec Edit Global)) → NamesFor (inlining_at how position) uri of.sent.version (result_message (number (unsigned k)) (actions_value request here everywhere))
+      offered : (how : Inlining) (here everywhere : Option (Vec Edit Global)) → NamesFor (inlining_at how position) uri of.sent.version (result_message (number (unsigned k)) (actions_array request here everywhere))
       offered Here (Some edits) everywhere = inl (names_edit edits.items)
       offered Here None (Some other) = inr (inl refl)
       offered Here None None = inr (inl refl)
@@ -228,53 +228,53 @@ module _ (requested : List SentAsk) (k : ℕ) (uri : List ℕ) (sent : List (Lis
       offered Everywhere (Some other) None = inr (inl refl)
       offered Everywhere None None = inr (inl refl)
 
-      with_value : (v : Data) → value ≡ v → NamesFor (inlining_at how position) uri of.sent.version (result_message (number (unsigned k)) v) → All (NamesItsAsk requested) sent
+      with_value : (v : Data) → value ≡ v → NamesFor (inlining_at how position) uri of.sent.version (result_message (number (unsigned k)) v) → All (MentionsDocumentOfAsk requested) sent
       with_value v same names = answer_names (inlining_at how position) of (result_message (number (unsigned k)) v) (subst (λ m. Sends m sent) (is ∙ ap (result_message (number (unsigned k))) same) sends) refl names
 
-      go : ListsActions unit request text value → All (NamesItsAsk requested) sent
-      go (inl h) = with_value (actions_value request h.here h.everywhere) h.listed (offered how h.here h.everywhere)
+      go : ListsActions unit request text value → All (MentionsDocumentOfAsk requested) sent
+      go (inl h) = with_value (actions_array request h.here h.everywhere) h.listed (offered how h.here h.everywhere)
       go (inr (why, none)) = with_value (array no_items) none (inr (inl (none_read_back how position uri (number (unsigned k)))))
 
-  layout_names : (indent : Indent) (of : IsAsk requested k uri (format indent)) (unit : Unit) (text : List ℕ) → SaysReply (lays_out unit (number (unsigned k)) (indent_read indent) text) sent → All (NamesItsAsk requested) sent
+  layout_names : (indent : Indent) (of : IsAsk requested k uri (format indent)) (unit : Unit) (text : List ℕ) → AreContentsOfReply (lays_out unit (number (unsigned k)) (clamped_indent indent) text) sent → All (MentionsDocumentOfAsk requested) sent
   layout_names indent of unit text (message, how, sends) = go how
     where
-      go : AnswersFormatting unit (number (unsigned k)) (indent_read indent) text message → All (NamesItsAsk requested) sent
+      go : AnswersFormatting unit (number (unsigned k)) (clamped_indent indent) text message → All (MentionsDocumentOfAsk requested) sent
       go (inl (edits, laid, is)) = answer_names (format indent) of (result_message (number (unsigned k)) (edits_value edits)) (subst (λ m. Sends m sent) is sends) refl (inr (inr tt))
       go (inr (inl (long, is))) = refusal_names (format indent) of (minus 32803) (refusal_text TooLong) message sends is
       go (inr (inr (unfit, is))) = refusal_names (format indent) of (minus 32803) (codes "ill-typed") message sends is
 
-  -- `NamesItsAsk` holds of the answer of a running session to a request about a document in step.
-  request_names : (ask : Ask) (of : IsAsk requested k uri ask) (params : Data) (before : ServerState) (text : List ℕ) → IsRunning before → document_at before.held uri ≡ Some (InStep of.sent.version text) → request_by_method (method_of ask) params ≡ Ok (call_for uri ask)
-      → SaysReply (answer_method before (number (unsigned k)) (method_of ask) params).say sent → All (NamesItsAsk requested) sent
+  -- `MentionsDocumentOfAsk` holds of the answer of a running session to a request about a document in step.
+  request_names : (ask : Ask) (of : IsAsk requested k uri ask) (params : Data) (before : ServerState) (text : List ℕ) → RunsWithEditor before → document_at before.held uri ≡ Some (InStep of.sent.version text) → request_by_method (method_of ask) params ≡ Ok (client_request_for uri ask)
+      → AreContentsOfReply (react_to_method before (number (unsigned k)) (method_of ask) params).say sent → All (MentionsDocumentOfAsk requested) sent
   request_names (rename position name) of params before text running holds call saying =
       let id : Data = number (unsigned k) in
       let say : ℤ → List ℕ → Reply = λ version. renames before.held.unit (record { id = id; client = before.client; at = record { uri = uri; position = position }; version = version; new = name }) in
-      let so : answer_method before id (method_of (rename position name)) params ≡ answers_about before id (document_at before.held uri) say = ap (answer_request before id) call in
-      rename_names position name of before.client before.held.unit text running.1 (subst (λ (x : Reaction). SaysReply x.say sent) (so ∙ ap (λ o. answers_about before id o say) holds) saying)
+      let so : react_to_method before id (method_of (rename position name)) params ≡ react_about_document before id (document_at before.held uri) say = ap (react_to_known_request before id) call in
+      rename_names position name of before.client before.held.unit text running.1 (subst (λ (x : Reaction). AreContentsOfReply x.say sent) (so ∙ ap (λ o. react_about_document before id o say) holds) saying)
   request_names (inline_here position) of params before text running holds call saying =
       let id : Data = number (unsigned k) in
       let say : ℤ → List ℕ → Reply = λ version. offers_actions before.held.unit (actions_requested_at before.client (number (unsigned k)) uri position version) in
-      let so : answer_method before id (method_of (inline_here position)) params ≡ answers_about before id (document_at before.held uri) say = ap (answer_request before id) call in
-      inline_names Here position of before.client before.held.unit text running.1 (subst (λ (x : Reaction). SaysReply x.say sent) (so ∙ ap (λ o. answers_about before id o say) holds) saying)
+      let so : react_to_method before id (method_of (inline_here position)) params ≡ react_about_document before id (document_at before.held uri) say = ap (react_to_known_request before id) call in
+      inline_names Here position of before.client before.held.unit text running.1 (subst (λ (x : Reaction). AreContentsOfReply x.say sent) (so ∙ ap (λ o. react_about_document before id o say) holds) saying)
   request_names (inline_all position) of params before text running holds call saying =
       let id : Data = number (unsigned k) in
       let say : ℤ → List ℕ → Reply = λ version. offers_actions before.held.unit (actions_requested_at before.client (number (unsigned k)) uri position version) in
-      let so : answer_method before id (method_of (inline_all position)) params ≡ answers_about before id (document_at before.held uri) say = ap (answer_request before id) call in
-      inline_names Everywhere position of before.client before.held.unit text running.1 (subst (λ (x : Reaction). SaysReply x.say sent) (so ∙ ap (λ o. answers_about before id o say) holds) saying)
+      let so : react_to_method before id (method_of (inline_all position)) params ≡ react_about_document before id (document_at before.held uri) say = ap (react_to_known_request before id) call in
+      inline_names Everywhere position of before.client before.held.unit text running.1 (subst (λ (x : Reaction). AreContentsOfReply x.say sent) (so ∙ ap (λ o. react_about_document before id o say) holds) saying)
   request_names (format indent) of params before text running holds call saying =
       let id : Data = number (unsigned k) in
-      let say : ℤ → List ℕ → Reply = λ version. lays_out before.held.unit id (indent_read indent) in
-      let so : answer_method before id (method_of (format indent)) params ≡ answers_about before id (document_at before.held uri) say = ap (answer_request before id) call in
-      layout_names indent of before.held.unit text (subst (λ (x : Reaction). SaysReply x.say sent) (so ∙ ap (λ o. answers_about before id o say) holds) saying)
+      let say : ℤ → List ℕ → Reply = λ version. lays_out before.held.unit id (clamped_indent indent) in
+      let so : react_to_method before id (method_of (format indent)) params ≡ react_about_document before id (document_at before.held uri) say = ap (react_to_known_request before id) call in
+      layout_names indent of before.held.unit text (subst (λ (x : Reaction). AreContentsOfReply x.say sent) (so ∙ ap (λ o. react_about_document before id o say) holds) saying)
 
--- `NamesItsAsk` holds of the replies to each message.
-content_names : (requested : List SentAsk) (m : ToServer) (before after : ServerState) (content : List ℕ) (sent : List (List ℕ)) → IsRunning before → SaysToServer requested m content → Answers before content sent after → AsksHeld requested before.held (m ∷ []) → All (NamesItsAsk requested) sent
+-- `MentionsDocumentOfAsk` holds of the replies to each message.
+content_names : (requested : List SentAsk) (m : MessageToServer) (before after : ServerState) (content : List ℕ) (sent : List (List ℕ)) → RunsWithEditor before → IsMessageToServer requested m content → Answers before content sent after → AsksHeld requested before.held (m ∷ []) → All (MentionsDocumentOfAsk requested) sent
 content_names requested (notifies note) before after content sent running is h meets =
-    let going : AnswersGoingOn before content sent after = subst (λ phase. AnswersInState phase before content sent after) running.0 h in
+    let going : AnswersBeforeEnd before content sent after = subst (λ phase. AnswersInPhase phase before content sent after) running.0 h in
     let answer = reacts_so before after content sent is.json going is.reads in
-    let so : react before (meaning_of is.json) ≡ apply_notification before (sent_as note) =
+    let so : react before (meaning_of is.json) ≡ apply_notification before (notification_for note) =
     ap (react before) is.means ∙ ap (λ phase. react_to_notification phase before is.method is.params) running.0 ∙ ap (apply_notification before) is.reported in
-    note_names requested note before sent (subst (λ (x : Reaction). SaysReply x.say sent) so answer.1)
+    note_names requested note before sent (subst (λ (x : Reaction). AreContentsOfReply x.say sent) so answer.1)
 content_names requested (requests k uri ask) before after content sent running (is, of) h (meets, none) =
     let answer = request_reaction (number (unsigned k)) uri ask before after content sent running.0 is h in
     let same : meets.sent ≡ of.sent = same_Some meets.sent of.sent (sym meets.is ∙ of.is) in
@@ -284,77 +284,77 @@ content_names requested (requests k uri ask) before after content sent running (
 -- ---- each event
 
 record Known (w : Connection) : Type 0 where
-  pub reached : IsReached w.model
+  pub reached : IsReachable w.model
   pub tied : IsTied w
-  pub running : IsRunning w.wire.session
+  pub running : RunsWithEditor w.wire.session
   pub asks : AsksHeld w.model.editor.requested w.model.held w.model.to_server
-  pub named : All (NamesItsAsk w.model.editor.requested) w.wire.to_editor
+  pub named : All (MentionsDocumentOfAsk w.model.editor.requested) w.wire.to_editor
 
 abbrev AsksOf : ClientAndServer → Type 0
 AsksOf w = AsksHeld w.editor.requested w.held w.to_server
 
-serve_known : (old new : Connection) (q : List ToServer) (c : List (List ℕ)) → old.model.to_server ≡ q → AllSay old.model.editor.requested q c → ServerTakes old.model q new.model → TakesFirst c old.wire new.wire → Known old → IsTied new → IsReached new.model → Known new
+serve_known : (old new : Connection) (q : List MessageToServer) (c : List (List ℕ)) → old.model.to_server ≡ q → AreMessagesToServer old.model.editor.requested q c → ServerTakes old.model q new.model → SessionTakesFirst c old.wire new.wire → Known old → IsTied new → IsReachable new.model → Known new
 serve_known old new [] [] waits says_all happens moves k tied reached =
     record {
       reached = reached;
       tied = tied;
-      running = subst IsRunning (sym (ap (λ (x : Wire). x.session) moves)) k.running;
+      running = subst RunsWithEditor (sym (ap (λ (x : Wire). x.session) moves)) k.running;
       asks = subst AsksOf (sym happens) k.asks;
-      named = subst (λ (x : ClientAndServer). All (NamesItsAsk x.editor.requested) new.wire.to_editor) (sym happens) (subst (λ (x : Wire). All (NamesItsAsk old.model.editor.requested) x.to_editor) (sym moves) k.named);
+      named = subst (λ (x : ClientAndServer). All (MentionsDocumentOfAsk x.editor.requested) new.wire.to_editor) (sym happens) (subst (λ (x : Wire). All (MentionsDocumentOfAsk old.model.editor.requested) x.to_editor) (sym moves) k.named);
     }
 serve_known old new (m ∷ rest) (content ∷ contents) waits (says_this, others) (said, made, replies, is_new) (after, sent, answer, wire_is) k tied reached =
     let r : List SentAsk = old.model.editor.requested in
     let before : ServerState = old.wire.session in
     let see = sees_first r old.model.held m rest (subst (AsksHeld r old.model.held) waits k.asks) in
     let meets : AsksHeld r before.held (m ∷ []) = subst (λ (held : OpenDocuments). AsksHeld r held (m ∷ [])) k.tied.documents see.0 in
-    let names : All (NamesItsAsk r) sent = content_names r m before after content sent k.running says_this answer meets in
+    let names : All (MentionsDocumentOfAsk r) sent = content_names r m before after content sent k.running says_this answer meets in
     record {
       reached = reached;
       tied = tied;
-      running = subst IsRunning (sym (ap (λ (x : Wire). x.session) wire_is)) (runs_on r m before after sent k.running (served r m before after content sent k.running says_this answer));
+      running = subst RunsWithEditor (sym (ap (λ (x : Wire). x.session) wire_is)) (runs_on r m before after sent k.running (served r m before after content sent k.running says_this answer));
       asks = subst AsksOf (sym is_new) see.1;
-      named = subst (λ (x : ClientAndServer). All (NamesItsAsk x.editor.requested) new.wire.to_editor) (sym is_new)
-          (subst (λ (x : Wire). All (NamesItsAsk r) x.to_editor) (sym wire_is) (All-append (NamesItsAsk r) old.wire.to_editor sent k.named names));
+      named = subst (λ (x : ClientAndServer). All (MentionsDocumentOfAsk x.editor.requested) new.wire.to_editor) (sym is_new)
+          (subst (λ (x : Wire). All (MentionsDocumentOfAsk r) x.to_editor) (sym wire_is) (All-append (MentionsDocumentOfAsk r) old.wire.to_editor sent k.named names));
     }
 serve_known old new [] (content ∷ contents) waits says_all happens moves k tied reached = absurd says_all
 serve_known old new (m ∷ rest) [] waits says_all happens moves k tied reached = absurd says_all
 
 -- Taking a message changes neither the editor's requests nor the messages that wait for the server.
-take_keeps : (w : ClientAndServer) (queue : List ToEditor) (contents : List (List ℕ)) → AsksOf w → All (NamesItsAsk w.editor.requested) contents → AsksOf (after_taking w queue) × All (NamesItsAsk (after_taking w queue).editor.requested) contents
+take_keeps : (w : ClientAndServer) (queue : List MessageToEditor) (contents : List (List ℕ)) → AsksOf w → All (MentionsDocumentOfAsk w.editor.requested) contents → AsksOf (after_editor_takes w queue) × All (MentionsDocumentOfAsk (after_editor_takes w queue).editor.requested) contents
 take_keeps w [] contents asked named = (asked, named)
 take_keeps w (publishes uri version empty ∷ rest) contents asked named = (asked, named)
 take_keeps w (answers k [] ∷ rest) contents asked named = (asked, named)
 take_keeps w (answers k (edit ∷ edits) ∷ rest) contents asked named = (asked, named)
 
-gets_names : (P : List ℕ → Type 0) (c : List (List ℕ)) (old new : Wire) → old.to_editor ≡ c → GetsFirst c old new → All P old.to_editor → All P new.to_editor
+gets_names : (P : List ℕ → Type 0) (c : List (List ℕ)) (old new : Wire) → old.to_editor ≡ c → EditorGetsFirst c old new → All P old.to_editor → All P new.to_editor
 gets_names P [] old new waits is all = subst (λ (x : Wire). All P x.to_editor) (sym is) all
 gets_names P (content ∷ rest) old new waits is all = subst (λ (x : Wire). All P x.to_editor) (sym is) (All-tail P content rest (subst (All P) waits all))
 
-gets_session : (c : List (List ℕ)) (old new : Wire) → GetsFirst c old new → new.session ≡ old.session
+gets_session : (c : List (List ℕ)) (old new : Wire) → EditorGetsFirst c old new → new.session ≡ old.session
 gets_session [] old new is = ap (λ (x : Wire). x.session) is
 gets_session (content ∷ rest) old new is = ap (λ (x : Wire). x.session) is
 
 step_known : (old : Connection) (event : Event) (new : Connection) → Known old → ConnectionStep old event new → Known new
 step_known old (does act) new k step =
-    let keeps : Keeps old.model old.wire.to_editor (done_by old.model.editor act) = act_keeps old.model old.wire.to_editor (reached_mirrors old.model k.reached) k.asks k.named act in
+    let keeps : Keeps old.model old.wire.to_editor (act_result old.model.editor act) = act_keeps old.model old.wire.to_editor (reached_mirrors old.model k.reached) k.asks k.named act in
     record {
       reached = reached_more old.model (does act) new.model k.reached step.happens;
       tied = step.tied;
-      running = subst IsRunning (sym (ap (λ (x : Wire). x.session) step.moves.1)) k.running;
+      running = subst RunsWithEditor (sym (ap (λ (x : Wire). x.session) step.moves.1)) k.running;
       asks = subst AsksOf (sym step.happens) keeps.0;
-      named = subst (λ (x : ClientAndServer). All (NamesItsAsk x.editor.requested) new.wire.to_editor) (sym step.happens)
-          (subst (λ (x : Wire). All (NamesItsAsk (done_by old.model.editor act).editor.requested) x.to_editor) (sym step.moves.1) keeps.1);
+      named = subst (λ (x : ClientAndServer). All (MentionsDocumentOfAsk x.editor.requested) new.wire.to_editor) (sym step.happens)
+          (subst (λ (x : Wire). All (MentionsDocumentOfAsk (act_result old.model.editor act).editor.requested) x.to_editor) (sym step.moves.1) keeps.1);
     }
 step_known old serve new k step =
     serve_known old new old.model.to_server old.wire.to_server refl k.tied.says step.happens step.moves k step.tied (reached_more old.model serve new.model k.reached step.happens)
 step_known old take_message new k step =
-    let keeps = take_keeps old.model old.model.to_editor new.wire.to_editor k.asks (gets_names (NamesItsAsk old.model.editor.requested) old.wire.to_editor old.wire new.wire refl step.moves k.named) in
+    let keeps = take_keeps old.model old.model.to_editor new.wire.to_editor k.asks (gets_names (MentionsDocumentOfAsk old.model.editor.requested) old.wire.to_editor old.wire new.wire refl step.moves k.named) in
     record {
       reached = reached_more old.model take_message new.model k.reached step.happens;
       tied = step.tied;
-      running = subst IsRunning (sym (gets_session old.wire.to_editor old.wire new.wire step.moves)) k.running;
+      running = subst RunsWithEditor (sym (gets_session old.wire.to_editor old.wire new.wire step.moves)) k.running;
       asks = subst AsksOf (sym step.happens) keeps.0;
-      named = subst (λ (x : ClientAndServer). All (NamesItsAsk x.editor.requested) new.wire.to_editor) (sym step.happens) keeps.1;
+      named = subst (λ (x : ClientAndServer). All (MentionsDocumentOfAsk x.editor.requested) new.wire.to_editor) (sym step.happens) keeps.1;
     }
 
 course_known : (begin : Connection) (events : List Event) (now : Connection) → Known begin → ConnectionCourse begin events now → Known now
@@ -380,31 +380,31 @@ begin_known unit begin b = subst Known (λ i. record { model = sym b.model i; wi
       tied = record { says = tt; means = refl; documents = ap (λ u. (start u).held) (unit_back unit) };
       running = (refl, refl, refl);
       asks = tt;
-      named = All-nil (NamesItsAsk []);
+      named = All-nil (MentionsDocumentOfAsk []);
     }
 
-pub versions_are_named : VersionsAreNamed
-versions_are_named unit begin events now begins_so course = (course_known begin events now (begin_known unit begin begins_so) course).named
+pub answers_mention_versions : AnswersMentionVersions
+answers_mention_versions unit begin events now begins_so course = (course_known begin events now (begin_known unit begin begins_so) course).named
 
 -- ---- a client that goes by the version
 
 pub versions_suffice : VersionsSuffice
 versions_suffice e k a edits numbered not_reopened = go (open_at e a.uri) refl ∙ sym (ap (option_and_then then_asked) numbered)
   where
-    makes : (uri : List ℕ) → Open → List ℕ → Option Done
-    makes uri d text = Some (rewrites e uri d text (whole_text text ∷ []) (record { uri = uri; before = d.text; after = text } ∷ []))
+    makes : (uri : List ℕ) → OpenDocument → List ℕ → Option ActResult
+    makes uri d text = Some (rewriting_result e uri d text (whole_text_change text ∷ []) (record { uri = uri; before = d.text; after = text } ∷ []))
 
-    then_open : (uri : List ℕ) → Open → Option Done
+    then_open : (uri : List ℕ) → OpenDocument → Option ActResult
     then_open uri d = option_and_then (makes uri d) (edited e.unit d.text edits)
 
-    then_asked : SentAsk → Option Done
-    then_asked x = option_and_then (then_open x.uri) (option_and_then (if_same x) (open_at e x.uri))
+    then_asked : SentAsk → Option ActResult
+    then_asked x = option_and_then (then_open x.uri) (option_and_then (if_unchanged_since x) (open_at e x.uri))
 
-    of_version : (d : Open) (b : Bool) → option_and_then (makes a.uri d) (cond b (edited e.unit d.text edits) None) ≡ option_and_then (then_open a.uri) (cond b (Some d) None)
+    of_version : (d : OpenDocument) (b : Bool) → option_and_then (makes a.uri d) (cond b (edited e.unit d.text edits) None) ≡ option_and_then (then_open a.uri) (cond b (Some d) None)
     of_version d true = refl
     of_version d false = refl
 
-    go : (o : Option Open) → open_at e a.uri ≡ o → option_and_then (λ d. option_and_then (makes a.uri d) (cond (same_version d.version a.version) (edited e.unit d.text edits) None)) o ≡ option_and_then (then_open a.uri) (option_and_then (if_same a) o)
+    go : (o : Option OpenDocument) → open_at e a.uri ≡ o → option_and_then (λ d. option_and_then (makes a.uri d) (cond (same_version d.version a.version) (edited e.unit d.text edits) None)) o ≡ option_and_then (then_open a.uri) (option_and_then (if_unchanged_since a) o)
     go None is = refl
     go (Some d) is =
         of_version d (same_version d.version a.version)

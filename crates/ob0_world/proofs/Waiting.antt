@@ -11,18 +11,18 @@ use Rattle.std.proofs.lemmas.List.Elements.{All-append, All-head, All-tail, All-
 use Rattle.serde_json.specs.Data.{Data}
 use Rattle.serde_json.specs.Find.{get}
 use Rattle.serde_json.specs.Read.{read}
-use Rattle.ob0_world_editor.specs.Heard.{heard, SaysToServer, request_number}
-use Rattle.ob0_world_editor.specs.Understood.{understood, notice_understood, answer_read, value_read, read_so, answer_to, edits_for}
+use Rattle.ob0_world_editor.specs.MessagesToServer.{message_to_server_in, IsMessageToServer, request_number}
+use Rattle.ob0_world_editor.specs.MessagesToEditor.{message_to_editor_in, publication_of_notification, answer_of_response, message_to_editor_of, message_to_editor_by, answer_to, edits_for}
 use Rattle.ob0_world_editor.proofs.Hearing.{says_heard}
-use Rattle.ob0_world_rules.specs.ClientAndServer.{SentAsk, request_numbered, ToServer, notifies, requests, ToEditor, answers}
+use Rattle.ob0_world_rules.specs.ClientAndServer.{SentAsk, request_numbered, MessageToServer, notifies, requests, MessageToEditor, answers}
 use Rattle.ob0_world_rules.proofs.Asked.{numbered_push}
-use Rattle.ob0_world.specs.Queues.{Contents, bytes, all_heard, all_understood, IsHeard, IsUnderstood}
+use Rattle.ob0_world.specs.Queues.{Contents, content_bytes, all_messages_to_server, all_messages_to_editor, HasMessageToServer, HasMessageToEditor}
 
 -- ---- more asks
 
 -- A content is read the same after further asks, and with other ids for the same asks.
 module _ (f g : Data → Option ℕ) (requested more : List SentAsk) (grows : (d : Data) (k : ℕ) (a : SentAsk) → request_numbered requested k ≡ Some a → f d ≡ Some k → g d ≡ Some k) where
-  answer_still : (d : Data) (o : Option Data) (m : ToEditor) → option_and_then (answer_to requested d) (option_and_then f o) ≡ Some m → option_and_then (answer_to (requested ++ more) d) (option_and_then g o) ≡ Some m
+  answer_still : (d : Data) (o : Option Data) (m : MessageToEditor) → option_and_then (answer_to requested d) (option_and_then f o) ≡ Some m → option_and_then (answer_to (requested ++ more) d) (option_and_then g o) ≡ Some m
   answer_still d None m h = absurd (none-some m h)
   answer_still d (Some id) m h = go (f id) refl h
     where
@@ -36,69 +36,69 @@ module _ (f g : Data → Option ℕ) (requested more : List SentAsk) (grows : (d
       go None named h = absurd (none-some m h)
       go (Some k) named h = at k (request_numbered requested k) named refl h
 
-  value_still : (d : Data) (b : Bool) (m : ToEditor) → cond b (notice_understood d) (answer_read f requested d) ≡ Some m → cond b (notice_understood d) (answer_read g (requested ++ more) d) ≡ Some m
+  value_still : (d : Data) (b : Bool) (m : MessageToEditor) → cond b (publication_of_notification d) (answer_of_response f requested d) ≡ Some m → cond b (publication_of_notification d) (answer_of_response g (requested ++ more) d) ≡ Some m
   value_still d true m h = h
   value_still d false m h = answer_still d (get (codes "id") d) m h
 
-  pub read_still : (content : List ℕ) (m : ToEditor) → read_so f requested content ≡ Some m → read_so g (requested ++ more) content ≡ Some m
-  unfolding read_so
+  pub read_still : (content : List ℕ) (m : MessageToEditor) → message_to_editor_by f requested content ≡ Some m → message_to_editor_by g (requested ++ more) content ≡ Some m
+  unfolding message_to_editor_by
   read_still content m h = go (is_utf8 content) (read content) h
     where
-      go : (b : Bool) (o : Option Data) → cond b (option_and_then (value_read f requested) o) None ≡ Some m → cond b (option_and_then (value_read g (requested ++ more)) o) None ≡ Some m
+      go : (b : Bool) (o : Option Data) → cond b (option_and_then (message_to_editor_of f requested) o) None ≡ Some m → cond b (option_and_then (message_to_editor_of g (requested ++ more)) o) None ≡ Some m
       go false o h = h
       go true None h = h
       go true (Some d) h = value_still d (is_some (get (codes "method") d)) m h
 
 module _ (requested more : List SentAsk) where
-  pub says_still : (m : ToServer) (content : List ℕ) → SaysToServer requested m content → SaysToServer (requested ++ more) m content
+  pub says_still : (m : MessageToServer) (content : List ℕ) → IsMessageToServer requested m content → IsMessageToServer (requested ++ more) m content
   says_still (notifies note) content is = is
   says_still (requests k uri ask) content (is, of) = (is, record { sent = of.sent; is = numbered_push requested more k of.sent of.is; about = of.about; asks_this = of.asks_this })
 
-  pub understood_still : (content : List ℕ) (m : ToEditor) → understood requested content ≡ Some m → understood (requested ++ more) content ≡ Some m
+  pub understood_still : (content : List ℕ) (m : MessageToEditor) → message_to_editor_in requested content ≡ Some m → message_to_editor_in (requested ++ more) content ≡ Some m
   understood_still content m h = read_still request_number request_number requested more (λ d k a is named. named) content m h
 
-  pub all_heard_still : (q : Contents) → All (IsHeard requested) q → All (IsHeard (requested ++ more)) q
-  all_heard_still q all = All-weaker (IsHeard requested) (IsHeard (requested ++ more)) (λ c h. (h.0, says_still h.0 c.items h.1)) q all
+  pub all_heard_still : (q : Contents) → All (HasMessageToServer requested) q → All (HasMessageToServer (requested ++ more)) q
+  all_heard_still q all = All-weaker (HasMessageToServer requested) (HasMessageToServer (requested ++ more)) (λ c h. (h.0, says_still h.0 c.items h.1)) q all
 
-  pub all_understood_still : (q : Contents) → All (IsUnderstood requested) q → All (IsUnderstood (requested ++ more)) q
-  all_understood_still q all = All-weaker (IsUnderstood requested) (IsUnderstood (requested ++ more)) (λ c h. (h.0, understood_still c.items h.0 h.1)) q all
+  pub all_understood_still : (q : Contents) → All (HasMessageToEditor requested) q → All (HasMessageToEditor (requested ++ more)) q
+  all_understood_still q all = All-weaker (HasMessageToEditor requested) (HasMessageToEditor (requested ++ more)) (λ c h. (h.0, understood_still c.items h.0 h.1)) q all
 
-  pub heard_still : (q : Contents) → All (IsHeard requested) q → all_heard (requested ++ more) q ≡ all_heard requested q
+  pub heard_still : (q : Contents) → All (HasMessageToServer requested) q → all_messages_to_server (requested ++ more) q ≡ all_messages_to_server requested q
   heard_still [] all = refl
   heard_still (c ∷ q) all =
-      let h : IsHeard requested c = All-head (IsHeard requested) c q all in
-      (λ i. cons_option (same i) (heard_still q (All-tail (IsHeard requested) c q all) i))
+      let h : HasMessageToServer requested c = All-head (HasMessageToServer requested) c q all in
+      (λ i. cons_option (same i) (heard_still q (All-tail (HasMessageToServer requested) c q all) i))
     where
-      h : IsHeard requested c
-      h = All-head (IsHeard requested) c q all
+      h : HasMessageToServer requested c
+      h = All-head (HasMessageToServer requested) c q all
 
-      same : heard (requested ++ more) c.items ≡ heard requested c.items
+      same : message_to_server_in (requested ++ more) c.items ≡ message_to_server_in requested c.items
       same = says_heard (requested ++ more) h.0 c.items (says_still h.0 c.items h.1) ∙ sym (says_heard requested h.0 c.items h.1)
 
-  pub understood_same : (q : Contents) → All (IsUnderstood requested) q → all_understood (requested ++ more) q ≡ all_understood requested q
+  pub understood_same : (q : Contents) → All (HasMessageToEditor requested) q → all_messages_to_editor (requested ++ more) q ≡ all_messages_to_editor requested q
   understood_same [] all = refl
-  understood_same (c ∷ q) all = (λ i. cons_option (same i) (understood_same q (All-tail (IsUnderstood requested) c q all) i))
+  understood_same (c ∷ q) all = (λ i. cons_option (same i) (understood_same q (All-tail (HasMessageToEditor requested) c q all) i))
     where
-      h : IsUnderstood requested c
-      h = All-head (IsUnderstood requested) c q all
+      h : HasMessageToEditor requested c
+      h = All-head (HasMessageToEditor requested) c q all
 
-      same : understood (requested ++ more) c.items ≡ understood requested c.items
+      same : message_to_editor_in (requested ++ more) c.items ≡ message_to_editor_in requested c.items
       same = understood_still c.items h.0 h.1 ∙ sym h.1
 
 -- ---- queues
 
 module _ {M : Type 0} (f : List ℕ → Option M) where
-  pub said_push : (old : Contents) (content : Vec ℕ Global) (m : M) → f content.items ≡ Some m → filter_map f (bytes (old ++ content ∷ [])) ≡ filter_map f (bytes old) ++ m ∷ []
+  pub said_push : (old : Contents) (content : Vec ℕ Global) (m : M) → f content.items ≡ Some m → filter_map f (content_bytes (old ++ content ∷ [])) ≡ filter_map f (content_bytes old) ++ m ∷ []
   said_push old content m is =
       ap (filter_map f) (map-append (λ v. v.items) old (content ∷ []))
-      ∙ filter_map-append f (bytes old) (content.items ∷ [])
-      ∙ ap (λ o. filter_map f (bytes old) ++ cons_option o []) is
+      ∙ filter_map-append f (content_bytes old) (content.items ∷ [])
+      ∙ ap (λ o. filter_map f (content_bytes old) ++ cons_option o []) is
 
-  pub said_append : (xs ys : Contents) → filter_map f (bytes (xs ++ ys)) ≡ filter_map f (bytes xs) ++ filter_map f (bytes ys)
-  said_append xs ys = ap (filter_map f) (map-append (λ v. v.items) xs ys) ∙ filter_map-append f (bytes xs) (bytes ys)
+  pub said_append : (xs ys : Contents) → filter_map f (content_bytes (xs ++ ys)) ≡ filter_map f (content_bytes xs) ++ filter_map f (content_bytes ys)
+  said_append xs ys = ap (filter_map f) (map-append (λ v. v.items) xs ys) ∙ filter_map-append f (content_bytes xs) (content_bytes ys)
 
-  pub said_first : (content : Vec ℕ Global) (rest : Contents) (m : M) → f content.items ≡ Some m → filter_map f (bytes (content ∷ rest)) ≡ m ∷ filter_map f (bytes rest)
-  said_first content rest m is = ap (λ o. cons_option o (filter_map f (bytes rest))) is
+  pub said_first : (content : Vec ℕ Global) (rest : Contents) (m : M) → f content.items ≡ Some m → filter_map f (content_bytes (content ∷ rest)) ≡ m ∷ filter_map f (content_bytes rest)
+  said_first content rest m is = ap (λ o. cons_option o (filter_map f (content_bytes rest))) is
 
 pub all_appended : (P : Vec ℕ Global → Type 0) (old new more : Contents) (b : Bool) → new ≡ cond b (old ++ more) old → All P old → All P more → All P new
 all_appended P old new more true is all these = subst (All P) (sym is) (All-append P old more all these)

@@ -9,10 +9,10 @@ use Rattle.ob0_text.specs.declared.position_types.Position.{Position}
 use Rattle.ob0_text.specs.declared.position_types.Range.{Range}
 use Rattle.ob0_text.specs.declared.position_types.Unit.{Unit}
 use Rattle.ob0_text.specs.OpenDocuments.{document_at}
-use Rattle.ob0_rpc.specs.declared.clients.Client.{Client}
+use Rattle.ob0_rpc.specs.declared.clients.ClientFeatures.{ClientFeatures}
 use Rattle.ob0_rpc.specs.declared.incoming.RpcFault.{RpcFault}
 use Rattle.ob0_rpc.specs.Messages.{ReadsContent, MessageMeaning, not_json, not_a_message, response, request, notice, meaning_of}
-use Rattle.ob0_rpc.specs.Notifications.{other, note_of}
+use Rattle.ob0_rpc.specs.Notifications.{other, notification_by_method}
 use Rattle.ob0_rpc.specs.Shapes.{result_message}
 use Rattle.ob0_rpc.specs.Requesting as asked
 use Rattle.ob0_rpc.specs.Requesting.{ClientRequest, request_by_method}
@@ -21,81 +21,81 @@ use Rattle.ob0_session_server.specs.Answers as server
 use Rattle.ob0_session_server.specs.Answers.{ServerState, begins, Sends, Conversation}
 use Rattle.ob0_session_server.specs.declared.session.Phase.TheVariants.{Ended}
 use Rattle.ob0_session_server.specs.Units.{unit_for}
-use Rattle.ob0_world_editor.specs.Heard.{heard, IsNote, IsRequestWithId, IsAsk}
-use Rattle.ob0_world_editor.specs.Understood.{understood, read_so}
+use Rattle.ob0_world_editor.specs.MessagesToServer.{message_to_server_in, IsNotificationFor, IsRequestWithId, IsAsk}
+use Rattle.ob0_world_editor.specs.MessagesToEditor.{message_to_editor_in, message_to_editor_by}
 use Rattle.ob0_world_rules.specs.Asks.{Ask, rename, inline_here, inline_all, format}
-use Rattle.ob0_world_rules.specs.ClientAndServer.{Open, SentAsk, Editor, new_editor, open_at, ToServer, notifies, requests, ToEditor, publishes, answers, Applied, after_message}
-use Rattle.ob0_world_rules.specs.Editing.{Done, reads}
-use Rattle.ob0_world_rules.specs.Editors.{May}
-use Rattle.ob0_world_rules.specs.EveryEditor.{EditorAndServer, nothing_yet, Turn, editor_does, editor_says, server_takes, editor_takes, MayLead, HoldsWithEditor}
-use Rattle.ob0_world_rules.specs.Answers.{IsEmptyIfCorrect}
+use Rattle.ob0_world_rules.specs.ClientAndServer.{OpenDocument, SentAsk, Editor, new_editor, open_at, MessageToServer, notifies, requests, MessageToEditor, publishes, answers, Applied, after_message}
+use Rattle.ob0_world_rules.specs.EditorActs.{ActResult, reads}
+use Rattle.ob0_world_rules.specs.Editors.{IsAllowedMove}
+use Rattle.ob0_world_rules.specs.EveryEditor.{EditorAndServer, initial_editor_and_server, Turn, editor_does, editor_says, server_takes, editor_takes, MayLeadTo, HoldsWithEditor}
+use Rattle.ob0_world_rules.specs.Answers.{IsEmptyIfWellTyped}
 use Rattle.ob0_world_rules.specs.Headline.{KeepsTheRun}
-use Rattle.ob0_world_rules.specs.Mirror.{as_open}
-use Rattle.ob0_world_rules.specs.MadeInOrder.{Announced, named_in, versioned_uri}
+use Rattle.ob0_world_rules.specs.Mirror.{in_step_document}
+use Rattle.ob0_world_rules.specs.PublicationsInOrder.{AnnouncedDocument, versions_announced_in, versioned_uri}
 use Rattle.ob0_world_rules.specs.Happens.{Event}
-use Rattle.ob0_world.specs.Worlds.{Wire, Connection, Begins, ConnectionCourse, TakesFirst}
+use Rattle.ob0_world.specs.Worlds.{Wire, Connection, Begins, ConnectionCourse, SessionTakesFirst}
 
 -- ---- the ids of requests
 
 -- a request's id: a whole number that isn't negative, or a text (JSON-RPC 2.0, request object)
-pub data Id : Type 0 where
-  number_id : ℕ → Id
-  text_id : List ℕ → Id
+pub data RequestId : Type 0 where
+  number_id : ℕ → RequestId
+  text_id : List ℕ → RequestId
 
 -- Returns the id that a JSON value means. None if it is neither a whole number that isn't negative
 -- nor a text.
-abbrev pub id_read : Data → Option Id
-id_read (number (unsigned n)) = Some (number_id n)
-id_read (number (negative z)) = None
-id_read (number (float x)) = None
-id_read null = None
-id_read (boolean b) = None
-id_read (string text) = Some (text_id text)
-id_read (array ds) = None
-id_read (object ms) = None
+abbrev pub id_of_value : Data → Option RequestId
+id_of_value (number (unsigned n)) = Some (number_id n)
+id_of_value (number (negative z)) = None
+id_of_value (number (float x)) = None
+id_of_value null = None
+id_of_value (boolean b) = None
+id_of_value (string text) = Some (text_id text)
+id_of_value (array ds) = None
+id_of_value (object ms) = None
 
 -- true if the two ids are equal
-abbrev pub same_id : Id → Id → Bool
+abbrev pub same_id : RequestId → RequestId → Bool
 same_id (number_id n) (number_id m) = n == m
 same_id (number_id n) (text_id t) = false
 same_id (text_id s) (number_id m) = false
 same_id (text_id s) (text_id t) = bytes_eq s t
 
 -- the id of a request that the editor sent, and the number of the ask if the request is an ask
-pub record SentId : Type 0 where
-  pub id : Id
+pub record SentRequestId : Type 0 where
+  pub id : RequestId
   pub ask : Option ℕ
 
 -- Finds the first request with this id, and returns the number of its ask in `Some`: `Some None` if
 -- the request isn't an ask. None if no request has this id.
-abbrev pub sent_with : List SentId → Id → Option (Option ℕ)
-sent_with [] id = None
-sent_with (s ∷ sent) id = if same_id s.id id then Some s.ask else sent_with sent id
+abbrev pub ask_of_request_id : List SentRequestId → RequestId → Option (Option ℕ)
+ask_of_request_id [] id = None
+ask_of_request_id (s ∷ sent) id = if same_id s.id id then Some s.ask else ask_of_request_id sent id
 
 -- Returns the number of the ask whose id this JSON value is. None if there is none.
-abbrev pub ask_with : List SentId → Data → Option ℕ
-ask_with sent id = option_and_then (λ ask. ask) (option_and_then (sent_with sent) (id_read id))
+abbrev pub ask_number_by_id : List SentRequestId → Data → Option ℕ
+ask_number_by_id sent id = option_and_then (λ ask. ask) (option_and_then (ask_of_request_id sent) (id_of_value id))
 
 -- Holds if each ask among the sent messages gets an id that no earlier request has, and `new` are
 -- `ids` with these.
-abbrev pub NamesAsks : List SentId → List ToServer → List SentId → Type 0
-NamesAsks ids [] new = new ≡ ids
-NamesAsks ids (notifies note ∷ sent) new = NamesAsks ids sent new
-NamesAsks ids (requests k uri ask ∷ sent) new =
-    (id : Id)
-    × (sent_with ids id ≡ None)
-    × NamesAsks (ids ++ record { id = id; ask = Some k } ∷ []) sent new
+abbrev pub AssignsAskIds : List SentRequestId → List MessageToServer → List SentRequestId → Type 0
+AssignsAskIds ids [] new = new ≡ ids
+AssignsAskIds ids (notifies note ∷ sent) new = AssignsAskIds ids sent new
+AssignsAskIds ids (requests k uri ask ∷ sent) new =
+    (id : RequestId)
+    × (ask_of_request_id ids id ≡ None)
+    × AssignsAskIds (ids ++ record { id = id; ask = Some k } ∷ []) sent new
 
 -- returns the ids with the id of a request that isn't an ask; if the id isn't valid (None), nothing
 -- is added
-abbrev pub with_other : List SentId → Option Id → List SentId
-with_other ids None = ids
-with_other ids (Some id) = ids ++ record { id = id; ask = None } ∷ []
+abbrev pub with_non_ask_id : List SentRequestId → Option RequestId → List SentRequestId
+with_non_ask_id ids None = ids
+with_non_ask_id ids (Some id) = ids ++ record { id = id; ask = None } ∷ []
 
 -- holds if the id isn't valid, or belongs to a request that isn't an ask
-abbrev pub IsOtherId : List SentId → Option Id → Type 0
-IsOtherId ids None = ⊤
-IsOtherId ids (Some id) = sent_with ids id ≡ Some None
+abbrev pub IsNonAskId : List SentRequestId → Option RequestId → Type 0
+IsNonAskId ids None = ⊤
+IsNonAskId ids (Some id) = ask_of_request_id ids id ≡ Some None
 
 -- ---- an editor and a session
 
@@ -103,16 +103,16 @@ IsOtherId ids (Some id) = sent_with ids id ≡ Some None
 -- sent, the documents that it announced, and the edits that it applied.
 pub record Exchange : Type 0 where
   pub editor : Editor
-  pub ids : List SentId
+  pub ids : List SentRequestId
   pub wire : Wire
-  pub announced : List Announced
+  pub announced : List AnnouncedDocument
   pub applied : List Applied
 
 -- States that the session was initialized by a client that counts positions in this unit. No
 -- document is open and no content waits. The list of used ids is empty, so earlier ids may be used
 -- again.
 pub record BeginsExchange (unit : Unit) (x : Exchange) : Type 0 where
-  pub client : Client
+  pub client : ClientFeatures
   pub counts : unit_for client ≡ unit
   pub taken : List (List ℕ)
   pub got : List (List ℕ)
@@ -136,41 +136,41 @@ pub record BeginsExchange (unit : Unit) (x : Exchange) : Type 0 where
 
 -- Holds if the request changes nothing in the session. It is a question, a request for edits (whose
 -- answer the editor ignores), or a request that the server doesn't know or can't read.
-abbrev pub IsQuestion : Result ClientRequest RpcFault → Type 0
-IsQuestion (Ok (asked.initialize client)) = ⊥
-IsQuestion (Ok asked.shutdown) = ⊥
-IsQuestion (Ok (asked.hover at)) = ⊤
-IsQuestion (Ok (asked.definition at)) = ⊤
-IsQuestion (Ok (asked.references at include)) = ⊤
-IsQuestion (Ok (asked.prepare_rename at)) = ⊤
-IsQuestion (Ok (asked.rename at name)) = ⊤
-IsQuestion (Ok (asked.code_action uri range only)) = ⊤
-IsQuestion (Ok (asked.formatting uri indent)) = ⊤
-IsQuestion (Err fault) = ⊤
+abbrev pub IsReadOnlyRequest : Result ClientRequest RpcFault → Type 0
+IsReadOnlyRequest (Ok (asked.initialize client)) = ⊥
+IsReadOnlyRequest (Ok asked.shutdown) = ⊥
+IsReadOnlyRequest (Ok (asked.hover at)) = ⊤
+IsReadOnlyRequest (Ok (asked.definition at)) = ⊤
+IsReadOnlyRequest (Ok (asked.references at include)) = ⊤
+IsReadOnlyRequest (Ok (asked.prepare_rename at)) = ⊤
+IsReadOnlyRequest (Ok (asked.rename at name)) = ⊤
+IsReadOnlyRequest (Ok (asked.code_action uri range only)) = ⊤
+IsReadOnlyRequest (Ok (asked.formatting uri indent)) = ⊤
+IsReadOnlyRequest (Err fault) = ⊤
 
 -- Holds if the message is outside the model: it opens, changes and closes no document, and requests
 -- no edit that is applied. It is a request that changes nothing, a notification that the server
 -- ignores, a response, or JSON that is no message, which the server refuses.
-abbrev pub IsOtherMessage : List SentId → MessageMeaning → Type 0
-IsOtherMessage ids not_json = ⊥
-IsOtherMessage ids not_a_message = ⊤
-IsOtherMessage ids response = ⊤
-IsOtherMessage ids (request id method params) =
+abbrev pub IsUnmodeledMessage : List SentRequestId → MessageMeaning → Type 0
+IsUnmodeledMessage ids not_json = ⊥
+IsUnmodeledMessage ids not_a_message = ⊤
+IsUnmodeledMessage ids response = ⊤
+IsUnmodeledMessage ids (request id method params) =
     (bytes_eq method (codes "initialize") ≡ false)
-    × IsQuestion (request_by_method method params)
-    × IsOtherId ids (id_read id)
-IsOtherMessage ids (notice method params) = note_of method params ≡ other
+    × IsReadOnlyRequest (request_by_method method params)
+    × IsNonAskId ids (id_of_value id)
+IsUnmodeledMessage ids (notice method params) = notification_by_method method params ≡ other
 
--- holds if the content is a message outside the model (`IsOtherMessage`)
-abbrev pub IsOther : List SentId → List ℕ → Type 0
-IsOther ids content =
-    (json : Data) × ReadsContent content (Some json) × IsOtherMessage ids (meaning_of json)
+-- holds if the content is a message outside the model (`IsUnmodeledMessage`)
+abbrev pub IsUnmodeledContent : List SentRequestId → List ℕ → Type 0
+IsUnmodeledContent ids content =
+    (json : Data) × ReadsContent content (Some json) × IsUnmodeledMessage ids (meaning_of json)
 
 -- ---- asks and notifications
 
 -- holds if position p isn't after position q
-abbrev pub IsNotAfter : Position → Position → Type 0
-IsNotAfter p q = (p.line < q.line) ⊎ ((p.line ≡ q.line) × (p.character ≤ q.character))
+abbrev pub IsAtOrBefore : Position → Position → Type 0
+IsAtOrBefore p q = (p.line < q.line) ⊎ ((p.line ≡ q.line) × (p.character ≤ q.character))
 
 -- States that the content is a request for code actions, with this id. Its range begins at this
 -- position and doesn't end before it. The request is for all kinds of actions, or for kinds that
@@ -187,7 +187,7 @@ pub record IsActionsRequest (id : Data) (uri : List ℕ) (position : Position) (
   pub calls : request_by_method (codes "textDocument/codeAction") params
       ≡ Ok (asked.code_action uri range only)
   pub from : range.start ≡ position
-  pub ordered : IsNotAfter range.start range.end
+  pub ordered : IsAtOrBefore range.start range.end
   pub allowed : allows_inlining only ≡ true
 
 -- holds if the content is the request with this id for this ask; for an inlining it requests code
@@ -200,75 +200,75 @@ IsRequestFor id uri (inline_all position) content = IsActionsRequest id uri posi
 IsRequestFor id uri (format indent) content = IsRequestWithId id uri (format indent) content
 
 -- holds if the client accepts code actions with edits
-abbrev pub TakesActions : Client → Type 0
-TakesActions client = client.takes_literal_actions ≡ true
+abbrev pub AcceptsActions : ClientFeatures → Type 0
+AcceptsActions client = client.accepts_literal_actions ≡ true
 
 -- holds if the client accepts the edits of this ask
-abbrev pub TakesEdits : Client → Ask → Type 0
-TakesEdits client (rename position name) = ⊤
-TakesEdits client (inline_here position) = TakesActions client
-TakesEdits client (inline_all position) = TakesActions client
-TakesEdits client (format indent) = ⊤
+abbrev pub AcceptsEdits : ClientFeatures → Ask → Type 0
+AcceptsEdits client (rename position name) = ⊤
+AcceptsEdits client (inline_here position) = AcceptsActions client
+AcceptsEdits client (inline_all position) = AcceptsActions client
+AcceptsEdits client (format indent) = ⊤
 
 -- states that ask k is this ask about this document and has this id
-pub record IsAskWithId (ids : List SentId) (requested : List SentAsk) (id : Data) (k : ℕ)
+pub record IsAskWithId (ids : List SentRequestId) (requested : List SentAsk) (id : Data) (k : ℕ)
     (uri : List ℕ) (ask : Ask) : Type 0 where
-  pub numbered : ask_with ids id ≡ Some k
+  pub numbered : ask_number_by_id ids id ≡ Some k
   pub is : IsAsk requested k uri ask
 
 -- holds if the content is this message to the session of this client
-abbrev pub SaysToSession : Client
-    → List SentId
+abbrev pub IsMessageToSession : ClientFeatures
+    → List SentRequestId
     → List SentAsk
-    → ToServer
+    → MessageToServer
     → List ℕ
     → Type 0
-SaysToSession client ids requested (notifies note) content = IsNote note content
-SaysToSession client ids requested (requests k uri ask) content =
+IsMessageToSession client ids requested (notifies note) content = IsNotificationFor note content
+IsMessageToSession client ids requested (requests k uri ask) content =
     (id : Data)
     × IsRequestFor id uri ask content
     × IsAskWithId ids requested id k uri ask
-    × TakesEdits client ask
+    × AcceptsEdits client ask
 
 -- Holds if there are as many contents as messages, and the n-th content is the n-th message to the
 -- session. `None` stands for a message outside the model.
-abbrev pub EachSays : Client
-    → List SentId
+abbrev pub AreMessagesToSession : ClientFeatures
+    → List SentRequestId
     → List SentAsk
-    → List (Option ToServer)
+    → List (Option MessageToServer)
     → List (List ℕ)
     → Type 0
-EachSays client ids requested [] [] = ⊤
-EachSays client ids requested (Some m ∷ messages) (content ∷ contents) =
-    SaysToSession client ids requested m content
-    × EachSays client ids requested messages contents
-EachSays client ids requested (None ∷ messages) (content ∷ contents) =
-    IsOther ids content × EachSays client ids requested messages contents
-EachSays client ids requested [] (content ∷ contents) = ⊥
-EachSays client ids requested (Some m ∷ messages) [] = ⊥
-EachSays client ids requested (None ∷ messages) [] = ⊥
+AreMessagesToSession client ids requested [] [] = ⊤
+AreMessagesToSession client ids requested (Some m ∷ messages) (content ∷ contents) =
+    IsMessageToSession client ids requested m content
+    × AreMessagesToSession client ids requested messages contents
+AreMessagesToSession client ids requested (None ∷ messages) (content ∷ contents) =
+    IsUnmodeledContent ids content × AreMessagesToSession client ids requested messages contents
+AreMessagesToSession client ids requested [] (content ∷ contents) = ⊥
+AreMessagesToSession client ids requested (Some m ∷ messages) [] = ⊥
+AreMessagesToSession client ids requested (None ∷ messages) [] = ⊥
 
 -- ---- what may happen
 
 -- Returns the message to the editor in a content; an answer's ask is found by the ids. None if
 -- there is none.
-abbrev pub read_by : List SentId → List SentAsk → List ℕ → Option ToEditor
-read_by ids requested content = read_so (ask_with ids) requested content
+abbrev pub message_to_editor_by_ids : List SentRequestId → List SentAsk → List ℕ → Option MessageToEditor
+message_to_editor_by_ids ids requested content = message_to_editor_by (ask_number_by_id ids) requested content
 
 -- Returns the editor after it has read this message, if there is one. The editor keeps an answer
 -- with edits to one of its asks, and nothing else.
-abbrev pub reads_meaning : Editor → Option ToEditor → Editor
-reads_meaning e None = e
-reads_meaning e (Some message) = reads e message
+abbrev pub after_reading_if_any : Editor → Option MessageToEditor → Editor
+after_reading_if_any e None = e
+after_reading_if_any e (Some message) = reads e message
 
 -- Holds if the editor gets the first content that waits for it, and reads the message in it. If
 -- none waits, nothing changes.
-abbrev pub GetsOne : List (List ℕ) → Exchange → Exchange → Type 0
-GetsOne [] old new = new ≡ old
-GetsOne (content ∷ rest) old new =
+abbrev pub EditorReadsFirst : List (List ℕ) → Exchange → Exchange → Type 0
+EditorReadsFirst [] old new = new ≡ old
+EditorReadsFirst (content ∷ rest) old new =
     new
     ≡ record old {
-      editor = reads_meaning old.editor (read_by old.ids old.editor.requested content);
+      editor = after_reading_if_any old.editor (message_to_editor_by_ids old.ids old.editor.requested content);
       wire = record old.wire { got = old.wire.got ++ content ∷ []; to_editor = rest };
     }
 
@@ -279,13 +279,13 @@ with_contents wire contents = record wire { to_server = wire.to_server ++ conten
 -- holds if this turn may lead from `old` to `new`
 abbrev pub Exchanges : Exchange → Turn → Exchange → Type 0
 Exchanges old (editor_does move) new =
-    (done : Done)
-    × (announced : List Announced)
-    × (ids : List SentId)
+    (done : ActResult)
+    × (announced : List AnnouncedDocument)
+    × (ids : List SentRequestId)
     × (contents : List (List ℕ))
-    × May old.editor move done announced
-    × NamesAsks old.ids done.sent ids
-    × EachSays old.wire.session.client ids done.editor.requested (map Some done.sent) contents
+    × IsAllowedMove old.editor move done announced
+    × AssignsAskIds old.ids done.sent ids
+    × AreMessagesToSession old.wire.session.client ids done.editor.requested (map Some done.sent) contents
     × (new
     ≡ record {
       editor = done.editor;
@@ -295,77 +295,77 @@ Exchanges old (editor_does move) new =
       applied = old.applied ++ done.applied;
     })
 Exchanges old editor_says new =
-    (id : Option Id)
+    (id : Option RequestId)
     × (content : List ℕ)
-    × IsOther (with_other old.ids id) content
+    × IsUnmodeledContent (with_non_ask_id old.ids id) content
     × (new
     ≡ record old {
-      ids = with_other old.ids id;
+      ids = with_non_ask_id old.ids id;
       wire = with_contents old.wire (content ∷ []);
     })
 Exchanges old server_takes new =
     (wire : Wire)
-    × TakesFirst old.wire.to_server old.wire wire
+    × SessionTakesFirst old.wire.to_server old.wire wire
     × (new ≡ record old { wire = wire })
-Exchanges old editor_takes new = GetsOne old.wire.to_editor old new
+Exchanges old editor_takes new = EditorReadsFirst old.wire.to_editor old new
 
 -- holds if these turns, one after another, may lead from `old` to `new`
-abbrev pub ExchangeLeads : Exchange → List Turn → Exchange → Type 0
-ExchangeLeads old [] new = new ≡ old
-ExchangeLeads old (turn ∷ turns) new =
-    (between : Exchange) × Exchanges old turn between × ExchangeLeads between turns new
+abbrev pub ExchangeCourse : Exchange → List Turn → Exchange → Type 0
+ExchangeCourse old [] new = new ≡ old
+ExchangeCourse old (turn ∷ turns) new =
+    (between : Exchange) × Exchanges old turn between × ExchangeCourse between turns new
 
 -- ---- the law
 
 -- holds if the editor reads no message in the content, whatever requests it sends later
-abbrev pub BringsNothing : List SentId → List ℕ → Type 0
-BringsNothing ids content =
-    (later : List SentId) (requested : List SentAsk)
-    → read_by (ids ++ later) requested content ≡ None
+abbrev pub NeverMeansMessage : List SentRequestId → List ℕ → Type 0
+NeverMeansMessage ids content =
+    (later : List SentRequestId) (requested : List SentAsk)
+    → message_to_editor_by_ids (ids ++ later) requested content ≡ None
 
 -- Holds if there are as many contents as messages, and the editor reads the n-th message in the
 -- n-th content. For `None` it reads no message.
-abbrev pub EachMeans : List SentId
+abbrev pub AreMessagesToEditor : List SentRequestId
     → List SentAsk
-    → List (Option ToEditor)
+    → List (Option MessageToEditor)
     → List (List ℕ)
     → Type 0
-EachMeans ids requested [] [] = ⊤
-EachMeans ids requested (Some m ∷ messages) (content ∷ contents) =
-    (read_by ids requested content ≡ Some m) × EachMeans ids requested messages contents
-EachMeans ids requested (None ∷ messages) (content ∷ contents) =
-    BringsNothing ids content × EachMeans ids requested messages contents
-EachMeans ids requested [] (content ∷ contents) = ⊥
-EachMeans ids requested (Some m ∷ messages) [] = ⊥
-EachMeans ids requested (None ∷ messages) [] = ⊥
+AreMessagesToEditor ids requested [] [] = ⊤
+AreMessagesToEditor ids requested (Some m ∷ messages) (content ∷ contents) =
+    (message_to_editor_by_ids ids requested content ≡ Some m) × AreMessagesToEditor ids requested messages contents
+AreMessagesToEditor ids requested (None ∷ messages) (content ∷ contents) =
+    NeverMeansMessage ids content × AreMessagesToEditor ids requested messages contents
+AreMessagesToEditor ids requested [] (content ∷ contents) = ⊥
+AreMessagesToEditor ids requested (Some m ∷ messages) [] = ⊥
+AreMessagesToEditor ids requested (None ∷ messages) [] = ⊥
 
 -- States that the same turns lead the model (`EditorAndServer`) to a state that matches this
 -- exchange. The editors are the same, and the session has the documents of the model's server. The
 -- unread contents are the model's unread messages. So the model's guarantees hold here
 -- (`HoldsWithEditor`).
-pub record IsOfTheModel (unit : Unit) (turns : List Turn) (x : Exchange) : Type 0 where
+pub record FollowsModel (unit : Unit) (turns : List Turn) (x : Exchange) : Type 0 where
   pub model : EditorAndServer
-  pub leads : MayLead (nothing_yet unit) turns model
+  pub leads : MayLeadTo (initial_editor_and_server unit) turns model
   pub editor : model.editor ≡ x.editor
   pub held : model.held ≡ x.wire.session.held
   pub announced : model.announced ≡ x.announced
   pub applied : model.applied ≡ x.applied
-  pub says : EachSays x.wire.session.client x.ids x.editor.requested model.to_server
+  pub says : AreMessagesToSession x.wire.session.client x.ids x.editor.requested model.to_server
       x.wire.to_server
-  pub means : EachMeans x.ids x.editor.requested model.to_editor x.wire.to_editor
+  pub means : AreMessagesToEditor x.ids x.editor.requested model.to_editor x.wire.to_editor
   pub holds : HoldsWithEditor model
   -- everything that was exchanged is one conversation of a session
   pub conversation : Conversation server.start x.wire.taken (x.wire.got ++ x.wire.to_editor)
       x.wire.session
 
 -- states that every exchange of a session and an editor that keeps ob0's rules follows the model
--- (`IsOfTheModel`)
-abbrev pub EveryExchangeIsOfTheModel : Type 0
-EveryExchangeIsOfTheModel =
+-- (`FollowsModel`)
+abbrev pub EveryExchangeFollowsModel : Type 0
+EveryExchangeFollowsModel =
     (unit : Unit) (begin now : Exchange) (turns : List Turn)
     → BeginsExchange unit begin
-    → ExchangeLeads begin turns now
-    → IsOfTheModel unit turns now
+    → ExchangeCourse begin turns now
+    → FollowsModel unit turns now
 
 -- ---- the end
 
@@ -394,46 +394,46 @@ pub record EndsSession (id : Data) (before : ServerState) (sent : List (List ℕ
 -- ---- the headline of every exchange, without a model
 
 -- a list of diagnostics with a version: its uri, its version, and whether it is empty
-pub record Published : Type 0 where
+pub record VersionedPublication : Type 0 where
   pub uri : List ℕ
   pub version : ℤ
   pub empty : Bool
 
 -- returns a list of the message if that publishes diagnostics with a version, otherwise an empty
 -- list
-abbrev pub with_version : Option ToEditor → List Published
-with_version (Some (publishes uri (Some version) empty)) =
+abbrev pub versioned_publication : Option MessageToEditor → List VersionedPublication
+versioned_publication (Some (publishes uri (Some version) empty)) =
     record { uri = uri; version = version; empty = empty } ∷ []
-with_version (Some (publishes uri None empty)) = []
-with_version (Some (answers k edits)) = []
-with_version None = []
+versioned_publication (Some (publishes uri None empty)) = []
+versioned_publication (Some (answers k edits)) = []
+versioned_publication None = []
 
 -- returns the lists of diagnostics with a version among these contents, in order
-abbrev pub published_in : List (List ℕ) → List Published
+abbrev pub published_in : List (List ℕ) → List VersionedPublication
 published_in [] = []
-published_in (content ∷ contents) = with_version (understood [] content) ++ published_in contents
+published_in (content ∷ contents) = versioned_publication (message_to_editor_in [] content) ++ published_in contents
 
 -- Holds if there are as many lists of diagnostics as documents. The n-th list has the uri and
 -- version of the n-th document, and is empty exactly when that document's text is a well-typed
 -- module.
-abbrev pub AreRightOf : List Published → List Announced → Type 0
-AreRightOf [] [] = ⊤
-AreRightOf (p ∷ published) (t ∷ announced) =
+abbrev pub AreCorrectFor : List VersionedPublication → List AnnouncedDocument → Type 0
+AreCorrectFor [] [] = ⊤
+AreCorrectFor (p ∷ published) (t ∷ announced) =
     (p.uri ≡ t.uri)
     × (p.version ≡ t.document.version)
-    × IsEmptyIfCorrect t.document.text p.empty
-    × AreRightOf published announced
-AreRightOf [] (t ∷ announced) = ⊥
-AreRightOf (p ∷ published) [] = ⊥
+    × IsEmptyIfWellTyped t.document.text p.empty
+    × AreCorrectFor published announced
+AreCorrectFor [] (t ∷ announced) = ⊥
+AreCorrectFor (p ∷ published) [] = ⊥
 
 -- Returns the last list of diagnostics for a uri. None if there is none.
-abbrev pub last_published : List ℕ → List Published → Option Published
+abbrev pub last_published : List ℕ → List VersionedPublication → Option VersionedPublication
 last_published uri published =
     fold (λ last p. if bytes_eq p.uri uri then Some p else last) None published
 
 -- Returns the notifications in these contents that open, change or close documents.
-abbrev pub notes_in : List (List ℕ) → List ToServer
-notes_in contents = filter_map (heard []) contents
+abbrev pub notifications_in : List (List ℕ) → List MessageToServer
+notifications_in contents = filter_map (message_to_server_in []) contents
 
 -- States the guarantees for a session and an editor that keeps ob0's rules, whatever they have
 -- exchanged.
@@ -444,22 +444,22 @@ pub record HoldsOfExchange (begin now : Exchange) : Type 0 where
   -- right. They are for the first documents that the editor announced, in order.
   pub since : List (List ℕ)
   pub sent : now.wire.got ++ now.wire.to_editor ≡ begin.wire.got ++ since
-  pub published_of : List Announced
-  pub not_yet : List Announced
+  pub published_of : List AnnouncedDocument
+  pub not_yet : List AnnouncedDocument
   pub announced : now.announced ≡ published_of ++ not_yet
-  pub right : AreRightOf (published_in since) published_of
+  pub right : AreCorrectFor (published_in since) published_of
   -- the contents that still wait for the session announce the other documents
-  pub still_wait : map versioned_uri not_yet ≡ named_in (notes_in now.wire.to_server)
+  pub still_wait : map versioned_uri not_yet ≡ versions_announced_in (notifications_in now.wire.to_server)
   -- If no waiting content opens, changes or closes a document, the latest list of each open
   -- document is for its present version and text.
-  pub latest : notes_in now.wire.to_server ≡ [] → (uri : List ℕ) (d : Open)
+  pub latest : notifications_in now.wire.to_server ≡ [] → (uri : List ℕ) (d : OpenDocument)
       → open_at now.editor uri ≡ Some d
       → MatchOption (last_published uri (published_in since)) ⊥
-      (λ p. (p.version ≡ d.version) × IsEmptyIfCorrect d.text p.empty)
+      (λ p. (p.version ≡ d.version) × IsEmptyIfWellTyped d.text p.empty)
   -- once the session has taken the waiting contents, its documents are the editor's
   pub mirrors : (uri : List ℕ)
-      → document_at (fold after_message now.wire.session.held (notes_in now.wire.to_server)) uri
-      ≡ option_map as_open (open_at now.editor uri)
+      → document_at (fold after_message now.wire.session.held (notifications_in now.wire.to_server)) uri
+      ≡ option_map in_step_document (open_at now.editor uri)
   -- everything that was exchanged is one conversation of a session, by the protocol
   pub conversation : Conversation server.start now.wire.taken
       (now.wire.got ++ now.wire.to_editor) now.wire.session
@@ -470,11 +470,11 @@ pub record HoldsOfExchange (begin now : Exchange) : Type 0 where
       → EndsSession id now.wire.session sent end
 
 -- states that the guarantees hold with every editor that keeps ob0's rules, and every session
-abbrev pub EveryExchangeHolds : Type 0
-EveryExchangeHolds =
+abbrev pub HoldsForEveryExchange : Type 0
+HoldsForEveryExchange =
     (unit : Unit) (begin now : Exchange) (turns : List Turn)
     → BeginsExchange unit begin
-    → ExchangeLeads begin turns now
+    → ExchangeCourse begin turns now
     → HoldsOfExchange begin now
 
 -- ---- what a world plays
@@ -491,7 +491,7 @@ ACourseIsAnExchange =
     × (turns : List Turn)
     × (last : Exchange)
     × BeginsExchange unit first
-    × ExchangeLeads first turns last
+    × ExchangeCourse first turns last
     × (last.editor ≡ end.model.editor)
     × (last.wire ≡ end.wire)
     × (last.applied ≡ end.model.applied)

@@ -1,9 +1,9 @@
 -- Defines the meaning of the client and server that the code stores: the view, the invariant, and
 -- the clauses of private functions. No contract of a public function mentions these.
--- The messages of a queue are a function of its contents (`all_heard`, `all_understood`). The
+-- The messages of a queue are a function of its contents (`all_messages_to_server`, `all_messages_to_editor`). The
 -- invariant states that each content is a message, and a content keeps its meaning when more is
 -- requested (`Waiting`).
--- `IsRunning` states that the session serves this editor: by the editor's `initialize`, its client
+-- `RunsWithEditor` states that the session serves this editor: by the editor's `initialize`, its client
 -- accepts edits with document versions, and literal code actions. So a WorkspaceEdit is always
 -- written as `documentChanges`.
 -- Rule: none; for contracts: contents that wait, and what they say.
@@ -13,18 +13,18 @@ use Rattle.ob0_text.specs.OpenDocuments.{OpenDocuments, Document, InStep, OutOfS
 use Rattle.ob0_text.specs.declared.position_types.Unit.{Unit}
 use Rattle.ob0_session_server.specs.Answers.{ServerState}
 use Rattle.ob0_session_server.specs.declared.session.Phase.TheVariants.{Running, Failed}
-use Rattle.ob0_world_editor.specs.Heard.{heard, SaysToServer}
-use Rattle.ob0_world_editor.specs.Understood.{understood}
+use Rattle.ob0_world_editor.specs.MessagesToServer.{message_to_server_in, IsMessageToServer}
+use Rattle.ob0_world_editor.specs.MessagesToEditor.{message_to_editor_in}
 use Rattle.ob0_world_editor.specs.Code.{applied_of}
 use Rattle.ob0_world_editor.specs.declared.applied.Applied as applied
-use Rattle.ob0_world_rules.specs.ClientAndServer.{Open, SentAsk, Editor, open_at, ToServer, ToEditor, publishes, answers, Made, ClientAndServer, start}
-use Rattle.ob0_world_rules.specs.Editing.{counted}
+use Rattle.ob0_world_rules.specs.ClientAndServer.{OpenDocument, SentAsk, Editor, open_at, MessageToServer, MessageToEditor, publishes, answers, Made, ClientAndServer, start}
+use Rattle.ob0_world_rules.specs.EditorActs.{version_number}
 use Rattle.ob0_world_rules.specs.Happens.{Event, Course}
 use Rattle.ob0_world.specs.declared.events.Seen as seen
 use Rattle.ob0_world.specs.declared.played.Made as made
-pub use Rattle.ob0_world.specs.Code.{bytes}
+pub use Rattle.ob0_world.specs.Code.{content_bytes}
 use Rattle.ob0_world.specs.Code.{publication_of}
-use Rattle.ob0_world.specs.Seen.{nothing, sent, seen_of}
+use Rattle.ob0_world.specs.Seen.{nothing, sent, report_of}
 use Rattle.ob0_world.specs.Worlds.{Wire, Connection}
 
 -- contents that wait in a queue
@@ -32,68 +32,68 @@ abbrev pub Contents : Type 0
 Contents = List (Vec ℕ Global)
 
 -- returns the messages to the server in these contents, which are read with this list of sent asks
-abbrev pub all_heard : List SentAsk → Contents → List ToServer
-all_heard requested contents = filter_map (heard requested) (bytes contents)
+abbrev pub all_messages_to_server : List SentAsk → Contents → List MessageToServer
+all_messages_to_server requested contents = filter_map (message_to_server_in requested) (content_bytes contents)
 
 -- returns the messages to the editor in these contents, which are read with this list of sent asks
-abbrev pub all_understood : List SentAsk → Contents → List ToEditor
-all_understood requested contents = filter_map (understood requested) (bytes contents)
+abbrev pub all_messages_to_editor : List SentAsk → Contents → List MessageToEditor
+all_messages_to_editor requested contents = filter_map (message_to_editor_in requested) (content_bytes contents)
 
 -- holds if the content is a message to the server, given the list of sent asks
-abbrev pub IsHeard : List SentAsk → Vec ℕ Global → Type 0
-IsHeard requested content = (m : ToServer) × SaysToServer requested m content.items
+abbrev pub HasMessageToServer : List SentAsk → Vec ℕ Global → Type 0
+HasMessageToServer requested content = (m : MessageToServer) × IsMessageToServer requested m content.items
 
 -- holds if the content is a message to the editor, given the list of sent asks
-abbrev pub IsUnderstood : List SentAsk → Vec ℕ Global → Type 0
-IsUnderstood requested content = (m : ToEditor) × (understood requested content.items ≡ Some m)
+abbrev pub HasMessageToEditor : List SentAsk → Vec ℕ Global → Type 0
+HasMessageToEditor requested content = (m : MessageToEditor) × (message_to_editor_in requested content.items ≡ Some m)
 
 -- ---- the session
 
 -- Holds if the session is running, and its client accepts edits with document versions and literal
 -- code actions, as the model's editor does. Such a session writes a WorkspaceEdit with versions,
 -- and offers literal code actions.
-abbrev pub IsRunning : ServerState → Type 0
-IsRunning s =
+abbrev pub RunsWithEditor : ServerState → Type 0
+RunsWithEditor s =
     (s.phase ≡ Running)
-    × (s.client.takes_document_changes ≡ true)
-    × (s.client.takes_literal_actions ≡ true)
+    × (s.client.accepts_document_changes ≡ true)
+    × (s.client.accepts_literal_actions ≡ true)
 
--- holds if the session is running with such a client (`IsRunning`), or has failed
-abbrev pub IsRunningOrFailed : ServerState → Type 0
-IsRunningOrFailed s = IsRunning s ⊎ (s.phase ≡ Failed)
+-- holds if the session is running with such a client (`RunsWithEditor`), or has failed
+abbrev pub RunsWithEditorOrFailed : ServerState → Type 0
+RunsWithEditorOrFailed s = RunsWithEditor s ⊎ (s.phase ≡ Failed)
 
 -- ---- publications
 
 -- Returns the publication with these parts and the text of this document, for which it was made.
 -- None if the document is out of step.
-abbrev pub made_of_document : List ℕ → ℤ → Bool → Document → Option Made
-made_of_document uri version empty (InStep held text) =
+abbrev pub publication_with_text : List ℕ → ℤ → Bool → Document → Option Made
+publication_with_text uri version empty (InStep held text) =
     Some (record { uri = uri; version = version; text = text; empty = empty })
-made_of_document uri version empty OutOfStep = None
+publication_with_text uri version empty OutOfStep = None
 
 -- Returns the message as a publication, with the text that it was made for. None if it isn't a
 -- publication with a version, or if its document isn't open or is out of step.
-abbrev pub made_for : OpenDocuments → ToEditor → Option Made
-made_for held (publishes uri (Some version) empty) =
-    option_and_then (made_of_document uri version empty) (document_at held uri)
-made_for held (publishes uri None empty) = None
-made_for held (answers k edits) = None
+abbrev pub publication_in_message : OpenDocuments → MessageToEditor → Option Made
+publication_in_message held (publishes uri (Some version) empty) =
+    option_and_then (publication_with_text uri version empty) (document_at held uri)
+publication_in_message held (publishes uri None empty) = None
+publication_in_message held (answers k edits) = None
 
--- Returns the first message as a publication (`made_for`). None if there is no message, or if it
+-- Returns the first message as a publication (`publication_in_message`). None if there is no message, or if it
 -- isn't such a publication. A server replies with at most one message.
-abbrev pub made_first : OpenDocuments → List ToEditor → Option Made
-made_first held [] = None
-made_first held (m ∷ ms) = made_for held m
+abbrev pub publication_in_first_message : OpenDocuments → List MessageToEditor → Option Made
+publication_in_first_message held [] = None
+publication_in_first_message held (m ∷ ms) = publication_in_message held m
 
 -- ---- the whole
 
--- states that the waiting contents are messages, and that the session is running (`IsRunning`) or
+-- states that the waiting contents are messages, and that the session is running (`RunsWithEditor`) or
 -- has failed
 pub record Sound (requested : List SentAsk) (to_server to_editor : Contents)
     (session : ServerState) : Type 0 where
-  pub heard_all : All (IsHeard requested) to_server
-  pub understood_all : All (IsUnderstood requested) to_editor
-  pub running : IsRunningOrFailed session
+  pub heard_all : All (HasMessageToServer requested) to_server
+  pub understood_all : All (HasMessageToEditor requested) to_editor
+  pub running : RunsWithEditorOrFailed session
 
 -- returns the model's client and server, made of the parts that the code stores
 abbrev pub model_from : Editor
@@ -106,9 +106,9 @@ abbrev pub model_from : Editor
 model_from e to_server session to_editor applied made =
     record {
       editor = e;
-      to_server = all_heard e.requested to_server;
+      to_server = all_messages_to_server e.requested to_server;
       held = session.held;
-      to_editor = all_understood e.requested to_editor;
+      to_editor = all_messages_to_editor e.requested to_editor;
       applied = map applied_of applied;
       made = map publication_of made;
     }
@@ -118,10 +118,10 @@ abbrev pub wire_from : ServerState → Contents → Contents → Contents → Co
 wire_from session taken to_server got to_editor =
     record {
       session = session;
-      taken = bytes taken;
-      to_server = bytes to_server;
-      got = bytes got;
-      to_editor = bytes to_editor;
+      taken = content_bytes taken;
+      to_server = content_bytes to_server;
+      got = content_bytes got;
+      to_editor = content_bytes to_editor;
     }
 
 -- returns client and server with their contents, made of the parts that the code stores
@@ -146,25 +146,25 @@ connection_from e to_server session to_editor applied made taken got =
 pub record Within (n : ℕ) (e : Editor) : Type 0 where
   pub openings : e.openings ≤ n
   pub asks : length e.requested ≤ n
-  pub versions : (uri : List ℕ) (d : Open) → open_at e uri ≡ Some d → counted d.version ≤ n
+  pub versions : (uri : List ℕ) (d : OpenDocument) → open_at e uri ≡ Some d → version_number d.version ≤ n
 
 -- holds if some events lead from the start to this state
-abbrev pub IsReached : ClientAndServer → Type 0
-IsReached w = (unit : Unit) × (events : List Event) × Course (start unit) events w
+abbrev pub IsReachable : ClientAndServer → Type 0
+IsReachable w = (unit : Unit) × (events : List Event) × Course (start unit) events w
 
 -- ---- the steps of the server's event
 
--- Returns the first of these contents as a publication (`made_for`). None if there is no content,
+-- Returns the first of these contents as a publication (`publication_in_message`). None if there is no content,
 -- or if it isn't such a publication.
-abbrev pub made_sent : OpenDocuments → List SentAsk → Contents → Option Made
-made_sent held requested [] = None
-made_sent held requested (content ∷ contents) =
-    option_and_then (made_for held) (understood requested content.items)
+abbrev pub publication_in_first_content : OpenDocuments → List SentAsk → Contents → Option Made
+publication_in_first_content held requested [] = None
+publication_in_first_content held requested (content ∷ contents) =
+    option_and_then (publication_in_message held) (message_to_editor_in requested content.items)
 
 -- holds if the content, if there is one, was put at the end of the queue and is reported as sent
-abbrev pub IsSent : Contents → Option (Vec ℕ Global) → seen.Seen → Contents → Type 0
-IsSent old None seen new = (seen_of seen ≡ nothing) × (new ≡ old)
-IsSent old (Some content) seen new = (seen_of seen ≡ sent) × (new ≡ old ++ content ∷ [])
+abbrev pub QueuesContent : Contents → Option (Vec ℕ Global) → seen.Seen → Contents → Type 0
+QueuesContent old None seen new = (report_of seen ≡ nothing) × (new ≡ old)
+QueuesContent old (Some content) seen new = (report_of seen ≡ sent) × (new ≡ old ++ content ∷ [])
 
 -- holds if the first waiting content, if there is one, was moved to the end of the contents that
 -- the editor has got

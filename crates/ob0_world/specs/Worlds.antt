@@ -7,14 +7,14 @@ use Rattle.ob0_text.specs.declared.position_types.Unit.{Unit}
 use Rattle.ob0_rpc.specs.Messages.{ReadsContent}
 use Rattle.ob0_session_server.specs.Answers as server
 use Rattle.ob0_session_server.specs.Answers.{ServerState, begins, Answers, Conversation}
-use Rattle.ob0_world_editor.specs.Beginning.{client_for, initialize_message}
-use Rattle.ob0_world_editor.specs.Heard.{SaysToServer}
-use Rattle.ob0_world_editor.specs.Understood.{understood}
-use Rattle.ob0_world_rules.specs.ClientAndServer.{SentAsk, ToServer, ClientAndServer, start}
+use Rattle.ob0_world_editor.specs.InitializeRequest.{client_for, initialize_message}
+use Rattle.ob0_world_editor.specs.MessagesToServer.{IsMessageToServer}
+use Rattle.ob0_world_editor.specs.MessagesToEditor.{message_to_editor_in}
+use Rattle.ob0_world_rules.specs.ClientAndServer.{SentAsk, MessageToServer, ClientAndServer, start}
 use Rattle.ob0_world_rules.specs.Happens.{Event, does, serve, take_message, Happens}
 use Rattle.ob0_world_rules.specs.Headline.{Headline}
-use Rattle.ob0_world.specs.Code.{event_of, bytes, all_applied, all_made}
-use Rattle.ob0_world.specs.Seen.{Seen, event_seen}
+use Rattle.ob0_world.specs.Code.{event_of, content_bytes, played_edits, played_publications}
+use Rattle.ob0_world.specs.Seen.{Seen, event_report}
 use Rattle.ob0_world.specs.declared.events.Event as event
 use Rattle.ob0_world.specs.declared.faults.PlayFault.{PlayFault}
 use Rattle.ob0_world.specs.declared.faults.WorldFault.{WorldFault}
@@ -59,9 +59,9 @@ pub record Begins (unit : Unit) (w : Connection) : Type 0 where
 
 -- Holds if the session takes the first content that waits for it, and its replies join the contents
 -- that wait for the editor. If none waits, nothing changes.
-abbrev pub TakesFirst : List (List ℕ) → Wire → Wire → Type 0
-TakesFirst [] old new = new ≡ old
-TakesFirst (content ∷ rest) old new =
+abbrev pub SessionTakesFirst : List (List ℕ) → Wire → Wire → Type 0
+SessionTakesFirst [] old new = new ≡ old
+SessionTakesFirst (content ∷ rest) old new =
     (after : ServerState) × (sent : List (List ℕ)) × Answers old.session content sent after
     × (new
     ≡ record old {
@@ -72,9 +72,9 @@ TakesFirst (content ∷ rest) old new =
     })
 
 -- Holds if the editor gets the first content that waits for it. If none waits, nothing changes.
-abbrev pub GetsFirst : List (List ℕ) → Wire → Wire → Type 0
-GetsFirst [] old new = new ≡ old
-GetsFirst (content ∷ rest) old new =
+abbrev pub EditorGetsFirst : List (List ℕ) → Wire → Wire → Type 0
+EditorGetsFirst [] old new = new ≡ old
+EditorGetsFirst (content ∷ rest) old new =
     new ≡ record old { got = old.got ++ content ∷ []; to_editor = rest }
 
 -- holds if the editor writes at most one content, which joins the end of the queue to the session
@@ -88,22 +88,22 @@ WritesContent old new =
 -- queue.
 abbrev pub MovesWire : Event → Wire → Wire → Type 0
 MovesWire (does act) old new = WritesContent old new
-MovesWire serve old new = TakesFirst old.to_server old new
-MovesWire take_message old new = GetsFirst old.to_editor old new
+MovesWire serve old new = SessionTakesFirst old.to_server old new
+MovesWire take_message old new = EditorGetsFirst old.to_editor old new
 
 -- holds if there are as many contents as messages, and the n-th content is the n-th message
-abbrev pub AllSay : List SentAsk → List ToServer → List (List ℕ) → Type 0
-AllSay requested [] [] = ⊤
-AllSay requested (m ∷ messages) (content ∷ contents) =
-    SaysToServer requested m content × AllSay requested messages contents
-AllSay requested [] (content ∷ contents) = ⊥
-AllSay requested (m ∷ messages) [] = ⊥
+abbrev pub AreMessagesToServer : List SentAsk → List MessageToServer → List (List ℕ) → Type 0
+AreMessagesToServer requested [] [] = ⊤
+AreMessagesToServer requested (m ∷ messages) (content ∷ contents) =
+    IsMessageToServer requested m content × AreMessagesToServer requested messages contents
+AreMessagesToServer requested [] (content ∷ contents) = ⊥
+AreMessagesToServer requested (m ∷ messages) [] = ⊥
 
 -- States that the waiting contents are the waiting messages, in both directions, and that the
 -- server's documents are the session's.
 pub record IsTied (w : Connection) : Type 0 where
-  pub says : AllSay w.model.editor.requested w.model.to_server w.wire.to_server
-  pub means : map (understood w.model.editor.requested) w.wire.to_editor
+  pub says : AreMessagesToServer w.model.editor.requested w.model.to_server w.wire.to_server
+  pub means : map (message_to_editor_in w.model.editor.requested) w.wire.to_editor
       ≡ map Some w.model.to_editor
   pub documents : w.model.held ≡ w.wire.session.held
 
@@ -123,43 +123,43 @@ ConnectionCourse old (event ∷ events) new =
 -- ---- lists of events
 
 -- holds if the code returns the applied edits and the publications of this state
-abbrev pub HasCome : ClientAndServer → played.Played → Type 0
-HasCome w p = (all_applied p ≡ w.applied) × (all_made p ≡ w.made)
+abbrev pub ResultsMatch : ClientAndServer → played.Played → Type 0
+ResultsMatch w p = (played_edits p ≡ w.applied) × (played_publications p ≡ w.made)
 
 -- holds if the code returns the contents that were taken by each side, and those that wait for the
 -- editor
-abbrev pub HasPassed : Wire → played.Played → Type 0
-HasPassed w p =
-    (bytes p.taken.items ≡ w.taken)
-    × (bytes p.got.items ≡ w.got)
-    × (bytes p.unread.items ≡ w.to_editor)
+abbrev pub ContentsMatch : Wire → played.Played → Type 0
+ContentsMatch w p =
+    (content_bytes p.taken.items ≡ w.taken)
+    × (content_bytes p.got.items ≡ w.got)
+    × (content_bytes p.unread.items ≡ w.to_editor)
 
 -- States the headline for a list of events and the edits and publications that the code returns. In
 -- these events a session, from its start, took and sent the contents that the code returns.
 pub record Plays (unit : Unit) (events : List event.Event) (p : played.Played) : Type 0 where
-  pub headline : Headline unit (map event_of events) (all_applied p) (all_made p)
+  pub headline : Headline unit (map event_of events) (played_edits p) (played_publications p)
   pub begin : Connection
   pub begins : Begins unit begin
   pub end : Connection
   pub course : ConnectionCourse begin (map event_of events) end
-  pub come : HasCome end.model p
-  pub passed : HasPassed end.wire p
+  pub come : ResultsMatch end.model p
+  pub passed : ContentsMatch end.wire p
   pub after : ServerState
-  pub conversation : Conversation server.start (bytes p.taken.items)
-      (bytes p.got.items ++ bytes p.unread.items) after
+  pub conversation : Conversation server.start (content_bytes p.taken.items)
+      (content_bytes p.got.items ++ content_bytes p.unread.items) after
 
 -- States that the code returns no step, no edit, no publication and no content.
 pub record PlaysNothing (unit : Unit) (fault : PlayFault) : Type 0 where
   pub none : fault.steps ≡ 0
-  pub headline : Headline unit [] (all_applied fault.played) (all_made fault.played)
+  pub headline : Headline unit [] (played_edits fault.played) (played_publications fault.played)
   pub taken : fault.played.taken.items ≡ []
   pub got : fault.played.got.items ≡ []
   pub unread : fault.played.unread.items ≡ []
 
 -- Holds if only the first events were played, as many as the fault counts, and `Plays` holds for
 -- them. It also holds if the code returns nothing (`PlaysNothing`).
-abbrev pub PlaysBefore : Unit → List event.Event → PlayFault → Type 0
-PlaysBefore unit events fault =
+abbrev pub PlaysPrefix : Unit → List event.Event → PlayFault → Type 0
+PlaysPrefix unit events fault =
     ((fault.steps < length events) × Plays unit (take fault.steps events) fault.played)
     ⊎ PlaysNothing unit fault
 
@@ -182,19 +182,19 @@ pub record IsNew (unit : Unit) (w : World) : Type 0 where
 -- states that the event happens, is reported, and is counted as a step
 pub record MakesStep (old : World) (event : Event) (seen : Seen) (new : World) : Type 0 where
   pub made : ConnectionStep old.connection event new.connection
-  pub shown : seen ≡ event_seen old.connection.model event new.connection.model
+  pub shown : seen ≡ event_report old.connection.model event new.connection.model
   pub counted : new.steps ≡ old.steps + 1
   pub goes_on : new.ended ≡ false
 
 -- Holds if the world makes this step. The first argument is true if the world had ended: then it
 -- makes none.
-abbrev pub StepsFrom : Bool → World → Event → Seen → World → Type 0
-StepsFrom false old event seen new = MakesStep old event seen new
-StepsFrom true old event seen new = ⊥
+abbrev pub StepsUnlessEnded : Bool → World → Event → Seen → World → Type 0
+StepsUnlessEnded false old event seen new = MakesStep old event seen new
+StepsUnlessEnded true old event seen new = ⊥
 
 -- holds if the world makes this step
 abbrev pub WorldSteps : World → Event → Seen → World → Type 0
-WorldSteps old event seen new = StepsFrom old.ended old event seen new
+WorldSteps old event seen new = StepsUnlessEnded old.ended old event seen new
 
 -- states that the results, the exchanged contents and the contents that wait for the editor are
 -- unchanged
@@ -208,13 +208,13 @@ pub record SameHistory (old new : Connection) : Type 0 where
 -- Holds if a step fails with this fault. The first argument is true if the world had ended. A step
 -- that fails with `Memory` isn't counted and ends the world, which keeps its results and the
 -- exchanged contents. Each step of an ended world fails with `Ended` and changes nothing.
-abbrev pub FailsFrom : Bool → World → WorldFault → World → Type 0
-FailsFrom false old Memory new =
+abbrev pub FailsGivenEnded : Bool → World → WorldFault → World → Type 0
+FailsGivenEnded false old Memory new =
     SameHistory old.connection new.connection × (new.steps ≡ old.steps) × (new.ended ≡ true)
-FailsFrom false old Ended new = ⊥
-FailsFrom true old Memory new = ⊥
-FailsFrom true old Ended new = new ≡ old
+FailsGivenEnded false old Ended new = ⊥
+FailsGivenEnded true old Memory new = ⊥
+FailsGivenEnded true old Ended new = new ≡ old
 
 -- holds if this step of the world fails with this fault
 abbrev pub WorldFails : World → WorldFault → World → Type 0
-WorldFails old fault new = FailsFrom old.ended old fault new
+WorldFails old fault new = FailsGivenEnded old.ended old fault new

@@ -2,26 +2,26 @@
 ghost use Rattle.std.specs.Prelude.{◌≡◌, ◌<◌, IfOk, OnErr, OnOk, map, option_map, option_and_then, string_bytes};
 ghost use Rattle.std.specs.Str.{chars};
 ghost use Rattle.std.specs.Vec.{vec_capacity, vec_len};
-ghost use Rattle.ob0_text.specs.OpenDocuments.{change_in_text, document_at};
+ghost use Rattle.ob0_text.specs.OpenDocuments.{text_change_of, document_at};
 ghost use Rattle.ob0_session_server.specs.Answers.{Answers};
 ghost use Rattle.ob0_session_server.specs.declared.session.Phase.TheVariants.{Failed};
 ghost use Rattle.ob0_world_editor.specs.Code.{ask_of};
 ghost use Rattle.ob0_world_editor.specs.Moves.{AreFew};
-ghost use Rattle.ob0_world_editor.specs.Understood.{understood};
-ghost use Rattle.ob0_world_rules.specs.Editing as acts;
-ghost use Rattle.ob0_world_rules.specs.Editing.{open_document, change_document, close_document, ask_about};
+ghost use Rattle.ob0_world_editor.specs.MessagesToEditor.{message_to_editor_in};
+ghost use Rattle.ob0_world_rules.specs.EditorActs as acts;
+ghost use Rattle.ob0_world_rules.specs.EditorActs.{open_document, change_document, close_document, ask_about};
 ghost use Rattle.ob0_world_rules.specs.Happens as events;
 ghost use Rattle.ob0_world_rules.specs.Happens.{does, take_message};
 ghost use Rattle.ob0_world.specs.Code.{event_of, publication_of};
-ghost use Rattle.ob0_world.specs.Seen.{seen_of, Shows};
-ghost use Rattle.ob0_world.specs.Queues.{bytes, IsSent, MovesFirst, made_for, made_of_document, made_sent};
-ghost use Rattle.ob0_world.specs.Worlds.{Begins, GetsFirst, HasCome, HasPassed, IsTied, MovesWire, SameHistory, TakesFirst, WritesContent};
+ghost use Rattle.ob0_world.specs.Seen.{report_of, HappensWithReport};
+ghost use Rattle.ob0_world.specs.Queues.{content_bytes, QueuesContent, MovesFirst, publication_in_message, publication_with_text, publication_in_first_content};
+ghost use Rattle.ob0_world.specs.Worlds.{Begins, EditorGetsFirst, ResultsMatch, ContentsMatch, IsTied, MovesWire, SameHistory, SessionTakesFirst, WritesContent};
 
 use crate::events::{Event, Seen};
 use crate::played::{Made, Played};
 use ob0_session_server::{Session, SessionFault};
 use ob0_text::{Change, Documents, Held, TextStore, Unit};
-use ob0_world_editor::{Applied, Applying, Ask, Editor, Message, initialize};
+use ob0_world_editor::{Applied, ApplyOutcome, Ask, Editor, Message, initialize};
 use std::alloc::{AllocError, Global};
 use std::collections::VecDeque;
 use std::marker::Model;
@@ -87,7 +87,7 @@ impl<T: TextStore> Connection<T> {
 
     /// Does nothing, and is called only for its contract, which is a law: the waiting contents are
     /// the messages of the model.
-    pub(crate) fn contents_say_messages(&self)
+    pub(crate) fn contents_match_messages(&self)
         ensures { IsTied self.now }
     {
         // The proof needs the contract of this call.
@@ -96,8 +96,8 @@ impl<T: TextStore> Connection<T> {
 
     /// Returns the applied edits, the publications and the contents of all events so far.
     pub fn into_played(self) -> Played
-        ensures come { HasCome self.model result }
-        ensures passed { HasPassed self.wire result }
+        ensures come { ResultsMatch self.model result }
+        ensures passed { ContentsMatch self.wire result }
     {
         Played {
             applied: self.applied,
@@ -110,10 +110,10 @@ impl<T: TextStore> Connection<T> {
 
     /// Makes an event happen and reports it. If an allocation fails, the results and the exchanged contents are
     /// unchanged.
-    pub fn make(&mut self, event: &Event) -> Result<Seen, AllocError>
+    pub fn perform_event(&mut self, event: &Event) -> Result<Seen, AllocError>
         requires { AreFew self.old.model.editor }
         ensures ok { IfOk result
-            (λ seen. Shows self.old.model (event_of event.now) (seen_of seen) self.new.model) }
+            (λ seen. HappensWithReport self.old.model (event_of event.now) (report_of seen) self.new.model) }
         ensures wire { OnOk result (MovesWire (event_of event.now) self.old.wire self.new.wire) }
         ensures err { OnErr result (SameHistory self.old self.new) }
     {
@@ -131,8 +131,8 @@ impl<T: TextStore> Connection<T> {
 
     fn open(&mut self, uri: &str, text: &str) -> Result<Seen, AllocError>
         requires { AreFew self.old.model.editor }
-        ensures ok { IfOk result (λ seen. Shows self.old.model
-            (does (open_document uri.now (chars text.now))) (seen_of seen) self.new.model) }
+        ensures ok { IfOk result (λ seen. HappensWithReport self.old.model
+            (does (open_document uri.now (chars text.now))) (report_of seen) self.new.model) }
         ensures wire { OnOk result (WritesContent self.old.wire self.new.wire) }
         ensures err { OnErr result (SameHistory self.old self.new) }
     {
@@ -142,8 +142,8 @@ impl<T: TextStore> Connection<T> {
 
     fn change(&mut self, uri: &str, changes: &[Change]) -> Result<Seen, AllocError>
         requires { AreFew self.old.model.editor }
-        ensures ok { IfOk result (λ seen. Shows self.old.model
-            (does (change_document uri.now (map change_in_text changes.now))) (seen_of seen)
+        ensures ok { IfOk result (λ seen. HappensWithReport self.old.model
+            (does (change_document uri.now (map text_change_of changes.now))) (report_of seen)
             self.new.model) }
         ensures wire { OnOk result (WritesContent self.old.wire self.new.wire) }
         ensures err { OnErr result (SameHistory self.old self.new) }
@@ -153,8 +153,8 @@ impl<T: TextStore> Connection<T> {
     }
 
     fn close(&mut self, uri: &str) -> Result<Seen, AllocError>
-        ensures ok { IfOk result (λ seen. Shows self.old.model
-            (does (close_document uri.now)) (seen_of seen) self.new.model) }
+        ensures ok { IfOk result (λ seen. HappensWithReport self.old.model
+            (does (close_document uri.now)) (report_of seen) self.new.model) }
         ensures wire { OnOk result (WritesContent self.old.wire self.new.wire) }
         ensures err { OnErr result (SameHistory self.old self.new) }
     {
@@ -164,8 +164,8 @@ impl<T: TextStore> Connection<T> {
 
     fn ask(&mut self, uri: &str, ask: &Ask) -> Result<Seen, AllocError>
         requires { AreFew self.old.model.editor }
-        ensures ok { IfOk result (λ seen. Shows self.old.model
-            (does (ask_about uri.now (ask_of ask.now))) (seen_of seen) self.new.model) }
+        ensures ok { IfOk result (λ seen. HappensWithReport self.old.model
+            (does (ask_about uri.now (ask_of ask.now))) (report_of seen) self.new.model) }
         ensures wire { OnOk result (WritesContent self.old.wire self.new.wire) }
         ensures err { OnErr result (SameHistory self.old self.new) }
     {
@@ -177,16 +177,16 @@ impl<T: TextStore> Connection<T> {
     /// version is recorded with the text that its document has then.
     fn serve(&mut self) -> Result<Seen, AllocError>
         ensures ok { IfOk result
-            (λ seen. Shows self.old.model events.serve (seen_of seen) self.new.model) }
+            (λ seen. HappensWithReport self.old.model events.serve (report_of seen) self.new.model) }
         ensures wire { OnOk result
-            (TakesFirst self.old.wire.to_server self.old.wire self.new.wire) }
+            (SessionTakesFirst self.old.wire.to_server self.old.wire self.new.wire) }
         ensures err { OnErr result (SameHistory self.old self.new) }
     {
         let Some(content) = self.to_server.pop_front() else {
             return Ok(Seen::Nothing);
         };
         let sent = answer(&mut self.session, content.as_slice())?;
-        let made = first_made(
+        let made = first_publication(
             self.alloc,
             &self.editor,
             self.session.documents(),
@@ -205,9 +205,9 @@ impl<T: TextStore> Connection<T> {
 
     fn take(&mut self) -> Result<Seen, AllocError>
         ensures ok { IfOk result
-            (λ seen. Shows self.old.model take_message (seen_of seen) self.new.model) }
+            (λ seen. HappensWithReport self.old.model take_message (report_of seen) self.new.model) }
         ensures wire { OnOk result
-            (GetsFirst self.old.wire.to_editor self.old.wire self.new.wire) }
+            (EditorGetsFirst self.old.wire.to_editor self.old.wire self.new.wire) }
         ensures err { OnErr result (SameHistory self.old self.new) }
     {
         let Some(content) = self.to_editor.front() else {
@@ -237,14 +237,14 @@ impl<T: TextStore> Connection<T> {
     fn apply(&mut self, k: u64) -> Result<Seen, AllocError>
         requires { AreFew self.old.model.editor }
         ensures ok { IfOk result
-            (λ seen. Shows self.old.model (does (acts.apply k)) (seen_of seen) self.new.model) }
+            (λ seen. HappensWithReport self.old.model (does (acts.apply k)) (report_of seen) self.new.model) }
         ensures wire { OnOk result (WritesContent self.old.wire self.new.wire) }
         ensures err { OnErr result (SameHistory self.old self.new) }
     {
         match self.editor.apply(k)? {
-            Applying::NotHeld => Ok(Seen::Nothing),
-            Applying::Dropped => Ok(Seen::Dropped { k }),
-            Applying::Made { applied, content } => {
+            ApplyOutcome::NotHeld => Ok(Seen::Nothing),
+            ApplyOutcome::Dropped => Ok(Seen::Dropped { k }),
+            ApplyOutcome::Made { applied, content } => {
                 self.to_server.push_back(content)?;
                 self.applied.push(applied)?;
                 Ok(Seen::Applied { k })
@@ -253,7 +253,7 @@ impl<T: TextStore> Connection<T> {
     }
 
     fn discard(&mut self, k: u64) -> Seen
-        ensures ok { Shows self.old.model (does (acts.discard k)) (seen_of result) self.new.model }
+        ensures ok { HappensWithReport self.old.model (does (acts.discard k)) (report_of result) self.new.model }
         ensures wire { WritesContent self.old.wire self.new.wire }
     {
         if self.editor.discard(k) {
@@ -276,7 +276,7 @@ fn move_first(waiting: &mut VecDeque<Vec<u8>>, got: &mut Vec<Vec<u8>>)
 
 /// Queues a content if there is one, and reports whether it was sent. If the allocation fails, the queue is unchanged.
 fn send(queue: &mut VecDeque<Vec<u8>>, content: Option<Vec<u8>>) -> Result<Seen, AllocError>
-    ensures ok { IfOk result (λ seen. IsSent queue.old.items content seen queue.new.items) }
+    ensures ok { IfOk result (λ seen. QueuesContent queue.old.items content seen queue.new.items) }
     ensures err { OnErr result (queue.new.items ≡ queue.old.items) }
 {
     match content {
@@ -294,7 +294,7 @@ fn answer<T: TextStore>(
     content: &[u8],
 ) -> Result<Vec<Vec<u8>>, AllocError>
     ensures ok { IfOk result
-        (λ sent. Answers session.old content.now (bytes sent.items) session.new) }
+        (λ sent. Answers session.old content.now (content_bytes sent.items) session.new) }
     ensures err { OnErr result (session.new.phase ≡ Failed) }
 {
     match session.step(content) {
@@ -308,7 +308,7 @@ fn answer<T: TextStore>(
 
 /// Returns the first of these contents as a publication, with the present text of its document.
 /// None if it isn't a publication with a version, or if that document isn't open or is out of step.
-fn first_made<T: TextStore>(
+fn first_publication<T: TextStore>(
     alloc: Global,
     editor: &Editor,
     documents: &Documents<T>,
@@ -316,22 +316,22 @@ fn first_made<T: TextStore>(
 ) -> Result<Option<Made>, AllocError>
     ensures { IfOk result
         (λ made. option_map publication_of made
-        ≡ made_sent documents.now editor.now.requested sent.now) }
+        ≡ publication_in_first_content documents.now editor.now.requested sent.now) }
 {
     if sent.is_empty() {
         return Ok(None);
     }
-    made_of_content(alloc, editor, documents, sent[0].as_slice())
+    publication_in_content(alloc, editor, documents, sent[0].as_slice())
 }
 
-fn made_of_content<T: TextStore>(
+fn publication_in_content<T: TextStore>(
     alloc: Global,
     editor: &Editor,
     documents: &Documents<T>,
     content: &[u8],
 ) -> Result<Option<Made>, AllocError>
     ensures { IfOk result (λ made. option_map publication_of made
-        ≡ option_and_then (made_for documents.now) (understood editor.now.requested content.now)) }
+        ≡ option_and_then (publication_in_message documents.now) (message_to_editor_in editor.now.requested content.now)) }
 {
     let Some(message) = editor.read(content)? else {
         return Ok(None);
@@ -342,7 +342,7 @@ fn made_of_content<T: TextStore>(
             version,
             empty,
         } => match version {
-            Some(version) => made_with(alloc, documents, uri, version, empty),
+            Some(version) => publication_from_documents(alloc, documents, uri, version, empty),
             None => Ok(None),
         },
         Message::Answered {
@@ -354,7 +354,7 @@ fn made_of_content<T: TextStore>(
 
 /// Returns a publication with these parts and the present text of its document. None if that
 /// document isn't open or is out of step.
-fn made_with<T: TextStore>(
+fn publication_from_documents<T: TextStore>(
     alloc: Global,
     documents: &Documents<T>,
     uri: String,
@@ -362,7 +362,7 @@ fn made_with<T: TextStore>(
     empty: bool,
 ) -> Result<Option<Made>, AllocError>
     ensures { IfOk result (λ made. option_map publication_of made
-        ≡ option_and_then (made_of_document (string_bytes uri) version empty)
+        ≡ option_and_then (publication_with_text (string_bytes uri) version empty)
         (document_at documents.now (string_bytes uri))) }
 {
     match documents.get(uri.as_str()) {

@@ -4,7 +4,7 @@
 //! messages. Its `Wire` is the session and all contents, those taken and those that wait, in each direction.
 //!
 //! `MovesWire` states what each event does to the session and the contents, and `IsTied` joins the
-//! two parts. (`Connection::contents_say_messages` is called only for its contract.) The contract
+//! two parts. (`Connection::contents_match_messages` is called only for its contract.) The contract
 //! of a step distinguishes whether the world had ended before it (`WorldSteps`, `WorldFails`).
 //!
 //! `Plays` states the headline, and that the events are a course of the connection
@@ -15,9 +15,9 @@ ghost use Rattle.std.specs.Prelude.{◌≡◌, ◌<◌, ◌-◌, ◌^◌, [], le
 ghost use Rattle.ob0_text.specs.declared.position_types.Unit.TheVariants.{Utf16};
 ghost use Rattle.ob0_world_rules.specs.Headline.{Holds};
 ghost use Rattle.ob0_world_rules.specs.Mirror.{Mirrors};
-ghost use Rattle.ob0_world.specs.Code.{event_of, all_applied, all_made};
-ghost use Rattle.ob0_world.specs.Seen.{seen_of};
-ghost use Rattle.ob0_world.specs.Worlds.{HasCome, HasPassed, IsNew, Plays, PlaysBefore, WorldSteps, WorldFails};
+ghost use Rattle.ob0_world.specs.Code.{event_of, played_edits, played_publications};
+ghost use Rattle.ob0_world.specs.Seen.{report_of};
+ghost use Rattle.ob0_world.specs.Worlds.{ResultsMatch, ContentsMatch, IsNew, Plays, PlaysPrefix, WorldSteps, WorldFails};
 ghost use Rattle.ob0_world.specs.declared.faults.WorldFault.TheVariants.{Memory};
 
 use crate::connection::Connection;
@@ -43,7 +43,7 @@ impl<T: TextStore> Model for World<T> {
     ghost use Rattle.ob0_text.specs.OpenDocuments.{documents_code};
     ghost use Rattle.ob0_world_editor.specs.Entries.{open_documents_code};
     ghost use Rattle.ob0_world.specs.Worlds as worlds;
-    ghost use Rattle.ob0_world.specs.Queues.{Within, IsReached};
+    ghost use Rattle.ob0_world.specs.Queues.{Within, IsReachable};
 
     ghost Value = { worlds.World };
 
@@ -53,7 +53,7 @@ impl<T: TextStore> Model for World<T> {
         record { connection = w.connection; steps = w.steps; ended = w.has_ended } };
 
     ghost invariant = { λ w. w.has_ended ≡ false
-        → Within w.steps w.connection.model.editor × IsReached w.connection.model };
+        → Within w.steps w.connection.model.editor × IsReachable w.connection.model };
 }
 
 impl<T: TextStore> World<T> {
@@ -93,7 +93,7 @@ impl<T: TextStore> World<T> {
     pub fn step(&mut self, event: &Event) -> Result<Seen, WorldFault>
         requires few { self.old.steps < 2 ^ 63 - 1 }
         ensures ok { IfOk result
-            (λ seen. WorldSteps self.old (event_of event.now) (seen_of seen) self.new) }
+            (λ seen. WorldSteps self.old (event_of event.now) (report_of seen) self.new) }
         ensures holds { OnOk result (Holds self.new.connection.model) }
         ensures mirror { OnOk result (Mirrors self.new.connection.model) }
         ensures err { IfErr result (λ fault. WorldFails self.old fault self.new) }
@@ -101,9 +101,9 @@ impl<T: TextStore> World<T> {
         if self.has_ended {
             return Err(WorldFault::Ended);
         }
-        match self.connection.make(event) {
+        match self.connection.perform_event(event) {
             Ok(seen) => {
-                self.connection.contents_say_messages();
+                self.connection.contents_match_messages();
                 self.steps += 1;
                 Ok(seen)
             }
@@ -117,8 +117,8 @@ impl<T: TextStore> World<T> {
     /// Returns the applied edits, the publications and the exchanged contents, up to the last step
     /// that returned Ok.
     pub fn into_played(self) -> Played
-        ensures come { HasCome self.connection.model result }
-        ensures passed { HasPassed self.connection.wire result }
+        ensures come { ResultsMatch self.connection.model result }
+        ensures passed { ContentsMatch self.connection.wire result }
     {
         self.connection.into_played()
     }
@@ -127,7 +127,7 @@ impl<T: TextStore> World<T> {
     pub fn play(alloc: Global, events: &[Event]) -> Result<Played, PlayFault>
         requires few { length events.now < 2 ^ 63 - 1 }
         ensures ok { IfOk result (λ played. Plays Utf16 events.now played) }
-        ensures err { IfErr result (λ fault. PlaysBefore Utf16 events.now fault) }
+        ensures err { IfErr result (λ fault. PlaysPrefix Utf16 events.now fault) }
     {
         World::<T>::play_in(alloc, Unit::Utf16, events)
     }
@@ -139,17 +139,17 @@ impl<T: TextStore> World<T> {
     /// and loop turns; and an open document's latest diagnostics are empty exactly when the text they were made for is a
     /// well-typed module.
     ///
-    /// The editor is the model's. The law `every_exchange_holds` states the same for every editor that keeps ob0's
+    /// The editor is the model's. The law `holds_for_every_exchange` states the same for every editor that keeps ob0's
     /// rules.
     pub fn play_in(alloc: Global, unit: Unit, events: &[Event]) -> Result<Played, PlayFault>
         requires few { length events.now < 2 ^ 63 - 1 }
         ensures ok { IfOk result (λ played. Plays unit events.now played) }
-        ensures err { IfErr result (λ fault. PlaysBefore unit events.now fault) }
+        ensures err { IfErr result (λ fault. PlaysPrefix unit events.now fault) }
     {
         let mut world: World<T> = match World::new_in(alloc, unit) {
             Ok(world) => world,
             Err(_fault) => return Err(PlayFault {
-                played: nothing_played(alloc),
+                played: no_results(alloc),
                 steps: 0,
             }),
         };
@@ -169,9 +169,9 @@ impl<T: TextStore> World<T> {
     }
 }
 
-fn nothing_played(alloc: Global) -> Played
-    ensures applied { all_applied result ≡ [] }
-    ensures made { all_made result ≡ [] }
+fn no_results(alloc: Global) -> Played
+    ensures applied { played_edits result ≡ [] }
+    ensures made { played_publications result ≡ [] }
     ensures taken { result.taken.items ≡ [] }
     ensures got { result.got.items ≡ [] }
     ensures unread { result.unread.items ≡ [] }

@@ -5,12 +5,12 @@ use Rattle.std.specs.List.{flat_map}
 use Rattle.std.proofs.lemmas.Grind.{flat_map-append}
 use Rattle.std.proofs.lemmas.List.{append_cancel_left}
 use Rattle.ob0_frame.specs.Frames.{frame}
-use Rattle.ob0_frame.specs.Framing.{Rest, Open, Broken, Feeds}
+use Rattle.ob0_frame.specs.FramerState.{StreamRest, Open, Broken, Feeds}
 use Rattle.ob0_session_server.specs.Answers.{ServerState, start, Conversation}
 use Rattle.ob0_session.specs.Serving.{Served}
 use Rattle.ob0_session.specs.declared.serving.ServeFault.{ServeFault}
 use Rattle.ob0_session.specs.declared.serving.ServeFault.TheVariants.{BadHead, Truncated, Read, Write, Memory, TooManyReads}
-use Rattle.ob0_world_determined.specs.Determined.{MayServe, OneConversation, OneOutput}
+use Rattle.ob0_world_determined.specs.Determined.{MayServe, ConversationIsDetermined, OutputIsDetermined}
 use Rattle.ob0_world_determined.proofs.Conversations.{Contents}
 use Rattle.ob0_world_determined.proofs.Fronts.{fed_front, front_more}
 use Rattle.ob0_world_determined.proofs.Streams.{Cut, cut, begins_other, longer, Ending, at_exit, with_rest, EndsIn, ending_of, all_written, OneFeed}
@@ -20,13 +20,13 @@ record Part (taken put : List ℕ) : Type 0 where
   pub answered : Contents
   pub sent : Contents
   pub after : ServerState
-  pub front : (more : List ℕ) (contents : Contents) (rest : Rest) → Feeds (Open []) (taken ++ more) contents rest → (others : Contents) × (contents ≡ answered ++ others)
+  pub front : (more : List ℕ) (contents : Contents) (rest : StreamRest) → Feeds (Open []) (taken ++ more) contents rest → (others : Contents) × (contents ≡ answered ++ others)
   pub conversation : Conversation start answered sent after
   pub unwritten : List ℕ
   pub frames : flat_map frame sent ≡ put ++ unwritten
 
-module _ (one : OneConversation) (feeds : OneFeed) (taken : List ℕ) where
-  part_of_served : (waiting : Contents) (rest : Rest) (after : ServerState) (put unwritten : List ℕ) → Served taken waiting rest after (put ++ unwritten) → Part taken put
+module _ (one : ConversationIsDetermined) (feeds : OneFeed) (taken : List ℕ) where
+  part_of_served : (waiting : Contents) (rest : StreamRest) (after : ServerState) (put unwritten : List ℕ) → Served taken waiting rest after (put ++ unwritten) → Part taken put
   part_of_served waiting rest after put unwritten h = record {
     answered = h.answered;
     sent = h.sent;
@@ -37,7 +37,7 @@ module _ (one : OneConversation) (feeds : OneFeed) (taken : List ℕ) where
     frames = sym h.frames;
   }
 
-  whole : (waiting : Contents) (rest : Rest) (after : ServerState) (put : List ℕ) → Served taken waiting rest after put → Part taken put
+  whole : (waiting : Contents) (rest : StreamRest) (after : ServerState) (put : List ℕ) → Served taken waiting rest after put → Part taken put
   whole waiting rest after put h = part_of_served waiting rest after put [] (subst (λ p. Served taken waiting rest after p) (sym (append-nil put)) h)
 
   part_of : (result : Result ℕ ServeFault) (put : List ℕ) → MayServe result taken put → Part taken put
@@ -85,8 +85,8 @@ module _ (one : OneConversation) (feeds : OneFeed) (taken : List ℕ) where
         more.2 ∙ (ap (flat_map frame) more.3 ∙ (flat_map-append frame p.sent more.1 ∙ (ap (λ xs. xs ++ later) p.frames ∙ append_assoc put p.unwritten later))),
       )
 
-pub one_output : OneConversation → OneFeed → OneOutput
-one_output one feeds taken more put all result end written h k =
+pub output_is_determined : ConversationIsDetermined → OneFeed → OutputIsDetermined
+output_is_determined one feeds taken more put all result end written h k =
     let e = ending_of end (taken ++ more) all written k in
     let b = begins one feeds taken more put all (part_of one feeds taken result put h) e.0 e.1 in (
       b.0,

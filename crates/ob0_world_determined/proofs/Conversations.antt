@@ -2,10 +2,10 @@
 use Rattle.std.proofs.Common.{◌≡◌, ◌∙◌, ℕ, Option, Some, None, List, [], ◌∷◌, ◌++◌, refl, sym, subst}
 use Rattle.serde_json.specs.Data.{Data}
 use Rattle.ob0_rpc.specs.Messages.{ReadsContent, meaning}
-use Rattle.ob0_session_server.specs.Answers.{ServerState, SaysReply, react, AnswersInState, AnswersGoingOn, Conversation}
+use Rattle.ob0_session_server.specs.Answers.{ServerState, AreContentsOfReply, react, AnswersInPhase, AnswersBeforeEnd, Conversation}
 use Rattle.ob0_session_server.specs.declared.session.Phase.{Phase}
 use Rattle.ob0_session_server.specs.declared.session.Phase.TheVariants.{Starting, Running, ShutDown, Ended, Failed}
-use Rattle.ob0_world_determined.specs.Determined.{OneAnswer, OneConversation, OneReply}
+use Rattle.ob0_world_determined.specs.Determined.{AnswerIsDetermined, ConversationIsDetermined, ReplyIsDetermined}
 
 abbrev pub Contents : Type 0
 Contents = List (List ℕ)
@@ -18,28 +18,28 @@ one_json content (Some x) None p q = sym p.1 ∙ q p.0
 one_json content None (Some y) p q = sym (p q.0) ∙ q.1
 one_json content None None p q = refl
 
-module _ (says : OneReply) where
-  going_on_one : (before : ServerState) (content : List ℕ) (sent more : Contents) (after other : ServerState) → AnswersGoingOn before content sent after → AnswersGoingOn before content more other → (sent ≡ more) × (after ≡ other)
+module _ (says : ReplyIsDetermined) where
+  going_on_one : (before : ServerState) (content : List ℕ) (sent more : Contents) (after other : ServerState) → AnswersBeforeEnd before content sent after → AnswersBeforeEnd before content more other → (sent ≡ more) × (after ≡ other)
   going_on_one before content sent more after other (json, reads, h) (another, reads_too, k) =
       let same : json ≡ another = one_json content json another reads reads_too in
-      let there = subst (λ j. (other ≡ (react before (meaning j)).after) × SaysReply (react before (meaning j)).say more) (sym same) k in
+      let there = subst (λ j. (other ≡ (react before (meaning j)).after) × AreContentsOfReply (react before (meaning j)).say more) (sym same) k in
       (says (react before (meaning json)).say sent more h.1 there.1, h.0 ∙ sym there.0)
 
-  in_phase_one : (phase : Phase) (before : ServerState) (content : List ℕ) (sent more : Contents) (after other : ServerState) → AnswersInState phase before content sent after → AnswersInState phase before content more other → (sent ≡ more) × (after ≡ other)
+  in_phase_one : (phase : Phase) (before : ServerState) (content : List ℕ) (sent more : Contents) (after other : ServerState) → AnswersInPhase phase before content sent after → AnswersInPhase phase before content more other → (sent ≡ more) × (after ≡ other)
   in_phase_one (Ended status) before content sent more after other h k = (h.0 ∙ sym k.0, h.1 ∙ sym k.1)
   in_phase_one Failed before content sent more after other h k = absurd h
   in_phase_one Starting before content sent more after other h k = going_on_one before content sent more after other h k
   in_phase_one Running before content sent more after other h k = going_on_one before content sent more after other h k
   in_phase_one ShutDown before content sent more after other h k = going_on_one before content sent more after other h k
 
-  pub one_answer : OneAnswer
-  one_answer before content sent more after other h k = in_phase_one before.phase before content sent more after other h k
+  pub answer_is_determined : AnswerIsDetermined
+  answer_is_determined before content sent more after other h k = in_phase_one before.phase before content sent more after other h k
 
 -- ---- several contents
 
-pub one_conversation : OneAnswer → OneConversation
-one_conversation one before [] sent more after other h k = (h.0 ∙ sym k.0, h.1 ∙ sym k.1)
-one_conversation one before (content ∷ contents) sent more after other h k =
+pub conversation_is_determined : AnswerIsDetermined → ConversationIsDetermined
+conversation_is_determined one before [] sent more after other h k = (h.0 ∙ sym k.0, h.1 ∙ sym k.1)
+conversation_is_determined one before (content ∷ contents) sent more after other h k =
     let here = one before content h.first k.first h.between k.between h.answers k.answers in
-    let there = one_conversation one k.between contents h.later k.later after other (subst (λ s. Conversation s contents h.later after) here.1 h.follows) k.follows in
+    let there = conversation_is_determined one k.between contents h.later k.later after other (subst (λ s. Conversation s contents h.later after) here.1 h.follows) k.follows in
     (h.all ∙ (λ i. here.0 i ++ there.0 i) ∙ sym k.all, there.1)

@@ -4,7 +4,7 @@ use Rattle.std.proofs.Common.{◌≡◌, ◌∙◌, ◌<◌, ◌+◌, ℕ, zero,
 use Rattle.std.proofs.lemmas.List.{length-append}
 use Rattle.ob0_frame.specs.Frames.{BeginsWith, Frames}
 use Rattle.ob0_frame.proofs.Heads.{end_takes_room}
-use Rattle.ob0_world_determined.specs.Determined.{AListFits}
+use Rattle.ob0_world_determined.specs.Determined.{FramingExists}
 
 -- A head has at least one byte.
 head_is_some : (bytes head content more : List ℕ) → BeginsWith bytes head content more → 0 < length head
@@ -30,5 +30,5 @@ fits_within (suc n) bytes within none =
           fits_within n more (omega arith) (λ contents rest frames. none (content ∷ contents) rest (head, more, b, frames)),
     )
 
-pub a_list_fits : AListFits
-a_list_fits bytes none = fits_within (suc (length bytes)) bytes (omega arith) none
+pub framing_exists : FramingExists
+framing_exists bytes none = fits_within (suc (length bytes)) bytes (omega arith) none

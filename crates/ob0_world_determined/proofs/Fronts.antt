@@ -8,8 +8,8 @@ use Rattle.std.proofs.Common.{◌≡◌, ◌∙◌, ◌⊎◌, ◌<◌, ◌≤�
 use Rattle.std.proofs.lemmas.List.{append_assoc, append_cancel_left, length-append, take_all, take_at, take-append-drop, take-append-le, take-take}
 use Rattle.std.proofs.lemmas.Bool.{cases_lt}
 use Rattle.ob0_frame.specs.Head.{EndsInEmptyLine, HasNoEmptyLine, IsHead}
-use Rattle.ob0_frame.specs.Frames.{BeginsWith, Frames, IsBad}
-use Rattle.ob0_frame.specs.Framing.{Rest, Open, Broken, Feeds}
+use Rattle.ob0_frame.specs.Frames.{BeginsWith, Frames, CannotBeginMessage}
+use Rattle.ob0_frame.specs.FramerState.{StreamRest, Open, Broken, Feeds}
 use Rattle.ob0_frame.proofs.Heads.{no_line_front}
 use Rattle.ob0_frame.proofs.InTurn.{bad_more, fed_in_turn, fed_once, fed_split}
 use Rattle.ob0_frame.proofs.Messages.{message_more, message_unique, none_in_bad, not_bad_without_line}
@@ -40,14 +40,14 @@ no_line_in_front h x left more whole same shorter n ends =
 -- ---- what of a bad front is bad
 
 -- Bytes without an empty line are bad if they are as long as a head may be. So the property is decidable.
-by_length : (left : List ℕ) → HasNoEmptyLine left → IsBad left ⊎ ¬ (IsBad left)
+by_length : (left : List ℕ) → HasNoEmptyLine left → CannotBeginMessage left ⊎ ¬ (CannotBeginMessage left)
 by_length left none =
     elim (cases_lt (length left) 4096) [
       | inl short ↦ inr (not_bad_without_line left short none)
       | inr long ↦ inl (inr (long, no_line_front left 4096 none))
     ]
 
-bad_or_not : (left more : List ℕ) → IsBad (left ++ more) → IsBad left ⊎ ¬ (IsBad left)
+bad_or_not : (left more : List ℕ) → CannotBeginMessage (left ++ more) → CannotBeginMessage left ⊎ ¬ (CannotBeginMessage left)
 bad_or_not left more (inl bad) =
     elim (cases_lt (length left) (length bad.head)) [
       | inl shorter ↦ by_length left (no_line_in_front bad.head bad.more left more bad.whole bad.joined shorter)
@@ -73,16 +73,16 @@ record Front (first : List ℕ) : Type 0 where
   contents : Contents
   left : List ℕ
   frames : Frames first contents left
-  bad : IsBad left ⊎ ¬ (IsBad left)
+  bad : CannotBeginMessage left ⊎ ¬ (CannotBeginMessage left)
 
-front_frames : (first second : List ℕ) (e : Contents) (q : List ℕ) → Frames (first ++ second) e q → IsBad q ⊎ ¬ (IsBad q) → Front first
+front_frames : (first second : List ℕ) (e : Contents) (q : List ℕ) → Frames (first ++ second) e q → CannotBeginMessage q ⊎ ¬ (CannotBeginMessage q) → Front first
 front_frames first second [] q all is = record {
   contents = [];
   left = first;
   frames = (refl, λ h c m begins. all.1 h c (m ++ second) (subst (λ (xs : List ℕ). BeginsWith xs h c (m ++ second)) all.0 (message_more first h c m second begins)));
   bad = elim is [
-    | inl bad ↦ bad_or_not first second (subst IsBad (sym all.0) bad)
-    | inr not ↦ inr (λ bad. not (subst IsBad all.0 (bad_more first second bad)))
+    | inl bad ↦ bad_or_not first second (subst CannotBeginMessage (sym all.0) bad)
+    | inr not ↦ inr (λ bad. not (subst CannotBeginMessage all.0 (bad_more first second bad)))
   ];
 }
 front_frames first second (y ∷ e) q all is =
@@ -115,7 +115,7 @@ front_frames first second (y ∷ e) q all is =
 
 pub record Framed (bytes : List ℕ) : Type 0 where
   pub contents : Contents
-  pub rest : Rest
+  pub rest : StreamRest
   pub feeds : Feeds (Open []) bytes contents rest
 
 framed_from : (first : List ℕ) → Front first → Framed first
@@ -125,17 +125,17 @@ framed_from first f = elim f.bad [
 ]
 
 -- If the whole stream has a list of contents, its first bytes have one.
-pub framed_first : (first second : List ℕ) (e : Contents) (end : Rest) → Feeds (Open []) (first ++ second) e end → Framed first
+pub framed_first : (first second : List ℕ) (e : Contents) (end : StreamRest) → Feeds (Open []) (first ++ second) e end → Framed first
 framed_first first second e (Open q) all = framed_from first (front_frames first second e q all.0 (inr all.1))
 framed_first first second e Broken all = framed_from first (front_frames first second e all.0 all.1 (inl all.2))
 
 -- The contents of the first bytes are a prefix of the contents of the whole, even after a bad head.
-pub fed_front : (start r end : Rest) (first second : List ℕ) (c e : Contents) → Feeds start first c r → Feeds start (first ++ second) e end → (d : Contents) × (e ≡ c ++ d)
+pub fed_front : (start r end : StreamRest) (first second : List ℕ) (c e : Contents) → Feeds start first c r → Feeds start (first ++ second) e end → (d : Contents) × (e ≡ c ++ d)
 fed_front start (Open r) end first second c e one all = let parts = fed_split start end first second c e r one all in (parts.0, parts.1)
 fed_front start Broken end first second c e one all = ([], (fed_once start end Broken (first ++ second) e (c ++ []) all (fed_in_turn start Broken Broken first second c [] one refl)).0)
 
 -- A prefix of each list of contents of the first bytes is a prefix of the contents of the whole.
-pub front_more : (taken more : List ℕ) (answered contents : Contents) (end : Rest) → ((contents : Contents) (rest : Rest) → Feeds (Open []) taken contents rest → (others : Contents) × (contents ≡ answered ++ others)) → Feeds (Open []) (taken ++ more) contents end → (others : Contents) × (contents ≡ answered ++ others)
+pub front_more : (taken more : List ℕ) (answered contents : Contents) (end : StreamRest) → ((contents : Contents) (rest : StreamRest) → Feeds (Open []) taken contents rest → (others : Contents) × (contents ≡ answered ++ others)) → Feeds (Open []) (taken ++ more) contents end → (others : Contents) × (contents ≡ answered ++ others)
 front_more taken more answered contents end front fed =
     let f = framed_first taken more contents end fed in
     let here = front f.contents f.rest f.feeds in

@@ -13,25 +13,25 @@ use Rattle.ob0_text.specs.declared.position_types.Range.{Range}
 use Rattle.ob0_text.specs.declared.position_types.Unit.{Unit}
 use Rattle.ob0_text.specs.declared.refusals.EditRefusal.{EditRefusal}
 use Rattle.ob0_edits_tokens.specs.Replaced.{parts}
-use Rattle.ob0_layout.specs.Gaps.{EditText, edit_text}
-use Rattle.ob0_rpc.specs.declared.clients.Client.{Client}
+use Rattle.ob0_layout.specs.Gaps.{EditContent, edit_content}
+use Rattle.ob0_rpc.specs.declared.clients.ClientFeatures.{ClientFeatures}
 use Rattle.ob0_rpc.specs.Shapes.{range_value, result_message, text as text_value}
 use Rattle.ob0_edits.specs.Renamings.{IsRefusedIn}
 use Rattle.ob0_analysis.specs.Diagnosed.{IsWellTypedModule}
 use Rattle.ob0_analysis.specs.Texts.{utf8}
-use Rattle.ob0_edits.specs.Inlinings.{Offers}
-use Rattle.ob0_edits.specs.declared.inlining.Inlining.{Inlining}
-use Rattle.ob0_edits.specs.declared.inlining.Inlining.TheVariants.{Here, Everywhere}
+use Rattle.ob0_edits.specs.Inlinings.{OffersInlining}
+use Rattle.ob0_edits.specs.declared.inlinings.Inlining.{Inlining}
+use Rattle.ob0_edits.specs.declared.inlinings.Inlining.TheVariants.{Here, Everywhere}
 use Rattle.ob0_session_answers.specs.Actions.{RequestedActions, ListsActions, action_values, actions_offset, title, wants_inlining}
 use Rattle.ob0_session_answers.specs.Diagnostics.{diagnostic_of}
 use Rattle.ob0_session_answers.specs.Formatted.{AnswersFormatting}
 use Rattle.ob0_session_answers.specs.Renamed.{AnswersRenaming, RequestedRename, edits_for_client}
-use Rattle.ob0_session_json.specs.Shapes.{action_value, edit_refused, edit_value, publication, versioned_document}
+use Rattle.ob0_session_json.specs.Shapes.{action_value, edit_refusal, edit_value, publication, versioned_document}
 use Rattle.ob0_session_server.specs.Answers.{Sends, diagnoses, answers_name, lays_out, nothing, offers_actions, renames, says}
 use Rattle.ob0_world_rules.proofs.OneInlining.{inlines_or_refused, inlines_parts}
 use Rattle.ob0_world_rules.proofs.OneLayout.{lays_out_or_long, lays_out_said}
 use Rattle.ob0_world_rules.proofs.OneRenaming.{refuses_one, renames_or_refused, renames_parts}
-use Rattle.ob0_world_determined.specs.Determined.{OneDiagnosis, OneReply, OneTable}
+use Rattle.ob0_world_determined.specs.Determined.{DiagnosesAreDetermined, ReplyIsDetermined, TableIsDetermined}
 use Rattle.ob0_world_determined.proofs.NamesShown.{name_one}
 
 sends_one : (message another : Data) (sent other : List (List ℕ)) → message ≡ another → Sends message sent → Sends another other → sent ≡ other
@@ -43,19 +43,19 @@ sends_one message another sent other same (bytes, is, writes) (more, is_too, wri
 abbrev value_of_parts : Range × List ℕ → Data
 value_of_parts p = object (member (codes "newText") (text_value p.1) (member (codes "range") (range_value p.0.start p.0.end) no_members))
 
-abbrev value_of_said : EditText → Data
+abbrev value_of_said : EditContent → Data
 value_of_said s = object (member (codes "newText") (text_value s.text) (member (codes "range") (range_value s.range.start s.range.end) no_members))
 
 values_by_parts : (xs ys : List Edit) → map parts xs ≡ map parts ys → map edit_value xs ≡ map edit_value ys
 values_by_parts xs ys same = sym (map-map value_of_parts parts xs) ∙ (ap (map value_of_parts) same ∙ map-map value_of_parts parts ys)
 
-values_by_said : (xs ys : List Edit) → map edit_text xs ≡ map edit_text ys → map edit_value xs ≡ map edit_value ys
-values_by_said xs ys same = sym (map-map value_of_said edit_text xs) ∙ (ap (map value_of_said) same ∙ map-map value_of_said edit_text ys)
+values_by_said : (xs ys : List Edit) → map edit_content xs ≡ map edit_content ys → map edit_value xs ≡ map edit_value ys
+values_by_said xs ys same = sym (map-map value_of_said edit_content xs) ∙ (ap (map value_of_said) same ∙ map-map value_of_said edit_content ys)
 
 -- returns edits, given as JSON values, as a WorkspaceEdit in the form that the client accepts
-abbrev workspace_with : Client → List ℕ → ℤ → List Data → Data
+abbrev workspace_with : ClientFeatures → List ℕ → ℤ → List Data → Data
 workspace_with client uri version vs =
-    if client.takes_document_changes
+    if client.accepts_document_changes
     then object (member (codes "documentChanges") (array (item (object (member (codes "edits") (array (items_of vs)) (member (codes "textDocument") (versioned_document uri version) no_members))) no_items)) no_members)
     else object (member (codes "changes") (object (member uri (array (items_of vs)) no_members)) no_members)
 
@@ -93,7 +93,7 @@ module _ (unit : Unit) (requested : RequestedRename) (text : List ℕ) where
   renaming_one message another (inl (xs, h, is)) (inr (inr (unfit, too))) = absurd (unfit h.runs.old)
   renaming_one message another (inr (inl (why, h, is))) (inl (ys, k, too)) = absurd (renames_or_refused unit text requested.at.position requested.new ys why k h)
   renaming_one message another (inr (inl (why, h, is))) (inr (inl (other, k, too))) =
-      is ∙ ap (λ w. edit_refused requested.id (refusal_text w)) (refuses_one unit text requested.at.position requested.new why other h k) ∙ sym too
+      is ∙ ap (λ w. edit_refusal requested.id (refusal_text w)) (refuses_one unit text requested.at.position requested.new why other h k) ∙ sym too
   renaming_one message another (inr (inl (why, h, is))) (inr (inr (unfit, too))) = absurd (unfit (fits_refused why h))
   renaming_one message another (inr (inr (unfit, is))) (inl (ys, k, too)) = absurd (unfit k.runs.old)
   renaming_one message another (inr (inr (unfit, is))) (inr (inl (why, k, too))) = absurd (unfit (fits_refused why k))
@@ -105,14 +105,14 @@ module _ (unit : Unit) (requested : RequestedActions) (text : List ℕ) where
   abbrev offset : ℕ
   offset = actions_offset unit text requested.range
 
-  offered_one : (how : Inlining) (a b : Option (Vec Edit Global)) → Offers how unit text offset a → Offers how unit text offset b → action_values requested how a ≡ action_values requested how b
+  offered_one : (how : Inlining) (a b : Option (Vec Edit Global)) → OffersInlining how unit text offset a → OffersInlining how unit text offset b → action_values requested how a ≡ action_values requested how b
   offered_one how (Some xs) (Some ys) h k =
       ap (λ vs. action_with requested how vs ∷ []) (values_by_parts xs.items ys.items (inlines_parts unit text offset xs how ys h k))
   offered_one how (Some xs) None h k = absurd (inlines_or_refused unit text offset xs how h k)
   offered_one how None (Some ys) h k = absurd (inlines_or_refused unit text offset ys how k h)
   offered_one how None None h k = refl
 
-  fits_offered : (how : Inlining) (a : Option (Vec Edit Global)) → Offers how unit text offset a → IsWellTypedModule (utf8 text)
+  fits_offered : (how : Inlining) (a : Option (Vec Edit Global)) → OffersInlining how unit text offset a → IsWellTypedModule (utf8 text)
   fits_offered how (Some xs) h = h.runs.old
   fits_offered how None h =
       record { tree = _; text_of = record { scanned = h.module_read.source; scan = h.read.scan; module_of = h.read.parsed.module_of }; well_typed = h.read.well_typed }
@@ -133,15 +133,15 @@ module _ (unit : Unit) (requested : RequestedActions) (text : List ℕ) where
 
 -- ---- everything
 
-pub one_reply : OneDiagnosis → OneTable → OneReply
-one_reply reports tables nothing sent other h k = h ∙ sym k
-one_reply reports tables (says message) sent other h k = sends_one message message sent other refl h k
-one_reply reports tables (diagnoses unit uri version text) sent other (ds, (list, reports_list, is), sends) (es, (more, reports_too, too), sends_too) =
+pub reply_is_determined : DiagnosesAreDetermined → TableIsDetermined → ReplyIsDetermined
+reply_is_determined reports tables nothing sent other h k = h ∙ sym k
+reply_is_determined reports tables (says message) sent other h k = sends_one message message sent other refl h k
+reply_is_determined reports tables (diagnoses unit uri version text) sent other (ds, (list, reports_list, is), sends) (es, (more, reports_too, too), sends_too) =
     let same : ds ≡ es = is ∙ ap (map (diagnostic_of unit text)) (reports (utf8 text) list more reports_list reports_too) ∙ sym too in
     sends_one _ _ sent other (ap (publication uri (Some version)) same) sends sends_too
-one_reply reports tables (lays_out unit id indent text) sent other (message, h, sends) (another, k, sends_too) = sends_one message another sent other (formats_one unit id indent text message another h k) sends sends_too
-one_reply reports tables (answers_name unit id at question text) sent other (value, h, sends) (another, k, sends_too) =
+reply_is_determined reports tables (lays_out unit id indent text) sent other (message, h, sends) (another, k, sends_too) = sends_one message another sent other (formats_one unit id indent text message another h k) sends sends_too
+reply_is_determined reports tables (answers_name unit id at question text) sent other (value, h, sends) (another, k, sends_too) =
     sends_one _ _ sent other (ap (result_message id) (name_one tables unit text at question value another h k)) sends sends_too
-one_reply reports tables (renames unit requested text) sent other (message, h, sends) (another, k, sends_too) = sends_one message another sent other (renaming_one unit requested text message another h k) sends sends_too
-one_reply reports tables (offers_actions unit requested text) sent other (message, (value, h, is), sends) (another, (more, k, too), sends_too) =
+reply_is_determined reports tables (renames unit requested text) sent other (message, h, sends) (another, k, sends_too) = sends_one message another sent other (renaming_one unit requested text message another h k) sends sends_too
+reply_is_determined reports tables (offers_actions unit requested text) sent other (message, (value, h, is), sends) (another, (more, k, too), sends_too) =
     sends_one message another sent other (is ∙ ap (result_message requested.id) (lists_one unit requested text value more h k) ∙ sym too) sends sends_too

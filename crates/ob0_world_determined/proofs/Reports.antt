@@ -12,51 +12,51 @@ use Rattle.std.proofs.lemmas.List.Sorted.{sum_by-IsPermutation}
 use Rattle.std.proofs.lemmas.List.Sums.{sum_by-cons}
 use Rattle.std.proofs.lemmas.Map.Lookups.{exact_unsigned}
 use Rattle.ob0_scan.specs.Faults.{AreReportedOf}
-use Rattle.ob0_scan.specs.Scanned.{Scanned, IsScan, IsScannable, IsScanOf}
-use Rattle.ob0_scan.specs.declared.fault.Code.{Code}
-use Rattle.ob0_scan.specs.declared.fault.Code.TheVariants as code
+use Rattle.ob0_scan.specs.TextWithTokens.{TextWithTokens, IsScan, IsScannable, IsScanOf}
+use Rattle.ob0_scan.specs.declared.fault.FaultCode.{FaultCode}
+use Rattle.ob0_scan.specs.declared.fault.FaultCode.TheVariants as code
 use Rattle.ob0_scan.specs.declared.fault.Fault.{Fault}
 use Rattle.ob0_text.proofs.StableSort.{one_sorted, rises_sorted}
 use Rattle.ob0_tree.specs.Lexeme.{Terminal, EndOfText}
-use Rattle.ob0_tree.specs.Module.{ModuleOf, text_lexemes}
-use Rattle.ob0_tree.specs.Parsed.{tree_of, named_tree_of}
-use Rattle.ob0_tree.specs.Places.{named}
+use Rattle.ob0_tree.specs.Module.{ModuleOf, terminals_of_text}
+use Rattle.ob0_tree.specs.ParsedModule.{tree_of, named_tree_of}
+use Rattle.ob0_tree.specs.Places.{tree_with_names}
 use Rattle.ob0_tree.specs.Tree.{Tree, module_text, occurrences}
-use Rattle.ob0_parse.specs.RefusedBy.{NoneBegins, RefusedBy}
+use Rattle.ob0_parse.specs.IsRightParseRefusal.{NoModuleBegins, IsRightParseRefusal}
 use Rattle.ob0_parse_descent.specs.declared.refusal.ParseRefusal.{ParseRefusal}
 use Rattle.ob0_parse_descent.specs.declared.refusal.ParseRefusal.TheVariants.{Syntax, TooDeep, Memory}
-use Rattle.ob0_scope_table.specs.DeclaredTwice.{module_twice}
+use Rattle.ob0_scope_table.specs.DeclaredTwice.{tree_declaration_faults}
 use Rattle.ob0_language_names.specs.Occurrences.{bindings}
 use Rattle.ob0_language_names.specs.Parts.{module_block}
-use Rattle.ob0_scope_table.specs.Resolution.{Resolution, IsResolution, declaring_only, is_of_declarations, is_of_occurrences, unbound_at}
+use Rattle.ob0_scope_table.specs.Resolution.{Resolution, IsResolution, declaring_names, is_declaration_fault, is_undeclared_fault, undeclared_faults_by_labels}
 use Rattle.ob0_tree.specs.declared.tree.Role.TheVariants as role
 use Rattle.ob0_tree.specs.Tree.{identifiers}
 use Rattle.ob0_types.specs.FaultOrder.{AreFirstFaults, code_number, fault_cmp, faults_in, place_cmp}
 use Rattle.ob0_types_check.specs.DeclarationFaults.{reported_module, reported_block}
-use Rattle.ob0_types_check.specs.SoFar.{at_first, predeclared_meanings}
-use Rattle.ob0_analysis.specs.Diagnosed.{Complaint, IsRefusalAt, OneRefusal, Reports, ReportsFaults, ReportsLexemes, ReportsParser, ReportsTypes, complaint_of}
+use Rattle.ob0_types_check.specs.KnownDeclarations.{state_at_start, predeclared_meanings}
+use Rattle.ob0_analysis.specs.Diagnosed.{Complaint, ReportsRefusal, RefusalIsUnique, Reports, ReportsFaults, ReportsLexemes, ReportsParser, ReportsTypes, complaint_of_fault}
 use Rattle.ob0_world_rules.proofs.OneModule.{Same, same_module}
-use Rattle.ob0_world_determined.specs.Determined.{OneDiagnosis, OneTable}
+use Rattle.ob0_world_determined.specs.Determined.{DiagnosesAreDetermined, TableIsDetermined}
 use Rattle.ob0_world_determined.proofs.SameTables.{Like, block_like}
 
 abbrev pub OneScan : Type 0
-OneScan = (s t : Scanned) → IsScan s → IsScan t → s.text ≡ t.text → s ≡ t
+OneScan = (s t : TextWithTokens) → IsScan s → IsScan t → s.text ≡ t.text → s ≡ t
 
 abbrev pub OneScanReport : Type 0
 OneScanReport = (text : List ℕ) (faults others : List Fault) → AreReportedOf text faults → AreReportedOf text others → faults ≡ others
 
 -- ---- a text has no lexemes, no tree or no types
 
-scannable : (text : List ℕ) (s : Scanned) → IsScanOf text s → IsScannable text
+scannable : (text : List ℕ) (s : TextWithTokens) → IsScanOf text s → IsScannable text
 scannable text s scan = subst IsScannable scan.of (scan.scan.short, (scan.scan.lexemes, scan.scan.lexed))
 
 -- No tree is a module's if no module begins with these tokens.
-none : (s : Scanned) (i : ℕ) (tree : Tree (List ℕ) module_text) → NoneBegins s i → ModuleOf s tree → ⊥
+none : (s : TextWithTokens) (i : ℕ) (tree : Tree (List ℕ) module_text) → NoModuleBegins s i → ModuleOf s tree → ⊥
 none s i tree h is =
-    let all : List (Terminal (List ℕ)) = text_lexemes s ++ (EndOfText ∷ []) in
+    let all : List (Terminal (List ℕ)) = terminals_of_text s ++ (EndOfText ∷ []) in
     h tree (drop (i + 1) all) is.shallow (ap (λ (w : List (Terminal (List ℕ))). w ++ (EndOfText ∷ [])) (sym is.spelled) ∙ sym (take-append-drop (i + 1) all))
 
-not_refused : (s : Scanned) (why : ParseRefusal) (c : Complaint) (tree : Tree (List ℕ) module_text) → RefusedBy s why → IsRefusalAt s why c → ModuleOf s tree → ⊥
+not_refused : (s : TextWithTokens) (why : ParseRefusal) (c : Complaint) (tree : Tree (List ℕ) module_text) → IsRightParseRefusal s why → ReportsRefusal s why c → ModuleOf s tree → ⊥
 not_refused s (Syntax i expected) c tree by is module_is = none s i tree by.1 module_is
 not_refused s (TooDeep i) c tree by is module_is = none s i tree by.1 module_is
 not_refused s Memory c tree by is module_is = is
@@ -64,16 +64,16 @@ not_refused s Memory c tree by is module_is = is
 -- ---- faults in order
 
 -- the codes in the order of their numbers
-abbrev codes_in_order : List Code
+abbrev codes_in_order : List FaultCode
 codes_in_order =
     code.TooLong ∷ code.TooLong ∷ code.BadChar ∷ code.OpenComment ∷ code.NumberTooLarge ∷ code.NumberJoinsLetter ∷ code.TooLong ∷ code.TooLong ∷ code.TooLong ∷ code.TooLong
     ∷ code.Duplicate ∷ code.Undeclared ∷ code.EndName ∷ code.WrongKind ∷ code.TypeMismatch ∷ code.NotConstant ∷ code.ConstFault ∷ code.ArrayLength ∷ code.TypeTooLarge
     ∷ code.ArgumentCount ∷ code.NotVariable ∷ code.NoField ∷ code.NotArray ∷ code.NotRecord ∷ []
 
-abbrev code_with : ℕ → Code
+abbrev code_with : ℕ → FaultCode
 code_with n = slice_index_or codes_in_order n code.TooLong
 
-coded : (x : Code) → code_with (code_number x) ≡ x
+coded : (x : FaultCode) → code_with (code_number x) ≡ x
 coded x =
     elim x as (λ y. code_with (code_number y) ≡ y) [
       | code.TooLong ↦ refl
@@ -179,43 +179,43 @@ sorted_one faults xs ys p q sorted sorted_too =
 
 -- ---- faults of names and types
 
-module _ (r q : Resolution) (h : IsResolution r) (k : IsResolution q) (e : Same r.module_read q.module_read) (tables : OneTable) where
-  first_like : Like (at_first r) (at_first q)
+module _ (r q : Resolution) (h : IsResolution r) (k : IsResolution q) (e : Same r.module_read q.module_read) (tables : TableIsDetermined) where
+  first_like : Like (state_at_start r) (state_at_start q)
   first_like = record {
     source = e.source;
     ordinals = tables r q h k (e.source, e.tree);
-    declared = ap (λ ds. predeclared_meanings ++ map (λ token. None) ds) (h.declaring ∙ ap (λ t. declaring_only (identifiers role.Declaring t)) e.tree ∙ sym k.declaring);
+    declared = ap (λ ds. predeclared_meanings ++ map (λ token. None) ds) (h.declaring ∙ ap (λ t. declaring_names (identifiers role.Declaring t)) e.tree ∙ sym k.declaring);
     made = refl;
   }
 
   same_of_names : r.faults ≡ q.faults
   same_of_names =
-      h.reported.by_kind ∙ (λ i. module_twice (e.source i) (e.tree i) ++ unbound_at (e.source i) (occurrences (e.tree i)) (bindings (named (e.source i) (e.tree i)))) ∙ sym k.reported.by_kind
+      h.reported.by_kind ∙ (λ i. tree_declaration_faults (e.source i) (e.tree i) ++ undeclared_faults_by_labels (e.source i) (occurrences (e.tree i)) (bindings (tree_with_names (e.source i) (e.tree i)))) ∙ sym k.reported.by_kind
 
   same_reported : reported_module r ≡ reported_module q
   unfolding reported_module
   same_reported =
-      let found : (reported_block (at_first r) (module_block (tree_of r.module_read))).faults ≡ (reported_block (at_first q) (module_block (tree_of q.module_read))).faults =
-      (block_like (at_first r) (at_first q) (module_block (tree_of r.module_read)) first_like).faults ∙ ap (λ t. (reported_block (at_first q) (module_block t)).faults) e.tree in
-      λ i. filter is_of_occurrences (same_of_names i) ++ found i
+      let found : (reported_block (state_at_start r) (module_block (tree_of r.module_read))).faults ≡ (reported_block (state_at_start q) (module_block (tree_of q.module_read))).faults =
+      (block_like (state_at_start r) (state_at_start q) (module_block (tree_of r.module_read)) first_like).faults ∙ ap (λ t. (reported_block (state_at_start q) (module_block t)).faults) e.tree in
+      λ i. filter is_undeclared_fault (same_of_names i) ++ found i
 
   same_faults : (xs ys : List Fault) → AreFirstFaults r xs → AreFirstFaults q ys → xs ≡ ys
   same_faults xs ys a b =
-      let found : faults_in r ≡ faults_in q = λ i. same_reported i ++ filter is_of_declarations (same_of_names i) in
+      let found : faults_in r ≡ faults_in q = λ i. same_reported i ++ filter is_declaration_fault (same_of_names i) in
       a.first ∙ ap (take 100) (sorted_one _ a.all b.all (subst (λ fs. IsPermutation fs a.all) found a.joined) b.joined a.in_order b.in_order) ∙ sym b.first
 
-types_one : (text : List ℕ) (list other : List Complaint) → OneTable → ReportsTypes text list → ReportsTypes text other → list ≡ other
+types_one : (text : List ℕ) (list other : List Complaint) → TableIsDetermined → ReportsTypes text list → ReportsTypes text other → list ≡ other
 types_one text list other tables a b =
     let e : Same a.names.module_read b.names.module_read = same_module text a.names.module_read b.names.module_read a.scan a.resolved.parsed b.scan b.resolved.parsed in
-    a.all ∙ ap (map complaint_of) (same_faults a.names b.names a.resolved b.resolved e tables a.faults b.faults a.first b.first) ∙ sym b.all
+    a.all ∙ ap (map complaint_of_fault) (same_faults a.names b.names a.resolved b.resolved e tables a.faults b.faults a.first b.first) ∙ sym b.all
 
 -- ---- every text
 
-module _ (scans : OneScan) (reports : OneScanReport) (refusals : OneRefusal) (tables : OneTable) (text : List ℕ) where
-  one_source : (s t : Scanned) → IsScanOf text s → IsScanOf text t → s ≡ t
+module _ (scans : OneScan) (reports : OneScanReport) (refusals : RefusalIsUnique) (tables : TableIsDetermined) (text : List ℕ) where
+  one_source : (s t : TextWithTokens) → IsScanOf text s → IsScanOf text t → s ≡ t
   one_source s t p q = scans s t p.scan q.scan (p.of ∙ sym q.of)
 
-  lexemes_only : {A : Type 0} (list : List Complaint) (s : Scanned) → ReportsLexemes text list → IsScanOf text s → A
+  lexemes_only : {A : Type 0} (list : List Complaint) (s : TextWithTokens) → ReportsLexemes text list → IsScanOf text s → A
   lexemes_only list s h scan = absurd (h.unscannable (scannable text s scan))
 
   parser_only : {A : Type 0} (list other : List Complaint) → ReportsParser text list → ReportsTypes text other → A
@@ -224,7 +224,7 @@ module _ (scans : OneScan) (reports : OneScanReport) (refusals : OneRefusal) (ta
       absurd (not_refused h.scanned h.refusal h.complaint (named_tree_of k.names.module_read) h.refused h.says (subst (λ s. ModuleOf s (named_tree_of k.names.module_read)) same k.resolved.parsed.module_of))
 
   faults_one : (list other : List Complaint) → ReportsFaults text list → ReportsFaults text other → list ≡ other
-  faults_one list other (inl a) (inl b) = a.all ∙ ap (map complaint_of) (reports text a.faults b.faults a.of_text.reported b.of_text.reported) ∙ sym b.all
+  faults_one list other (inl a) (inl b) = a.all ∙ ap (map complaint_of_fault) (reports text a.faults b.faults a.of_text.reported b.of_text.reported) ∙ sym b.all
   faults_one list other (inl a) (inr (inl b)) = lexemes_only list b.scanned a b.scan
   faults_one list other (inl a) (inr (inr b)) = lexemes_only list b.names.module_read.source a b.scan
   faults_one list other (inr (inl a)) (inl b) = lexemes_only other a.scanned b a.scan
@@ -240,5 +240,5 @@ module _ (scans : OneScan) (reports : OneScanReport) (refusals : OneRefusal) (ta
   report_one list other (inr (unfit, a)) (inl (fits, b)) = absurd (unfit fits)
   report_one list other (inr (unfit, a)) (inr (unfit_too, b)) = faults_one list other a b
 
-pub one_diagnosis : OneScan → OneScanReport → OneRefusal → OneTable → OneDiagnosis
-one_diagnosis scans reports refusals tables text list other a b = report_one scans reports refusals tables text list other a b
+pub diagnoses_are_determined : OneScan → OneScanReport → RefusalIsUnique → TableIsDetermined → DiagnosesAreDetermined
+diagnoses_are_determined scans reports refusals tables text list other a b = report_one scans reports refusals tables text list other a b

@@ -1,39 +1,39 @@
 -- Proves that the faults of a module depend on its table of ordinals only by the ordinals at the module's tokens.
 use Rattle.std.proofs.Common.{◌≡◌, ℕ, suc, ◌+◌, Bool, true, false, cond, Option, Some, None, List, [], ◌∷◌, ◌++◌, map, length, refl, ap, subst}
 use Rattle.std.specs.Prelude.{option_and_then, slice_index_or, slice_set}
-use Rattle.ob0_scan.specs.declared.fault.Code.TheVariants as code
+use Rattle.ob0_scan.specs.declared.fault.FaultCode.TheVariants as code
 use Rattle.ob0_scan.specs.declared.fault.Fault.{Fault}
 use Rattle.ob0_language_values.specs.Values.{Value}
-use Rattle.ob0_language_names.specs.Parts.{formal_sections, names_listed, section_constants, section_types, section_variables}
+use Rattle.ob0_language_names.specs.Parts.{formal_sections, names_in_list, section_constants, section_types, section_variables}
 use Rattle.ob0_scope_table.specs.Resolution.{ordinal_in}
 use Rattle.ob0_types_table.specs.declared.types.TypeId.{TypeId}
 use Rattle.ob0_tree.specs.Places.{text_at}
 use Rattle.ob0_tree.specs.Tree.{Tree, array_type, begins, block, body, constant, declares, declares_constant, declares_procedure, declares_type, declares_variable, end, fields, further_fields, further_section, has_body, item, items, maybe, more, named_type, names, no_fields, none, one, procedure, record_type, some_fields, then_fields, then_section, type_name, value_section, variable, variable_section, written_type}
-use Rattle.ob0_types_check.specs.DeclarationFaults.{KnownHeading, after_heading, constant_declared, reported_constants, reported_block, reported_body, reported_parameters, reported_procedure, reported_procedures, reported_section, reported_sections, reported_types, reported_variables, type_declared, variables_declared, with_parameters}
+use Rattle.ob0_types_check.specs.DeclarationFaults.{KnownHeading, state_after_heading, constant_declared, reported_constants, reported_block, reported_body, reported_parameters, reported_procedure, reported_procedures, reported_section, reported_sections, reported_types, reported_variables, type_declared, variables_declared, with_parameters}
 use Rattle.ob0_types_check.specs.ExpressionFaults.{reported_expression}
 use Rattle.ob0_types_check.specs.Known.{Facts, Meaning, Operand, Reported, a_constant, a_procedure, a_type, a_variable}
-use Rattle.ob0_types_check.specs.Operations.{at_token, right, token_before}
-use Rattle.ob0_types_check.specs.SoFar.{PartTypes, Size, SoFar, TypedAfter, define, define_all, facts_at, is_within, made, make, of_elements, of_fields, size_at, too_large, type_with, types_at, with_declared}
+use Rattle.ob0_types_check.specs.Operations.{fault_at_token, without_fault, token_before}
+use Rattle.ob0_types_check.specs.KnownDeclarations.{PartTypes, Size, KnownDeclarations, TypeWithState, define, define_all, facts_at, is_within_limits, made, make_type, of_elements, of_fields, size_at, type_too_large, type_at_index, types_so_far, with_meaning}
 use Rattle.ob0_types_check.specs.StatementFaults.{reported_sequence}
-use Rattle.ob0_types_check.specs.TypeFaults.{length_of, reported_constant, type_named}
-use Rattle.ob0_types_check.specs.WrittenTypeFaults.{Gathered, array_made, array_size, beside, gathered_after, nothing_gathered, ordinal_here, record_made, record_size, record_word, reported_fields, reported_groups, reported_type, with_name, with_field_names, word_before}
+use Rattle.ob0_types_check.specs.TypeFaults.{length_of, reported_constant, type_named_at}
+use Rattle.ob0_types_check.specs.WrittenTypeFaults.{KnownFields, made_array_type, array_size, sum_of_sizes, with_field_group, no_known_fields, next_type_ordinal, made_record_type, record_size, record_keyword, reported_fields, reported_groups, reported_type, with_known_field, with_known_fields, token_before_group}
 
 -- ---- states that differ only in tables with the same ordinals
 
 abbrev pub Agree : List (Option ℕ) → List (Option ℕ) → Type 0
 Agree a b = (token : ℕ) → ordinal_in a token ≡ ordinal_in b token
 
-pub record Like (p q : SoFar) : Type 0 where
+pub record Like (p q : KnownDeclarations) : Type 0 where
   pub source : p.source ≡ q.source
   pub ordinals : Agree p.ordinals q.ordinals
   pub declared : p.declared ≡ q.declared
   pub made : p.made ≡ q.made
 
-record TypedLike (t u : TypedAfter) : Type 0 where
+record TypedLike (t u : TypeWithState) : Type 0 where
   pub of : t.of ≡ u.of
   pub following : Like t.following u.following
 
-record GatheredLike (g h : Gathered) : Type 0 where
+record GatheredLike (g h : KnownFields) : Type 0 where
   pub fields : g.fields ≡ h.fields
   pub size : g.size ≡ h.size
   pub following : Like g.following h.following
@@ -47,7 +47,7 @@ pub record Both {A : Type 0} (R : A → A → Type 0) (x y : Reported A) : Type 
   pub known : R x.known y.known
   pub faults : x.faults ≡ y.faults
 
-right_both : {A : Type 0} (R : A → A → Type 0) (x y : A) → R x y → Both R (right x) (right y)
+right_both : {A : Type 0} (R : A → A → Type 0) (x y : A) → R x y → Both R (without_fault x) (without_fault y)
 right_both R x y h = record { known = h; faults = refl }
 
 -- Two reports after equal faults correspond if the reports do.
@@ -57,83 +57,83 @@ after first next = record { known = next.known; faults = λ i. first i ++ next.f
 
 -- ---- known facts
 
-same_facts : (p q : SoFar) (only : Bool) → Like p q → facts_at p only ≡ facts_at q only
+same_facts : (p q : KnownDeclarations) (only : Bool) → Like p q → facts_at p only ≡ facts_at q only
 same_facts p q only like = λ i. record {
   source = like.source i;
-  types = types_at (like.made i);
+  types = types_so_far (like.made i);
   object_for = λ token. option_and_then (λ k. slice_index_or (like.declared i) k None) (like.ordinals token i);
   only_constants = only;
 }
 
-declared_like : (p q : SoFar) (m : Meaning TypeId) (o : Option ℕ) → Like p q → Like (with_declared p m o) (with_declared q m o)
+declared_like : (p q : KnownDeclarations) (m : Meaning TypeId) (o : Option ℕ) → Like p q → Like (with_meaning p m o) (with_meaning q m o)
 declared_like p q m None like = like
 declared_like p q m (Some k) like = record { source = like.source; ordinals = like.ordinals; declared = ap (λ d. slice_set d k (Some m)) like.declared; made = like.made }
 
-define_like : (p q : SoFar) (m : Meaning TypeId) (token : ℕ) → Like p q → Like (define p m token) (define q m token)
+define_like : (p q : KnownDeclarations) (m : Meaning TypeId) (token : ℕ) → Like p q → Like (define p m token) (define q m token)
 define_like p q m token like =
-    subst (λ o. Like (define p m token) (with_declared q m o)) (like.ordinals token) (declared_like p q m (ordinal_in p.ordinals token) like)
+    subst (λ o. Like (define p m token) (with_meaning q m o)) (like.ordinals token) (declared_like p q m (ordinal_in p.ordinals token) like)
 
-define_all_like : (p q : SoFar) (m : Meaning TypeId) (tokens : List ℕ) → Like p q → Like (define_all p m tokens) (define_all q m tokens)
+define_all_like : (p q : KnownDeclarations) (m : Meaning TypeId) (tokens : List ℕ) → Like p q → Like (define_all p m tokens) (define_all q m tokens)
 define_all_like p q m [] like = like
 define_all_like p q m (x ∷ xs) like = define_all_like (define p m x) (define q m x) m xs (define_like p q m x like)
 
 -- ---- types
 
-made_like : (p q : SoFar) (k l : ℕ) (parts : PartTypes) (size : Size) → k ≡ l → Like p q → TypedLike (made p k parts size) (made q l parts size)
+made_like : (p q : KnownDeclarations) (k l : ℕ) (parts : PartTypes) (size : Size) → k ≡ l → Like p q → TypedLike (made p k parts size) (made q l parts size)
 made_like p q k l parts size same like = record {
-  of = ap (λ ms. type_with parts (length ms)) like.made;
+  of = ap (λ ms. type_at_index parts (length ms)) like.made;
   following = record { source = like.source; ordinals = like.ordinals; declared = like.declared; made = λ i. like.made i ++ record { ordinal = same i; parts = parts; size = size } ∷ [] };
 }
 
-make_like : (p q : SoFar) (word k l : ℕ) (parts : PartTypes) (size : Size) → k ≡ l → Like p q → Both TypedLike (make p word k parts size) (make q word l parts size)
-make_like p q word k l parts size same like = go (is_within size)
+make_like : (p q : KnownDeclarations) (word k l : ℕ) (parts : PartTypes) (size : Size) → k ≡ l → Like p q → Both TypedLike (make_type p word k parts size) (make_type q word l parts size)
+make_like p q word k l parts size same like = go (is_within_limits size)
   where
-    go : (b : Bool) → Both TypedLike (cond b (right (made p k parts size)) (too_large p word)) (cond b (right (made q l parts size)) (too_large q word))
+    go : (b : Bool) → Both TypedLike (cond b (without_fault (made p k parts size)) (type_too_large p word)) (cond b (without_fault (made q l parts size)) (type_too_large q word))
     go true = right_both TypedLike (made p k parts size) (made q l parts size) (made_like p q k l parts size same like)
-    go false = record { known = record { of = refl; following = like }; faults = ap (λ (f : Facts TypeId). at_token f code.TypeTooLarge word) (same_facts p q false like) }
+    go false = record { known = record { of = refl; following = like }; faults = ap (λ (f : Facts TypeId). fault_at_token f code.TypeTooLarge word) (same_facts p q false like) }
 
-array_like : (k l : ℕ) (o : Operand TypeId) (n : Option ℕ) (t u : TypedAfter) → k ≡ l → TypedLike t u → Both TypedLike (array_made k o n t) (array_made l o n u)
+array_like : (k l : ℕ) (o : Operand TypeId) (n : Option ℕ) (t u : TypeWithState) → k ≡ l → TypedLike t u → Both TypedLike (made_array_type k o n t) (made_array_type l o n u)
 array_like k l o None t u same like = right_both TypedLike _ _ (record { of = refl; following = like.following })
 array_like k l o (Some n) t u same like =
     let parts : of_elements n t.of ≡ of_elements n u.of = ap (of_elements n) like.of in
     let size : array_size n (size_at t.following.made t.of) ≡ array_size n (size_at u.following.made u.of) = λ i. array_size n (size_at (like.following.made i) (like.of i)) in
-    subst (λ x. Both TypedLike (array_made k o (Some n) t) (make u.following (token_before o.first) l x (array_size n (size_at u.following.made u.of)))) parts
-    (subst (λ z. Both TypedLike (array_made k o (Some n) t) (make u.following (token_before o.first) l (of_elements n t.of) z)) size
+    subst (λ x. Both TypedLike (made_array_type k o (Some n) t) (make_type u.following (token_before o.first) l x (array_size n (size_at u.following.made u.of)))) parts
+    (subst (λ z. Both TypedLike (made_array_type k o (Some n) t) (make_type u.following (token_before o.first) l (of_elements n t.of) z)) size
     (make_like t.following u.following (token_before o.first) k l (of_elements n t.of) (array_size n (size_at t.following.made t.of)) same like.following))
 
-arrays_like : (k l : ℕ) (o p : Operand TypeId) (n m : Option ℕ) (t u : TypedAfter) → k ≡ l → o ≡ p → n ≡ m → TypedLike t u → Both TypedLike (array_made k o n t) (array_made l p m u)
+arrays_like : (k l : ℕ) (o p : Operand TypeId) (n m : Option ℕ) (t u : TypeWithState) → k ≡ l → o ≡ p → n ≡ m → TypedLike t u → Both TypedLike (made_array_type k o n t) (made_array_type l p m u)
 arrays_like k l o p n m t u here same sized like =
-    subst (λ x. Both TypedLike (array_made k o n t) (array_made l x m u)) same (subst (λ x. Both TypedLike (array_made k o n t) (array_made l o x u)) sized (array_like k l o n t u here like))
+    subst (λ x. Both TypedLike (made_array_type k o n t) (made_array_type l x m u)) same (subst (λ x. Both TypedLike (made_array_type k o n t) (made_array_type l o x u)) sized (array_like k l o n t u here like))
 
-name_like : (t u : TypeId) (g h : Gathered) (token : ℕ) → t ≡ u → GatheredLike g h → GatheredLike (with_name t g token) (with_name u h token)
+name_like : (t u : TypeId) (g h : KnownFields) (token : ℕ) → t ≡ u → GatheredLike g h → GatheredLike (with_known_field t g token) (with_known_field u h token)
 name_like t u g h token same like = record {
   fields = λ i. like.fields i ++ record { name = text_at (like.following.source i) token; of = same i } ∷ [];
-  size = λ i. beside (like.size i) (size_at (like.following.made i) (same i));
+  size = λ i. sum_of_sizes (like.size i) (size_at (like.following.made i) (same i));
   following = like.following;
 }
 
-names_like : (t u : TypeId) (g h : Gathered) (tokens : List ℕ) → t ≡ u → GatheredLike g h → GatheredLike (with_field_names t g tokens) (with_field_names u h tokens)
+names_like : (t u : TypeId) (g h : KnownFields) (tokens : List ℕ) → t ≡ u → GatheredLike g h → GatheredLike (with_known_fields t g tokens) (with_known_fields u h tokens)
 names_like t u g h [] same like = like
-names_like t u g h (x ∷ xs) same like = names_like t u (with_name t g x) (with_name u h x) xs same (name_like t u g h x same like)
+names_like t u g h (x ∷ xs) same like = names_like t u (with_known_field t g x) (with_known_field u h x) xs same (name_like t u g h x same like)
 
-gathered_like : (g h : Gathered) (tokens : List ℕ) (t u : TypedAfter) → GatheredLike g h → TypedLike t u → GatheredLike (gathered_after g tokens t) (gathered_after h tokens u)
+gathered_like : (g h : KnownFields) (tokens : List ℕ) (t u : TypeWithState) → GatheredLike g h → TypedLike t u → GatheredLike (with_field_group g tokens t) (with_field_group h tokens u)
 gathered_like g h tokens t u like typed = names_like t.of u.of _ _ tokens typed.of (record { fields = like.fields; size = like.size; following = typed.following })
 
-record_like : (word k l : ℕ) (g h : Gathered) → k ≡ l → GatheredLike g h → Both TypedLike (record_made word k g) (record_made word l h)
+record_like : (word k l : ℕ) (g h : KnownFields) → k ≡ l → GatheredLike g h → Both TypedLike (made_record_type word k g) (made_record_type word l h)
 record_like word k l g h same like =
-    subst (λ x. Both TypedLike (record_made word k g) (make h.following word l x (record_size h.size))) (ap of_fields like.fields)
-    (subst (λ z. Both TypedLike (record_made word k g) (make h.following word l (of_fields g.fields) (record_size z))) like.size
+    subst (λ x. Both TypedLike (made_record_type word k g) (make_type h.following word l x (record_size h.size))) (ap of_fields like.fields)
+    (subst (λ z. Both TypedLike (made_record_type word k g) (make_type h.following word l (of_fields g.fields) (record_size z))) like.size
     (make_like g.following h.following word k l (of_fields g.fields) (record_size g.size) same like.following))
 
-here_like : (around : ℕ) (p q : SoFar) → Like p q → ordinal_here around p ≡ ordinal_here around q
+here_like : (around : ℕ) (p q : KnownDeclarations) → Like p q → next_type_ordinal around p ≡ next_type_ordinal around q
 here_like around p q like = λ i. length (like.made i) + around
 
 mutual
   unfolding reported_type
 
-  type_like : (around : ℕ) (p q : SoFar) (t : Tree ℕ written_type) → Like p q → Both TypedLike (reported_type around p t) (reported_type around q t)
+  type_like : (around : ℕ) (p q : KnownDeclarations) (t : Tree ℕ written_type) → Like p q → Both TypedLike (reported_type around p t) (reported_type around q t)
   type_like around p q (named_type x) like =
-      let same : type_named (facts_at p false) x ≡ type_named (facts_at q false) x = ap (λ (f : Facts TypeId). type_named f x) (same_facts p q false like) in
+      let same : type_named_at (facts_at p false) x ≡ type_named_at (facts_at q false) x = ap (λ (f : Facts TypeId). type_named_at f x) (same_facts p q false like) in
       after (ap (λ (r : Reported TypeId). r.faults) same) (right_both TypedLike _ _ (record { of = ap (λ (r : Reported TypeId). r.known) same; following = like }))
   type_like around p q (array_type e u) like =
       let same : reported_expression (facts_at p true) e ≡ reported_expression (facts_at q true) e = ap (λ (f : Facts TypeId). reported_expression f e) (same_facts p q true like) in
@@ -143,21 +143,21 @@ mutual
       let element : Both TypedLike (reported_type (suc around) p u) (reported_type (suc around) q u) = type_like (suc around) p q u like in
       after (ap (λ (r : Reported (Operand TypeId)). r.faults) same)
       (after (ap (λ (r : Reported (Option ℕ)). r.faults) sized)
-      (after element.faults (arrays_like (ordinal_here around p) (ordinal_here around q) _ _ _ _ _ _ (here_like around p q like) operand (ap (λ (r : Reported (Option ℕ)). r.known) sized) element.known)))
+      (after element.faults (arrays_like (next_type_ordinal around p) (next_type_ordinal around q) _ _ _ _ _ _ (here_like around p q like) operand (ap (λ (r : Reported (Option ℕ)). r.known) sized) element.known)))
   type_like around p q (record_type g rest) like =
-      let first : Both GatheredLike (reported_fields (suc around) (nothing_gathered p) g) (reported_fields (suc around) (nothing_gathered q) g) =
-      fields_like (suc around) (nothing_gathered p) (nothing_gathered q) g (record { fields = refl; size = refl; following = like }) in
-      let all : Both GatheredLike (reported_groups (suc around) (reported_fields (suc around) (nothing_gathered p) g).known rest) (reported_groups (suc around) (reported_fields (suc around) (nothing_gathered q) g).known rest) =
-      groups_like (suc around) (reported_fields (suc around) (nothing_gathered p) g).known (reported_fields (suc around) (nothing_gathered q) g).known rest first.known in
-      after first.faults (after all.faults (record_like (word_before g (record_word rest)) (ordinal_here around p) (ordinal_here around q) _ _ (here_like around p q like) all.known))
+      let first : Both GatheredLike (reported_fields (suc around) (no_known_fields p) g) (reported_fields (suc around) (no_known_fields q) g) =
+      fields_like (suc around) (no_known_fields p) (no_known_fields q) g (record { fields = refl; size = refl; following = like }) in
+      let all : Both GatheredLike (reported_groups (suc around) (reported_fields (suc around) (no_known_fields p) g).known rest) (reported_groups (suc around) (reported_fields (suc around) (no_known_fields q) g).known rest) =
+      groups_like (suc around) (reported_fields (suc around) (no_known_fields p) g).known (reported_fields (suc around) (no_known_fields q) g).known rest first.known in
+      after first.faults (after all.faults (record_like (token_before_group g (record_keyword rest)) (next_type_ordinal around p) (next_type_ordinal around q) _ _ (here_like around p q like) all.known))
 
-  fields_like : (around : ℕ) (g h : Gathered) (t : Tree ℕ fields) → GatheredLike g h → Both GatheredLike (reported_fields around g t) (reported_fields around h t)
+  fields_like : (around : ℕ) (g h : KnownFields) (t : Tree ℕ fields) → GatheredLike g h → Both GatheredLike (reported_fields around g t) (reported_fields around h t)
   fields_like around g h no_fields like = right_both GatheredLike g h like
   fields_like around g h (some_fields ns t) like =
       let typed : Both TypedLike (reported_type around g.following t) (reported_type around h.following t) = type_like around g.following h.following t like.following in
-      after typed.faults (right_both GatheredLike _ _ (gathered_like g h (names_listed ns) _ _ like typed.known))
+      after typed.faults (right_both GatheredLike _ _ (gathered_like g h (names_in_list ns) _ _ like typed.known))
 
-  groups_like : (around : ℕ) (g h : Gathered) (t : Tree ℕ (items further_fields)) → GatheredLike g h → Both GatheredLike (reported_groups around g t) (reported_groups around h t)
+  groups_like : (around : ℕ) (g h : KnownFields) (t : Tree ℕ (items further_fields)) → GatheredLike g h → Both GatheredLike (reported_groups around g t) (reported_groups around h t)
   groups_like around g h end like = right_both GatheredLike g h like
   groups_like around g h (more (then_fields t) rest) like =
       let next : Both GatheredLike (reported_fields around g t) (reported_fields around h t) = fields_like around g h t like in
@@ -165,56 +165,56 @@ mutual
 
 -- ---- declarations
 
-constant_defined : (p q : SoFar) (x : ℕ) (v w : Option Value) → v ≡ w → Like p q → Like (define p (a_constant v) x) (define q (a_constant w) x)
+constant_defined : (p q : KnownDeclarations) (x : ℕ) (v w : Option Value) → v ≡ w → Like p q → Like (define p (a_constant v) x) (define q (a_constant w) x)
 constant_defined p q x v w same like = subst (λ z. Like (define p (a_constant v) x) (define q (a_constant z) x)) same (define_like p q (a_constant v) x like)
 
-type_defined : (x : ℕ) (t u : TypedAfter) → TypedLike t u → Like (define t.following (a_type t.of) x) (define u.following (a_type u.of) x)
+type_defined : (x : ℕ) (t u : TypeWithState) → TypedLike t u → Like (define t.following (a_type t.of) x) (define u.following (a_type u.of) x)
 type_defined x t u typed = subst (λ z. Like (define t.following (a_type t.of) x) (define u.following (a_type z) x)) typed.of (define_like t.following u.following (a_type t.of) x typed.following)
 
-variables_defined : (xs : List ℕ) (t u : TypedAfter) → TypedLike t u → Like (define_all t.following (a_variable t.of) xs) (define_all u.following (a_variable u.of) xs)
+variables_defined : (xs : List ℕ) (t u : TypeWithState) → TypedLike t u → Like (define_all t.following (a_variable t.of) xs) (define_all u.following (a_variable u.of) xs)
 variables_defined xs t u typed =
     subst (λ z. Like (define_all t.following (a_variable t.of) xs) (define_all u.following (a_variable z) xs)) typed.of (define_all_like t.following u.following (a_variable t.of) xs typed.following)
 
-constant_like : (p q : SoFar) (d : Tree ℕ (item constant)) → Like p q → Both Like (constant_declared p d) (constant_declared q d)
+constant_like : (p q : KnownDeclarations) (d : Tree ℕ (item constant)) → Like p q → Both Like (constant_declared p d) (constant_declared q d)
 unfolding constant_declared
 constant_like p q (declares_constant x e) like =
     let same : reported_constant (facts_at p true) e ≡ reported_constant (facts_at q true) e = ap (λ (f : Facts TypeId). reported_constant f e) (same_facts p q true like) in
     after (ap (λ (r : Reported (Option Value)). r.faults) same) (right_both Like _ _ (constant_defined p q x _ _ (ap (λ (r : Reported (Option Value)). r.known) same) like))
 
-constants_like : (p q : SoFar) (ds : Tree ℕ (items constant)) → Like p q → Both Like (reported_constants p ds) (reported_constants q ds)
+constants_like : (p q : KnownDeclarations) (ds : Tree ℕ (items constant)) → Like p q → Both Like (reported_constants p ds) (reported_constants q ds)
 unfolding reported_constants
 constants_like p q end like = right_both Like p q like
 constants_like p q (more d rest) like =
     let next : Both Like (constant_declared p d) (constant_declared q d) = constant_like p q d like in
     after next.faults (constants_like (constant_declared p d).known (constant_declared q d).known rest next.known)
 
-type_declared_like : (p q : SoFar) (d : Tree ℕ (item type_name)) → Like p q → Both Like (type_declared p d) (type_declared q d)
+type_declared_like : (p q : KnownDeclarations) (d : Tree ℕ (item type_name)) → Like p q → Both Like (type_declared p d) (type_declared q d)
 unfolding type_declared
 type_declared_like p q (declares_type x t) like =
     let typed : Both TypedLike (reported_type 0 p t) (reported_type 0 q t) = type_like 0 p q t like in
     after typed.faults (right_both Like _ _ (type_defined x _ _ typed.known))
 
-types_like : (p q : SoFar) (ds : Tree ℕ (items type_name)) → Like p q → Both Like (reported_types p ds) (reported_types q ds)
+types_like : (p q : KnownDeclarations) (ds : Tree ℕ (items type_name)) → Like p q → Both Like (reported_types p ds) (reported_types q ds)
 unfolding reported_types
 types_like p q end like = right_both Like p q like
 types_like p q (more d rest) like =
     let next : Both Like (type_declared p d) (type_declared q d) = type_declared_like p q d like in
     after next.faults (types_like (type_declared p d).known (type_declared q d).known rest next.known)
 
-variables_declared_like : (p q : SoFar) (d : Tree ℕ (item variable)) → Like p q → Both Like (variables_declared p d) (variables_declared q d)
+variables_declared_like : (p q : KnownDeclarations) (d : Tree ℕ (item variable)) → Like p q → Both Like (variables_declared p d) (variables_declared q d)
 unfolding variables_declared
 variables_declared_like p q (declares_variable ns t) like =
     let typed : Both TypedLike (reported_type 0 p t) (reported_type 0 q t) = type_like 0 p q t like in
-    after typed.faults (right_both Like _ _ (variables_defined (names_listed ns) _ _ typed.known))
+    after typed.faults (right_both Like _ _ (variables_defined (names_in_list ns) _ _ typed.known))
 
-variables_like : (p q : SoFar) (ds : Tree ℕ (items variable)) → Like p q → Both Like (reported_variables p ds) (reported_variables q ds)
+variables_like : (p q : KnownDeclarations) (ds : Tree ℕ (items variable)) → Like p q → Both Like (reported_variables p ds) (reported_variables q ds)
 unfolding reported_variables
 variables_like p q end like = right_both Like p q like
 variables_like p q (more d rest) like =
     let next : Both Like (variables_declared p d) (variables_declared q d) = variables_declared_like p q d like in
     after next.faults (variables_like (variables_declared p d).known (variables_declared q d).known rest next.known)
 
-parameters_with : (g h : KnownHeading) (by_place : Bool) (xs : List ℕ) (t u : TypedAfter) → HeadingLike g h → TypedLike t u → HeadingLike (with_parameters g by_place xs t) (with_parameters h by_place xs u)
+parameters_with : (g h : KnownHeading) (by_place : Bool) (xs : List ℕ) (t u : TypeWithState) → HeadingLike g h → TypedLike t u → HeadingLike (with_parameters g by_place xs t) (with_parameters h by_place xs u)
 parameters_with g h by_place xs t u like typed = record {
   formals = λ i. like.formals i ++ map (λ x. record { by_place = by_place; of = typed.of i }) xs;
   following = variables_defined xs t u typed;
@@ -224,7 +224,7 @@ parameters_like : (g h : KnownHeading) (by_place : Bool) (ns : Tree ℕ names) (
 unfolding reported_parameters
 parameters_like g h by_place ns t like =
     let typed : Both TypedLike (reported_type 0 g.following t) (reported_type 0 h.following t) = type_like 0 g.following h.following t like.following in
-    after typed.faults (right_both HeadingLike _ _ (parameters_with g h by_place (names_listed ns) _ _ like typed.known))
+    after typed.faults (right_both HeadingLike _ _ (parameters_with g h by_place (names_in_list ns) _ _ like typed.known))
 
 section_like : (g h : KnownHeading) (s : Tree ℕ (item further_section)) → HeadingLike g h → Both HeadingLike (reported_section g s) (reported_section h s)
 unfolding reported_section
@@ -238,10 +238,10 @@ sections_like g h (more s rest) like =
     let next : Both HeadingLike (reported_section g s) (reported_section h s) = section_like g h s like in
     after next.faults (sections_like (reported_section g s).known (reported_section h s).known rest next.known)
 
-heading_like : (x : ℕ) (g h : KnownHeading) → HeadingLike g h → Like (after_heading x g) (after_heading x h)
-heading_like x g h like = subst (λ fs. Like (after_heading x g) (define h.following (a_procedure fs) x)) like.formals (define_like g.following h.following (a_procedure g.formals) x like.following)
+heading_like : (x : ℕ) (g h : KnownHeading) → HeadingLike g h → Like (state_after_heading x g) (state_after_heading x h)
+heading_like x g h like = subst (λ fs. Like (state_after_heading x g) (define h.following (a_procedure fs) x)) like.formals (define_like g.following h.following (a_procedure g.formals) x like.following)
 
-body_like : (p q : SoFar) (b : Tree ℕ (maybe body)) → Like p q → Both Like (reported_body p b) (reported_body q b)
+body_like : (p q : KnownDeclarations) (b : Tree ℕ (maybe body)) → Like p q → Both Like (reported_body p b) (reported_body q b)
 unfolding reported_body
 body_like p q none like = right_both Like p q like
 body_like p q (one (begins statements)) like = record { known = like; faults = ap (λ (f : Facts TypeId). reported_sequence f statements) (same_facts p q false like) }
@@ -249,7 +249,7 @@ body_like p q (one (begins statements)) like = record { known = like; faults = a
 mutual
   unfolding reported_block
 
-  pub block_like : (p q : SoFar) (b : Tree ℕ block) → Like p q → Both Like (reported_block p b) (reported_block q b)
+  pub block_like : (p q : KnownDeclarations) (b : Tree ℕ block) → Like p q → Both Like (reported_block p b) (reported_block q b)
   block_like p q (has_body (declares cs ts vs ps) statements) like =
       let constants : Both Like (reported_constants p (section_constants cs)) (reported_constants q (section_constants cs)) = constants_like p q (section_constants cs) like in
       let types = types_like _ _ (section_types ts) constants.known in
@@ -257,13 +257,13 @@ mutual
       let procedures = procedures_like _ _ ps variables.known in
       after constants.faults (after types.faults (after variables.faults (after procedures.faults (body_like _ _ statements procedures.known))))
 
-  procedures_like : (p q : SoFar) (ds : Tree ℕ (items procedure)) → Like p q → Both Like (reported_procedures p ds) (reported_procedures q ds)
+  procedures_like : (p q : KnownDeclarations) (ds : Tree ℕ (items procedure)) → Like p q → Both Like (reported_procedures p ds) (reported_procedures q ds)
   procedures_like p q end like = right_both Like p q like
   procedures_like p q (more d rest) like =
       let next : Both Like (reported_procedure p d) (reported_procedure q d) = procedure_like p q d like in
       after next.faults (procedures_like (reported_procedure p d).known (reported_procedure q d).known rest next.known)
 
-  procedure_like : (p q : SoFar) (d : Tree ℕ (item procedure)) → Like p q → Both Like (reported_procedure p d) (reported_procedure q d)
+  procedure_like : (p q : KnownDeclarations) (d : Tree ℕ (item procedure)) → Like p q → Both Like (reported_procedure p d) (reported_procedure q d)
   procedure_like p q (declares_procedure x fs b closing) like =
       let sections = sections_like (record { formals = []; following = p }) (record { formals = []; following = q }) (formal_sections fs) (record { formals = refl; following = like }) in
       after sections.faults (block_like _ _ b (heading_like x _ _ sections.known))

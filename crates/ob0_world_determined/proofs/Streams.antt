@@ -7,15 +7,15 @@ use Rattle.std.specs.List.{flat_map}
 use Rattle.std.proofs.lemmas.Grind.{flat_map-append}
 use Rattle.ob0_frame.specs.Frames.{Frames, frame}
 use Rattle.ob0_frame.specs.Head.{max_content}
-use Rattle.ob0_frame.specs.Framing.{Rest, Open, Broken, Feeds}
+use Rattle.ob0_frame.specs.FramerState.{StreamRest, Open, Broken, Feeds}
 use Rattle.ob0_frame.proofs.InTurn.{fed_in_turn}
-use Rattle.ob0_session_server.specs.Answers.{ServerState, start, Answers, AnswersInState, Conversation}
+use Rattle.ob0_session_server.specs.Answers.{ServerState, start, Answers, AnswersInPhase, Conversation}
 use Rattle.ob0_session.specs.Serving.{Served, AllServed, EndsWith}
-use Rattle.ob0_session_server.specs.Steps.{IsGoingOn}
+use Rattle.ob0_session_server.specs.Steps.{HasNotEnded}
 use Rattle.ob0_session_server.specs.declared.session.Phase.TheVariants.{Ended}
 use Rattle.ob0_session.specs.declared.serving.ServeFault.{ServeFault}
 use Rattle.ob0_session.specs.declared.serving.ServeFault.TheVariants.{BadHead, Truncated, Read, Write, Memory, TooManyReads}
-use Rattle.ob0_world_determined.specs.Determined.{ConversationIsServed, ConversationIsServedFirst, EndedConversationIsServed, IsDecided, IsOfBytes, IsWritten, MayServe, OneConversation, OneResult}
+use Rattle.ob0_world_determined.specs.Determined.{ConversationIsServed, ConversationIsServedAsPrefix, EndedConversationIsServed, IsFinalResult, IsDeterminedByBytes, IsFullyWritten, MayServe, ConversationIsDetermined, ResultIsDetermined}
 use Rattle.ob0_world_determined.proofs.Conversations.{Contents}
 use Rattle.ob0_world_determined.proofs.Fronts.{Framed, fed_front}
 
@@ -44,7 +44,7 @@ cut before (content ∷ contents) more sent after h =
 
 -- After its end a server sends nothing and doesn't change.
 ended_answer : (status : ℕ) (before : ServerState) (content : List ℕ) (sent : Contents) (after : ServerState) → before.phase ≡ Ended status → Answers before content sent after → (sent ≡ []) × (after ≡ before)
-ended_answer status before content sent after over h = subst (λ phase. AnswersInState phase before content sent after) over h
+ended_answer status before content sent after over h = subst (λ phase. AnswersInPhase phase before content sent after) over h
 
 silent : (status : ℕ) (before : ServerState) (contents : Contents) (sent : Contents) (after : ServerState) → before.phase ≡ Ended status → Conversation before contents sent after → (sent ≡ []) × (after ≡ before)
 silent status before [] sent after over h = h
@@ -73,12 +73,12 @@ begins_other (x ∷ xs) ys (z ∷ zs) ws e =
 -- ---- the contents read are answered up to an `exit`, or all of them
 
 abbrev pub OneFeed : Type 0
-OneFeed = (from r q : Rest) (piece : List ℕ) (c d : Contents) → Feeds from piece c r → Feeds from piece d q → (c ≡ d) × (r ≡ q)
+OneFeed = (from r q : StreamRest) (piece : List ℕ) (c d : Contents) → Feeds from piece c r → Feeds from piece d q → (c ≡ d) × (r ≡ q)
 
 -- the ending of a conversation: a status at an `exit`, or the rest of the bytes
 pub data Ending : Type 0 where
   at_exit : ℕ → Ending
-  with_rest : Rest → Ending
+  with_rest : StreamRest → Ending
 
 abbrev pub EndsIn : Ending → List ℕ → List ℕ → Type 0
 EndsIn (at_exit status) taken put = EndsWith status taken put
@@ -87,7 +87,7 @@ EndsIn (with_rest rest) taken put = AllServed taken rest put
 same_status : (s t : ℕ) → Ended s ≡ Ended t → s ≡ t
 same_status s t e = cc
 
-module _ (one : OneConversation) (feeds : OneFeed) (taken : List ℕ) where
+module _ (one : ConversationIsDetermined) (feeds : OneFeed) (taken : List ℕ) where
   -- A conversation that ended has the same replies and state as one over more contents.
   pub longer : (status : ℕ) (contents more sent other : Contents) (after end : ServerState) → after.phase ≡ Ended status → Conversation start contents sent after → Conversation start (contents ++ more) other end → (sent ≡ other) × (end ≡ after)
   longer status contents more sent other after end over h k =
@@ -96,7 +96,7 @@ module _ (one : OneConversation) (feeds : OneFeed) (taken : List ℕ) where
       let quiet = silent status parts.between more parts.later end (ap (λ (s : ServerState). s.phase) (sym same.1) ∙ over) parts.goes_on in
       (sym (parts.is ∙ (λ i. sym same.0 i ++ quiet.0 i) ∙ append-nil sent), quiet.1 ∙ sym same.1)
 
-  all_one : (r q : Rest) (put other : List ℕ) → AllServed taken r put → AllServed taken q other → (put ≡ other) × (with_rest r ≡ with_rest q)
+  all_one : (r q : StreamRest) (put other : List ℕ) → AllServed taken r put → AllServed taken q other → (put ≡ other) × (with_rest r ≡ with_rest q)
   all_one r q put other h k =
       let fed = feeds (Open []) r q taken (h.served.answered ++ []) (k.served.answered ++ []) h.served.feeds k.served.feeds in
       let contents : h.served.answered ≡ k.served.answered = sym (append-nil h.served.answered) ∙ fed.0 ∙ append-nil k.served.answered in
@@ -114,11 +114,11 @@ module _ (one : OneConversation) (feeds : OneFeed) (taken : List ℕ) where
       let statuses : status ≡ another = same_status status another (sym h_ended ∙ ap (λ (s : ServerState). s.phase) (sym same.1) ∙ k_ended) in
       (h.served.frames ∙ ap (flat_map frame) same.0 ∙ sym k.served.frames, ap at_exit statuses)
 
-  ended_goes_on : (status : ℕ) (s : ServerState) → s.phase ≡ Ended status → IsGoingOn s.phase → ⊥
-  ended_goes_on status s over going = let no : IsGoingOn (Ended status) = subst IsGoingOn over going in cc
+  ended_goes_on : (status : ℕ) (s : ServerState) → s.phase ≡ Ended status → HasNotEnded s.phase → ⊥
+  ended_goes_on status s over going = let no : HasNotEnded (Ended status) = subst HasNotEnded over going in cc
 
   -- If one call ended at an `exit`, another over the same bytes can't have served all of them.
-  never_both : (status : ℕ) (q : Rest) (put other : List ℕ) → EndsWith status taken put → AllServed taken q other → ⊥
+  never_both : (status : ℕ) (q : StreamRest) (put other : List ℕ) → EndsWith status taken put → AllServed taken q other → ⊥
   never_both status q put other (h, h_ended) k =
       let fed : h.served.answered ++ h.waiting ≡ k.served.answered =
       (feeds (Open []) h.rest q taken (h.served.answered ++ h.waiting) (k.served.answered ++ []) h.served.feeds k.served.feeds).0 ∙ append-nil k.served.answered in
@@ -134,7 +134,7 @@ module _ (one : OneConversation) (feeds : OneFeed) (taken : List ℕ) where
 -- ---- by the result
 
 -- If neither an allocation nor the writer failed, the bytes have an ending.
-pub ending_of : (result : Result ℕ ServeFault) (taken put : List ℕ) → IsWritten result → MayServe result taken put → (e : Ending) × EndsIn e taken put
+pub ending_of : (result : Result ℕ ServeFault) (taken put : List ℕ) → IsFullyWritten result → MayServe result taken put → (e : Ending) × EndsIn e taken put
 ending_of (Ok status) taken put written (r, w, (inl ends, none)) = (at_exit status, ends)
 ending_of (Ok status) taken put written (r, w, (inr (all, at_end, is), none)) = (with_rest (Open []), all)
 ending_of (Err BadHead) taken put written (r, w, (all, none)) = (with_rest Broken, all)
@@ -155,7 +155,7 @@ truncated : (left : List ℕ) → left ≢ [] → result_of (with_rest (Open lef
 truncated [] some = absurd (some refl)
 truncated (x ∷ xs) some = refl
 
-led_to : (result : Result ℕ ServeFault) (taken put : List ℕ) → IsOfBytes result → MayServe result taken put → (e : Ending) × EndsIn e taken put × (result_of e ≡ result)
+led_to : (result : Result ℕ ServeFault) (taken put : List ℕ) → IsDeterminedByBytes result → MayServe result taken put → (e : Ending) × EndsIn e taken put × (result_of e ≡ result)
 led_to (Ok status) taken put of (r, w, (inl ends, none)) = (at_exit status, ends, refl)
 led_to (Ok status) taken put of (r, w, (inr (all, at_end, is), none)) = (with_rest (Open []), all, ap Ok (sym is))
 led_to (Err BadHead) taken put of (r, w, (all, none)) = (with_rest Broken, all, refl)
@@ -196,7 +196,7 @@ further (with_rest Broken) taken more put closed f h =
 further (with_rest (Open left)) taken more put closed f h = absurd closed
 
 -- A result that the bytes decide has an ending that more bytes can't change.
-pub decided : (result : Result ℕ ServeFault) (taken put : List ℕ) → IsDecided result taken put → MayServe result taken put → (e : Ending) × EndsIn e taken put × IsClosed e × (result_of e ≡ result)
+pub decided : (result : Result ℕ ServeFault) (taken put : List ℕ) → IsFinalResult result taken put → MayServe result taken put → (e : Ending) × EndsIn e taken put × IsClosed e × (result_of e ≡ result)
 decided (Ok status) taken put is served = (at_exit status, is, tt, refl)
 decided (Err BadHead) taken put is (r, w, (all, none)) = (with_rest Broken, all, tt, refl)
 decided (Err Truncated) taken put is served = absurd is
@@ -209,7 +209,7 @@ nothing_more : (taken more : List ℕ) → more ≡ [] → taken ++ more ≡ tak
 nothing_more taken more none = ap (λ xs. taken ++ xs) none ∙ append-nil taken
 
 -- If no more bytes can be written, both calls have written the same.
-pub all_written : OneConversation → OneFeed → (taken more put all : List ℕ) (result end : Result ℕ ServeFault) → IsWritten result → IsWritten end → MayServe result taken put → MayServe end (taken ++ more) all → IsDecided result taken put ⊎ (more ≡ []) → put ≡ all
+pub all_written : ConversationIsDetermined → OneFeed → (taken more put all : List ℕ) (result end : Result ℕ ServeFault) → IsFullyWritten result → IsFullyWritten end → MayServe result taken put → MayServe end (taken ++ more) all → IsFinalResult result taken put ⊎ (more ≡ []) → put ≡ all
 all_written one feeds taken more put all result end written written_too h k (inl is) =
     let e = decided result taken put is h in
     let f = ending_of end (taken ++ more) all written_too k in
@@ -219,19 +219,19 @@ all_written one feeds taken more put all result end written written_too h k (inr
     let f = ending_of end taken all written_too (subst (λ xs. MayServe end xs all) (nothing_more taken more none) k) in
     (one_ending one feeds taken e.0 f.0 put all e.1 f.1).0
 
-pub one_result : OneConversation → OneFeed → OneResult
-one_result one feeds taken more put all result end of of_too h k (inl is) =
+pub result_is_determined : ConversationIsDetermined → OneFeed → ResultIsDetermined
+result_is_determined one feeds taken more put all result end of of_too h k (inl is) =
     let e = decided result taken put is h in
     let f = led_to end (taken ++ more) all of_too k in
     sym e.3 ∙ ap result_of (one_ending one feeds (taken ++ more) e.0 f.0 put all (further e.0 taken more put e.2 (framed_by f.0 (taken ++ more) all f.1) e.1) f.1).1 ∙ f.2
-one_result one feeds taken more put all result end of of_too h k (inr none) =
+result_is_determined one feeds taken more put all result end of of_too h k (inr none) =
     let e = led_to result taken put of h in
     let f = led_to end taken all of_too (subst (λ xs. MayServe end xs all) (nothing_more taken more none) k) in
     sym e.2 ∙ ap result_of (one_ending one feeds taken e.0 f.0 put all e.1 f.1).1 ∙ f.2
 
 -- ---- the frames of a conversation
 
-module _ (one : OneConversation) (feeds : OneFeed) (taken sent : Contents) (after : ServerState) (talk : Conversation start taken sent after) (fed : Feeds (Open []) (flat_map frame taken) taken (Open [])) where
+module _ (one : ConversationIsDetermined) (feeds : OneFeed) (taken sent : Contents) (after : ServerState) (talk : Conversation start taken sent after) (fed : Feeds (Open []) (flat_map frame taken) taken (Open [])) where
   frames_sent : (put : List ℕ) (e : Ending) → EndsIn e (flat_map frame taken) put → put ≡ flat_map frame sent
   frames_sent put (at_exit status) (h, ended) =
       let s = h.served in
@@ -243,7 +243,7 @@ module _ (one : OneConversation) (feeds : OneFeed) (taken sent : Contents) (afte
       s.frames ∙ ap (flat_map frame) (one start s.answered s.sent sent h.after after s.conversation (subst (λ cs. Conversation start cs sent after) same talk)).0
 
 -- a conversation with which a longer input begins
-module _ (one : OneConversation) (feeds : OneFeed) (taken sent : Contents) (after : ServerState) (talk : Conversation start taken sent after) (fed : Feeds (Open []) (flat_map frame taken) taken (Open [])) (more : List ℕ) where
+module _ (one : ConversationIsDetermined) (feeds : OneFeed) (taken sent : Contents) (after : ServerState) (talk : Conversation start taken sent after) (fed : Feeds (Open []) (flat_map frame taken) taken (Open [])) (more : List ℕ) where
   -- The answers to more contents begin with the answers to these.
   goes_on : (mid answered said : Contents) (end : ServerState) → answered ≡ taken ++ mid → Conversation start answered said end → (later : List ℕ) × (flat_map frame said ≡ flat_map frame sent ++ later)
   goes_on mid answered said end is h =
@@ -267,25 +267,25 @@ module _ (one : OneConversation) (feeds : OneFeed) (taken sent : Contents) (afte
       let found = goes_on parts.0 s.answered s.sent h.after (sym (append-nil s.answered) ∙ parts.1) s.conversation in
       (found.0, s.frames ∙ found.1)
 
-pub conversation_is_served_first : OneConversation → OneFeed → Feeds (Open []) [] [] (Open []) → ((contents : Contents) → All (λ content. length content ≤ max_content) contents → Frames (flat_map frame contents) contents []) → ConversationIsServedFirst
+pub conversation_is_served_first : ConversationIsDetermined → OneFeed → Feeds (Open []) [] [] (Open []) → ((contents : Contents) → All (λ content. length content ≤ max_content) contents → Frames (flat_map frame contents) contents []) → ConversationIsServedAsPrefix
 conversation_is_served_first one feeds nothing read taken sent after small talk more put result written served =
     let e = ending_of result (flat_map frame taken ++ more) put written served in
     frames_first one feeds taken sent after talk (read taken small, nothing.1) more put e.0 e.1
 
-pub conversation_is_served : OneConversation → OneFeed → Feeds (Open []) [] [] (Open []) → ((contents : Contents) → All (λ content. length content ≤ max_content) contents → Frames (flat_map frame contents) contents []) → ConversationIsServed
+pub conversation_is_served : ConversationIsDetermined → OneFeed → Feeds (Open []) [] [] (Open []) → ((contents : Contents) → All (λ content. length content ≤ max_content) contents → Frames (flat_map frame contents) contents []) → ConversationIsServed
 conversation_is_served one feeds nothing read taken sent after small talk put result written served =
     let e = ending_of result (flat_map frame taken) put written served in
     frames_sent one feeds taken sent after talk (read taken small, nothing.1) put e.0 e.1
 
 -- ---- the frames of a conversation that ended
 
-module _ (one : OneConversation) (feeds : OneFeed) (taken sent : Contents) (after : ServerState) (status : ℕ) (talk : Conversation start taken sent after) (over : after.phase ≡ Ended status) (fed : Feeds (Open []) (flat_map frame taken) taken (Open [])) (more : List ℕ) where
+module _ (one : ConversationIsDetermined) (feeds : OneFeed) (taken sent : Contents) (after : ServerState) (status : ℕ) (talk : Conversation start taken sent after) (over : after.phase ≡ Ended status) (fed : Feeds (Open []) (flat_map frame taken) taken (Open [])) (more : List ℕ) where
   -- nothing is answered after it
   nothing_more_said : (mid answered said : Contents) (end : ServerState) → answered ≡ taken ++ mid → Conversation start answered said end → (sent ≡ said) × (end ≡ after)
   nothing_more_said mid answered said end is h =
       longer one feeds (flat_map frame taken) status taken mid sent said after end over talk (subst (λ cs. Conversation start cs said end) is h)
 
-  no_rest : (put : List ℕ) (rest : Rest) → AllServed (flat_map frame taken ++ more) rest put → ⊥
+  no_rest : (put : List ℕ) (rest : StreamRest) → AllServed (flat_map frame taken ++ more) rest put → ⊥
   no_rest put rest h =
       let s = h.served in
       let parts = fed_front (Open []) (Open []) rest (flat_map frame taken) more taken (s.answered ++ []) fed s.feeds in
@@ -303,7 +303,7 @@ module _ (one : OneConversation) (feeds : OneFeed) (taken sent : Contents) (afte
       ] in
       (s.frames ∙ ap (flat_map frame) same.0, same_status found status (sym ended ∙ ap (λ (s : ServerState). s.phase) same.1 ∙ over))
 
-  returned : (put : List ℕ) (result : Result ℕ ServeFault) → IsWritten result → MayServe result (flat_map frame taken ++ more) put → (put ≡ flat_map frame sent) × (result ≡ Ok status)
+  returned : (put : List ℕ) (result : Result ℕ ServeFault) → IsFullyWritten result → MayServe result (flat_map frame taken ++ more) put → (put ≡ flat_map frame sent) × (result ≡ Ok status)
   returned put (Ok found) written (r, w, (inl ends, none)) = let same = exit_one put found ends in (same.0, ap Ok same.1)
   returned put (Ok found) written (r, w, (inr (all, at_end, is), none)) = absurd (no_rest put (Open []) all)
   returned put (Err BadHead) written (r, w, (all, none)) = absurd (no_rest put Broken all)
@@ -313,6 +313,6 @@ module _ (one : OneConversation) (feeds : OneFeed) (taken sent : Contents) (afte
   returned put (Err Write) written served = absurd (written.1 refl)
   returned put (Err Memory) written served = absurd (written.0 refl)
 
-pub ended_conversation_is_served : OneConversation → OneFeed → Feeds (Open []) [] [] (Open []) → ((contents : Contents) → All (λ content. length content ≤ max_content) contents → Frames (flat_map frame contents) contents []) → EndedConversationIsServed
+pub ended_conversation_is_served : ConversationIsDetermined → OneFeed → Feeds (Open []) [] [] (Open []) → ((contents : Contents) → All (λ content. length content ≤ max_content) contents → Frames (flat_map frame contents) contents []) → EndedConversationIsServed
 ended_conversation_is_served one feeds nothing read taken sent after status small talk over more put result written served =
     returned one feeds taken sent after status talk over (read taken small, nothing.1) more put result written served

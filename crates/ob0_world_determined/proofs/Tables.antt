@@ -1,17 +1,17 @@
 -- Proves that two tables of ordinals of one module agree at each token.
 -- A table may be longer than a module's list of tokens, so two tables of one module need not be equal as lists. They
--- have the same ordinal at each token: at an identifier by `IsBinding`, and none elsewhere by `NamesAlone`.
+-- have the same ordinal at each token: at an identifier by `IsBindingTable`, and none elsewhere by `OnlyNamesHaveOrdinals`.
 use Rattle.std.proofs.Common.{◌≡◌, ◌∙◌, ◌==◌, ◌||◌, ℕ, Bool, true, false, Option, List, [], ◌∷◌, map, refl, sym, ap, subst, eqb-true}
 use Rattle.std.specs.List.{list_any}
-use Rattle.ob0_scan.specs.Scanned.{Scanned}
+use Rattle.ob0_scan.specs.TextWithTokens.{TextWithTokens}
 use Rattle.ob0_tree.specs.Order.{leaves}
-use Rattle.ob0_tree.specs.Parsed.{tree_of}
-use Rattle.ob0_tree.specs.Places.{named, value_at}
-use Rattle.ob0_language_names.specs.Names.{Name, as_names}
-use Rattle.ob0_scope_table.specs.Resolution.{Resolution, IsResolution, bound_at, is_identifier_of, ordinal_in, with_ordinal}
-use Rattle.ob0_language_names.specs.Scopes.{relabelled}
+use Rattle.ob0_tree.specs.ParsedModule.{tree_of}
+use Rattle.ob0_tree.specs.Places.{tree_with_names, value_at}
+use Rattle.ob0_language_names.specs.Names.{Name, naming_by_spelling}
+use Rattle.ob0_scope_table.specs.Resolution.{Resolution, IsResolution, binding_at, is_identifier_token, ordinal_in, ordinal_and_spelling}
+use Rattle.ob0_language_names.specs.Scopes.{relabel_module}
 use Rattle.ob0_world_rules.proofs.OneFields.{leaves_mapped}
-use Rattle.ob0_world_determined.specs.Determined.{OneTable}
+use Rattle.ob0_world_determined.specs.Determined.{TableIsDetermined}
 
 head_of : {A : Type 0} {x y : A} {xs ys : List A} → x ∷ xs ≡ y ∷ ys → x ≡ y
 head_of e = cc
@@ -23,7 +23,7 @@ abbrev is_among : List ℕ → ℕ → Bool
 is_among tokens token = list_any (λ i. i == token) tokens
 
 -- Two tables agree at each of some tokens if they agree at all of these.
-among : (s : Scanned) (a b : List (Option ℕ)) (tokens : List ℕ) (token : ℕ) → is_among tokens token ≡ true → map (bound_at s a) tokens ≡ map (bound_at s b) tokens → ordinal_in a token ≡ ordinal_in b token
+among : (s : TextWithTokens) (a b : List (Option ℕ)) (tokens : List ℕ) (token : ℕ) → is_among tokens token ≡ true → map (binding_at s a) tokens ≡ map (binding_at s b) tokens → ordinal_in a token ≡ ordinal_in b token
 among s a b [] token is same = absurd (cc)
 among s a b (x ∷ xs) token is same = go (x == token) refl (λ later. among s a b xs token later (tail_of same))
   where
@@ -32,19 +32,19 @@ among s a b (x ∷ xs) token is same = go (x == token) refl (λ later. among s a
     go false here next = next (sym (ap (λ c. c || is_among xs token) here) ∙ is)
 
 module _ (r q : Resolution) (h : IsResolution r) (k : IsResolution q) (source : r.module_read.source ≡ q.module_read.source) (tree : tree_of r.module_read ≡ tree_of q.module_read) where
-  same_bound : map (bound_at r.module_read.source r.ordinals) (leaves (tree_of r.module_read)) ≡ map (bound_at r.module_read.source q.ordinals) (leaves (tree_of r.module_read))
+  same_bound : map (binding_at r.module_read.source r.ordinals) (leaves (tree_of r.module_read)) ≡ map (binding_at r.module_read.source q.ordinals) (leaves (tree_of r.module_read))
   same_bound =
-      sym (leaves_mapped (bound_at r.module_read.source r.ordinals) (value_at r.module_read.source) (tree_of r.module_read))
-      ∙ (ap leaves (sym h.binding ∙ ((λ i. relabelled as_names with_ordinal (named (source i) (tree i))) ∙ k.binding))
-      ∙ (leaves_mapped (bound_at q.module_read.source q.ordinals) (value_at q.module_read.source) (tree_of q.module_read)
-      ∙ (λ i. map (bound_at (sym source i) q.ordinals) (leaves (sym tree i)))))
+      sym (leaves_mapped (binding_at r.module_read.source r.ordinals) (value_at r.module_read.source) (tree_of r.module_read))
+      ∙ (ap leaves (sym h.binding ∙ ((λ i. relabel_module naming_by_spelling ordinal_and_spelling (tree_with_names (source i) (tree i))) ∙ k.binding))
+      ∙ (leaves_mapped (binding_at q.module_read.source q.ordinals) (value_at q.module_read.source) (tree_of q.module_read)
+      ∙ (λ i. map (binding_at (sym source i) q.ordinals) (leaves (sym tree i)))))
 
   same_ordinal : (token : ℕ) → ordinal_in r.ordinals token ≡ ordinal_in q.ordinals token
-  same_ordinal token = go (is_identifier_of r.module_read token) refl
+  same_ordinal token = go (is_identifier_token r.module_read token) refl
     where
-      go : (b : Bool) → is_identifier_of r.module_read token ≡ b → ordinal_in r.ordinals token ≡ ordinal_in q.ordinals token
+      go : (b : Bool) → is_identifier_token r.module_read token ≡ b → ordinal_in r.ordinals token ≡ ordinal_in q.ordinals token
       go true is = among r.module_read.source r.ordinals q.ordinals (leaves (tree_of r.module_read)) token is same_bound
       go false is = h.names_alone token is ∙ sym (k.names_alone token (ap (λ t. is_among (leaves t) token) (sym tree) ∙ is))
 
-pub one_table : OneTable
-one_table r q h k (source, tree) token = same_ordinal r q h k source tree token
+pub table_is_determined : TableIsDetermined
+table_is_determined r q h k (source, tree) token = same_ordinal r q h k source tree token

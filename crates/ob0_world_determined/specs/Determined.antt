@@ -6,9 +6,9 @@ use Rattle.std.specs.List.{flat_map}
 use Rattle.ob0_frame.specs.Frames.{Frames, frame}
 use Rattle.ob0_frame.specs.Head.{max_content}
 use Rattle.ob0_scope_table.specs.Resolution.{Resolution, IsResolution, ordinal_in}
-use Rattle.ob0_tree.specs.Parsed.{Parsed, tree_of}
+use Rattle.ob0_tree.specs.ParsedModule.{ParsedModule, tree_of}
 use Rattle.ob0_analysis.specs.Diagnosed.{Complaint, Reports}
-use Rattle.ob0_session_server.specs.Answers.{ServerState, start, Reply, SaysReply, Answers, Conversation}
+use Rattle.ob0_session_server.specs.Answers.{ServerState, start, Reply, AreContentsOfReply, Answers, Conversation}
 use Rattle.ob0_session_server.specs.declared.session.Phase.TheVariants.{Ended}
 use Rattle.ob0_session.specs.Serving.{EndsWith, Serves}
 use Rattle.ob0_session.specs.declared.serving.ServeFault.{ServeFault}
@@ -17,42 +17,42 @@ use Rattle.ob0_session.specs.declared.serving.ServeFault.TheVariants.{BadHead, T
 -- ---- diagnostics
 
 -- holds if two parsed modules have the same tokens and the same tree
-abbrev pub AreOneModule : Parsed → Parsed → Type 0
-AreOneModule m n = (m.source ≡ n.source) × (tree_of m ≡ tree_of n)
+abbrev pub AreSameModule : ParsedModule → ParsedModule → Type 0
+AreSameModule m n = (m.source ≡ n.source) × (tree_of m ≡ tree_of n)
 
 -- states that two tables of ordinals for the same module are equal at each token: both have the
 -- same ordinal, or both have none
-abbrev pub OneTable : Type 0
-OneTable =
+abbrev pub TableIsDetermined : Type 0
+TableIsDetermined =
     (r q : Resolution) → IsResolution r → IsResolution q
-    → AreOneModule r.module_read q.module_read
+    → AreSameModule r.module_read q.module_read
     → (token : ℕ) → ordinal_in r.ordinals token ≡ ordinal_in q.ordinals token
 
 -- states that two lists of diagnostics of one text are equal
-abbrev pub OneDiagnosis : Type 0
-OneDiagnosis =
+abbrev pub DiagnosesAreDetermined : Type 0
+DiagnosesAreDetermined =
     (text : List ℕ) (found other : List Complaint)
     → Reports text found → Reports text other → found ≡ other
 
 -- ---- replies
 
 -- states that a reply determines the contents that the session sends for it
-abbrev pub OneReply : Type 0
-OneReply =
+abbrev pub ReplyIsDetermined : Type 0
+ReplyIsDetermined =
     (reply : Reply) (sent other : List (List ℕ))
-    → SaysReply reply sent → SaysReply reply other → sent ≡ other
+    → AreContentsOfReply reply sent → AreContentsOfReply reply other → sent ≡ other
 
 -- states that a content and the state before it determine the replies and the state after it
-abbrev pub OneAnswer : Type 0
-OneAnswer =
+abbrev pub AnswerIsDetermined : Type 0
+AnswerIsDetermined =
     (before : ServerState) (content : List ℕ) (sent other : List (List ℕ)) (after end : ServerState)
     → Answers before content sent after → Answers before content other end
     → (sent ≡ other) × (after ≡ end)
 
 -- states that the state before a conversation and its contents determine the replies and the state
 -- after it
-abbrev pub OneConversation : Type 0
-OneConversation =
+abbrev pub ConversationIsDetermined : Type 0
+ConversationIsDetermined =
     (before : ServerState) (contents sent other : List (List ℕ)) (after end : ServerState)
     → Conversation before contents sent after → Conversation before contents other end
     → (sent ≡ other) × (after ≡ end)
@@ -67,55 +67,55 @@ MayServe result taken put =
     × Serves result taken put ⊤ ⊤ reader_failed writer_failed ⊤
 
 -- holds if the result is neither `Memory` nor `Write`, so that all output has been written
-abbrev pub IsWritten : Result ℕ ServeFault → Type 0
-IsWritten result = (result ≢ Err Memory) × (result ≢ Err Write)
+abbrev pub IsFullyWritten : Result ℕ ServeFault → Type 0
+IsFullyWritten result = (result ≢ Err Memory) × (result ≢ Err Write)
 
 -- holds if the bytes that were read decide the result: it comes from an `exit`, the end of the
 -- input, or a bad head
-abbrev pub IsOfBytes : Result ℕ ServeFault → Type 0
-IsOfBytes (Ok status) = ⊤
-IsOfBytes (Err BadHead) = ⊤
-IsOfBytes (Err Truncated) = ⊤
-IsOfBytes (Err Read) = ⊥
-IsOfBytes (Err TooManyReads) = ⊥
-IsOfBytes (Err Write) = ⊥
-IsOfBytes (Err Memory) = ⊥
+abbrev pub IsDeterminedByBytes : Result ℕ ServeFault → Type 0
+IsDeterminedByBytes (Ok status) = ⊤
+IsDeterminedByBytes (Err BadHead) = ⊤
+IsDeterminedByBytes (Err Truncated) = ⊤
+IsDeterminedByBytes (Err Read) = ⊥
+IsDeterminedByBytes (Err TooManyReads) = ⊥
+IsDeterminedByBytes (Err Write) = ⊥
+IsDeterminedByBytes (Err Memory) = ⊥
 
 -- holds if the result comes from an `exit` or a bad head, so that later bytes make no difference
-abbrev pub IsDecided : Result ℕ ServeFault → List ℕ → List ℕ → Type 0
-IsDecided (Ok status) taken put = EndsWith status taken put
-IsDecided (Err BadHead) taken put = ⊤
-IsDecided (Err Truncated) taken put = ⊥
-IsDecided (Err Read) taken put = ⊥
-IsDecided (Err TooManyReads) taken put = ⊥
-IsDecided (Err Write) taken put = ⊥
-IsDecided (Err Memory) taken put = ⊥
+abbrev pub IsFinalResult : Result ℕ ServeFault → List ℕ → List ℕ → Type 0
+IsFinalResult (Ok status) taken put = EndsWith status taken put
+IsFinalResult (Err BadHead) taken put = ⊤
+IsFinalResult (Err Truncated) taken put = ⊥
+IsFinalResult (Err Read) taken put = ⊥
+IsFinalResult (Err TooManyReads) taken put = ⊥
+IsFinalResult (Err Write) taken put = ⊥
+IsFinalResult (Err Memory) taken put = ⊥
 
 -- States that the output of `serve` for the first bytes of an input is a prefix of its output for
 -- more of that input. The call for more must return neither `Memory` nor `Write`. Suppose that the
 -- first call returns neither of them too. Then the outputs are equal if the inputs are equal, or if
 -- an `exit` or a bad head has ended the first call.
-abbrev pub OneOutput : Type 0
-OneOutput =
-    (taken more put all : List ℕ) (result end : Result ℕ ServeFault) → IsWritten end
+abbrev pub OutputIsDetermined : Type 0
+OutputIsDetermined =
+    (taken more put all : List ℕ) (result end : Result ℕ ServeFault) → IsFullyWritten end
     → MayServe result taken put → MayServe end (taken ++ more) all
     → (unwritten : List ℕ) × (all ≡ put ++ unwritten)
-    × (IsWritten result → IsDecided result taken put ⊎ (more ≡ []) → unwritten ≡ [])
+    × (IsFullyWritten result → IsFinalResult result taken put ⊎ (more ≡ []) → unwritten ≡ [])
 
 -- States that `serve` returns the same result for the same bytes. If an `exit` or a bad head
 -- decided the result, it is also the same for a longer input. The results `Read`, `TooManyReads`,
 -- `Write` and `Memory` are excepted.
-abbrev pub OneResult : Type 0
-OneResult =
+abbrev pub ResultIsDetermined : Type 0
+ResultIsDetermined =
     (taken more put all : List ℕ) (result end : Result ℕ ServeFault)
-    → IsOfBytes result → IsOfBytes end
+    → IsDeterminedByBytes result → IsDeterminedByBytes end
     → MayServe result taken put → MayServe end (taken ++ more) all
-    → IsDecided result taken put ⊎ (more ≡ []) → result ≡ end
+    → IsFinalResult result taken put ⊎ (more ≡ []) → result ≡ end
 
 -- States that each list of bytes can be read as a list of contents and a rest (`Frames`). The
 -- formula is a double negation.
-abbrev pub AListFits : Type 0
-AListFits =
+abbrev pub FramingExists : Type 0
+FramingExists =
     (bytes : List ℕ)
     → ¬ ((contents : List (List ℕ)) (rest : List ℕ) → ¬ (Frames bytes contents rest))
 
@@ -129,19 +129,19 @@ ConversationIsServed =
     (taken sent : List (List ℕ)) (after : ServerState)
     → All (λ content. length content ≤ max_content) taken
     → Conversation start taken sent after
-    → (put : List ℕ) (result : Result ℕ ServeFault) → IsWritten result
+    → (put : List ℕ) (result : Result ℕ ServeFault) → IsFullyWritten result
     → MayServe result (flat_map frame taken) put
     → put ≡ flat_map frame sent
 
 -- States that `serve`, fed with the frames of a conversation and then any bytes, first writes the
 -- frames of the contents that the session sent. This holds unless `serve` returns `Memory` or
 -- `Write`. Each content taken has at most `max_content` bytes.
-abbrev pub ConversationIsServedFirst : Type 0
-ConversationIsServedFirst =
+abbrev pub ConversationIsServedAsPrefix : Type 0
+ConversationIsServedAsPrefix =
     (taken sent : List (List ℕ)) (after : ServerState)
     → All (λ content. length content ≤ max_content) taken
     → Conversation start taken sent after
-    → (more put : List ℕ) (result : Result ℕ ServeFault) → IsWritten result
+    → (more put : List ℕ) (result : Result ℕ ServeFault) → IsFullyWritten result
     → MayServe result (flat_map frame taken ++ more) put
     → (later : List ℕ) × (put ≡ flat_map frame sent ++ later)
 
@@ -155,6 +155,6 @@ EndedConversationIsServed =
     → All (λ content. length content ≤ max_content) taken
     → Conversation start taken sent after
     → after.phase ≡ Ended status
-    → (more put : List ℕ) (result : Result ℕ ServeFault) → IsWritten result
+    → (more put : List ℕ) (result : Result ℕ ServeFault) → IsFullyWritten result
     → MayServe result (flat_map frame taken ++ more) put
     → (put ≡ flat_map frame sent) × (result ≡ Ok status)

@@ -10,8 +10,8 @@ use Rattle.ob0_session.specs.declared.serving.ServeFault.{ServeFault}
 use Rattle.ob0_world_rules.specs.EveryEditor.{Turn}
 use Rattle.serde_json.specs.Data.{Data}
 use Rattle.ob0_session_server.specs.Answers.{ServerState, Conversation}
-use Rattle.ob0_world.specs.Exchanges.{Exchange, BeginsExchange, ExchangeLeads, IsShutdown, IsExit, HoldsOfExchange}
-use Rattle.ob0_world_determined.specs.Determined.{MayServe, IsWritten}
+use Rattle.ob0_world.specs.Exchanges.{Exchange, BeginsExchange, ExchangeCourse, IsShutdown, IsExit, HoldsOfExchange}
+use Rattle.ob0_world_determined.specs.Determined.{MayServe, IsFullyWritten}
 
 -- States the guarantees for an exchange of a session and an editor that keeps ob0's rules, and for
 -- the bytes that `serve` writes for it.
@@ -20,12 +20,12 @@ pub record ServedExchange (begin now : Exchange) : Type 0 where
   -- Fed with the frames of the taken contents, `serve` writes the frames of the sent contents.
   -- Excepted are the results `Memory` and `Write`, and contents longer than `max_content`.
   pub written : All (λ content. length content ≤ max_content) now.wire.taken
-      → (put : List ℕ) (result : Result ℕ ServeFault) → IsWritten result
+      → (put : List ℕ) (result : Result ℕ ServeFault) → IsFullyWritten result
       → MayServe result (flat_map frame now.wire.taken) put
       → put ≡ flat_map frame (now.wire.got ++ now.wire.to_editor)
   -- If more bytes follow the frames in the input, `serve` writes the same frames first.
   pub written_first : All (λ content. length content ≤ max_content) now.wire.taken
-      → (more put : List ℕ) (result : Result ℕ ServeFault) → IsWritten result
+      → (more put : List ℕ) (result : Result ℕ ServeFault) → IsFullyWritten result
       → MayServe result (flat_map frame now.wire.taken ++ more) put
       → (later : List ℕ) × (put ≡ flat_map frame (now.wire.got ++ now.wire.to_editor) ++ later)
   -- If the session then takes `shutdown` and `exit`, `serve` also writes the frame of the answer to
@@ -34,7 +34,7 @@ pub record ServedExchange (begin now : Exchange) : Type 0 where
       → (sent : List (List ℕ)) (end : ServerState)
       → Conversation now.wire.session (shutdown ∷ exit ∷ []) sent end
       → All (λ content. length content ≤ max_content) (now.wire.taken ++ shutdown ∷ exit ∷ [])
-      → (more put : List ℕ) (result : Result ℕ ServeFault) → IsWritten result
+      → (more put : List ℕ) (result : Result ℕ ServeFault) → IsFullyWritten result
       → MayServe result (flat_map frame (now.wire.taken ++ shutdown ∷ exit ∷ []) ++ more) put
       → (put ≡ flat_map frame ((now.wire.got ++ now.wire.to_editor) ++ sent)) × (result ≡ Ok 0)
   -- If `serve` returns `Memory`, it has answered a first part of the contents (`PrefixServed`). If
@@ -48,5 +48,5 @@ abbrev pub EveryExchangeIsServed : Type 0
 EveryExchangeIsServed =
     (unit : Unit) (begin now : Exchange) (turns : List Turn)
     → BeginsExchange unit begin
-    → ExchangeLeads begin turns now
+    → ExchangeCourse begin turns now
     → ServedExchange begin now

@@ -7,41 +7,41 @@ use Rattle.std.proofs.lemmas.Option.{slice_get-map, slice_get_read}
 use Rattle.std.proofs.Math.Seq.{drop-cons}
 use Rattle.ob0_world_editor.specs.declared.editor.SentAsk as requested
 use Rattle.ob0_world_editor.specs.declared.editor.HeldAnswer as answer
-use Rattle.ob0_world_editor.specs.declared.applied.Applying as applying
-use Rattle.ob0_world_editor.specs.declared.editor.Rewritten as rewritten
+use Rattle.ob0_world_editor.specs.declared.applied.ApplyOutcome as applying
+use Rattle.ob0_world_editor.specs.declared.editor.RewrittenDocument as rewritten
 use Rattle.ob0_world_rules.specs.Edited.{Replacement}
 use Rattle.ob0_world_rules.specs.Asks.{Ask}
-use Rattle.ob0_world_rules.specs.ClientAndServer.{Open, SentAsk, Answer, Editor, request_numbered, open_at}
-use Rattle.ob0_world_rules.specs.Editing.{open_document, ask_about, apply, Done, stays, opens, asks, kept_answer, all_but, without_answer, applies, done_by}
-use Rattle.ob0_world_editor.specs.Code.{requested_of, answer_of}
+use Rattle.ob0_world_rules.specs.ClientAndServer.{OpenDocument, SentAsk, Answer, Editor, request_numbered, open_at}
+use Rattle.ob0_world_rules.specs.EditorActs.{open_document, ask_about, apply, ActResult, unchanged_result, opening_result, asks, edits_of_answer, answers_except, without_answer, applying_result, act_result}
+use Rattle.ob0_world_editor.specs.Code.{sent_ask_of, answer_of}
 use Rattle.ob0_world_rules.specs.Edited.{replacements}
-use Rattle.ob0_world_editor.specs.Heard.{IsRequest, IsAsk}
-use Rattle.ob0_world_editor.specs.Moves.{AreFew, SaysSent, Acts, IsPlaceOf, ComesOf, IsRewritten, IsAppliedAs}
+use Rattle.ob0_world_editor.specs.MessagesToServer.{IsRequest, IsAsk}
+use Rattle.ob0_world_editor.specs.Moves.{AreFew, IsSentContent, PerformsAct, IsIndexOfAnswer, IsApplyOutcome, IsRewritten, IsAppliedAs}
 
 -- ---- asks
 
-pub numbered_at : (xs : List requested.SentAsk) (n i : ℕ) (a : requested.SentAsk) → n ≡ suc i → i < length xs → a ≡ get_or xs i a → Some (requested_of a) ≡ request_numbered (map requested_of xs) n
+pub numbered_at : (xs : List requested.SentAsk) (n i : ℕ) (a : requested.SentAsk) → n ≡ suc i → i < length xs → a ≡ get_or xs i a → Some (sent_ask_of a) ≡ request_numbered (map sent_ask_of xs) n
 numbered_at xs n i a is within at =
-    subst (λ m. Some (requested_of a) ≡ request_numbered (map requested_of xs) m) (sym is)
-    (sym (slice_get-map requested_of xs i ∙ ap (option_map requested_of) (slice_get_read xs (length xs) i a refl within at)))
+    subst (λ m. Some (sent_ask_of a) ≡ request_numbered (map sent_ask_of xs) m) (sym is)
+    (sym (slice_get-map sent_ask_of xs i ∙ ap (option_map sent_ask_of) (slice_get_read xs (length xs) i a refl within at)))
 
 past_end : {A : Type 0} (xs : List A) (i : ℕ) → length xs ≤ i → slice_get xs i ≡ None
 past_end [] i h = refl
 past_end (x ∷ xs) zero h = absurd (omega arith)
 past_end (x ∷ xs) (suc i) h = past_end xs i (omega arith)
 
-pub numbered_past : (xs : List requested.SentAsk) (n i : ℕ) → n ≡ suc i → length xs ≤ i → None ≡ request_numbered (map requested_of xs) n
+pub numbered_past : (xs : List requested.SentAsk) (n i : ℕ) → n ≡ suc i → length xs ≤ i → None ≡ request_numbered (map sent_ask_of xs) n
 numbered_past xs n i is past =
-    subst (λ m. None ≡ request_numbered (map requested_of xs) m) (sym is) (sym (slice_get-map requested_of xs i ∙ ap (option_map requested_of) (past_end xs i past)))
+    subst (λ m. None ≡ request_numbered (map sent_ask_of xs) m) (sym is) (sym (slice_get-map sent_ask_of xs i ∙ ap (option_map sent_ask_of) (past_end xs i past)))
 
 -- ---- the place of an answer
 
 -- states that no answer before place i is the answer to ask k
 pub record Looked (xs : List answer.HeldAnswer) (k i : ℕ) : Type 0 where
-  pub held : kept_answer k (map answer_of xs) ≡ kept_answer k (map answer_of (drop i xs))
-  pub rest : all_but k (map answer_of xs) ≡ map answer_of (take i xs) ++ all_but k (map answer_of (drop i xs))
+  pub held : edits_of_answer k (map answer_of xs) ≡ edits_of_answer k (map answer_of (drop i xs))
+  pub rest : answers_except k (map answer_of xs) ≡ map answer_of (take i xs) ++ answers_except k (map answer_of (drop i xs))
 
-pub looked_here : (xs : List answer.HeldAnswer) (k i : ℕ) (a : answer.HeldAnswer) → i < length xs → a ≡ get_or xs i a → a.number == k ≡ true → Looked xs k i → IsPlaceOf xs k (Some i)
+pub looked_here : (xs : List answer.HeldAnswer) (k i : ℕ) (a : answer.HeldAnswer) → i < length xs → a ≡ get_or xs i a → a.number == k ≡ true → Looked xs k i → IsIndexOfAnswer xs k (Some i)
 looked_here xs k i a h at this looked =
     let cut : drop i xs ≡ a ∷ drop (suc i) xs = drop-cons xs i a h ∙ ap (λ x. x ∷ drop (suc i) xs) (sym at) in (
       h,
@@ -50,66 +50,66 @@ looked_here xs k i a h at this looked =
     )
 
 -- If the editor has no answer to ask k, removing it changes nothing.
-pub none_goes : (k : ℕ) (list : List Answer) → kept_answer k list ≡ None → all_but k list ≡ list
+pub none_goes : (k : ℕ) (list : List Answer) → edits_of_answer k list ≡ None → answers_except k list ≡ list
 none_goes k [] h = refl
 none_goes k (a ∷ rest) h = go (a.number == k) h (none_goes k rest)
   where
-    go : (b : Bool) → cond b (Some a.edits) (kept_answer k rest) ≡ None → (kept_answer k rest ≡ None → all_but k rest ≡ rest) → cond b rest (a ∷ all_but k rest) ≡ a ∷ rest
+    go : (b : Bool) → cond b (Some a.edits) (edits_of_answer k rest) ≡ None → (edits_of_answer k rest ≡ None → answers_except k rest ≡ rest) → cond b rest (a ∷ answers_except k rest) ≡ a ∷ rest
     go true h next = absurd (cc)
     go false h next = ap (λ xs. a ∷ xs) (next h)
 
 -- ---- the outcome for an answer
 
-pub edits_at : (xs : List answer.HeldAnswer) (i : ℕ) (a : answer.HeldAnswer) → i < length xs → a ≡ get_or xs i a → Some (replacements a.edits.items) ≡ option_map (λ (x : answer.HeldAnswer). replacements x.edits.items) (slice_get xs i)
-edits_at xs i a h at = sym (ap (option_map (λ (x : answer.HeldAnswer). replacements x.edits.items)) (slice_get_read xs (length xs) i a refl h at))
+pub use_edits : (xs : List answer.HeldAnswer) (i : ℕ) (a : answer.HeldAnswer) → i < length xs → a ≡ get_or xs i a → Some (replacements a.edits.items) ≡ option_map (λ (x : answer.HeldAnswer). replacements x.edits.items) (slice_get xs i)
+use_edits xs i a h at = sym (ap (option_map (λ (x : answer.HeldAnswer). replacements x.edits.items)) (slice_get_read xs (length xs) i a refl h at))
 
 -- An editor with one answer less still has room for its counts.
 pub few_without : (e : Editor) (k : ℕ) → AreFew e → AreFew (without_answer e k)
 few_without e k few = record { openings = few.openings; asks = few.asks; versions = few.versions }
 
 -- The outcome for an answer that the editor doesn't have is `NotHeld`.
-pub comes_not_held : (e : Editor) (k : ℕ) (o : Option (List Replacement)) → o ≡ kept_answer k e.answers → o ≡ None → ComesOf (done_by e (apply k)) (is_some (kept_answer k e.answers)) applying.TheVariants.NotHeld (without_answer e k)
+pub comes_not_held : (e : Editor) (k : ℕ) (o : Option (List Replacement)) → o ≡ edits_of_answer k e.answers → o ≡ None → IsApplyOutcome (act_result e (apply k)) (is_some (edits_of_answer k e.answers)) applying.TheVariants.NotHeld (without_answer e k)
 comes_not_held e k o is none =
-    let absent : kept_answer k e.answers ≡ None = sym is ∙ none in
-    subst (λ x. ComesOf (unwrap_or (option_and_then (applies (without_answer e k) k) x) (stays (without_answer e k))) (is_some x) applying.TheVariants.NotHeld (without_answer e k)) (sym absent)
+    let absent : edits_of_answer k e.answers ≡ None = sym is ∙ none in
+    subst (λ x. IsApplyOutcome (unwrap_or (option_and_then (applying_result (without_answer e k) k) x) (unchanged_result (without_answer e k))) (is_some x) applying.TheVariants.NotHeld (without_answer e k)) (sym absent)
     ((refl, refl, refl), refl)
 
 -- The outcome for an answer whose edits can't be applied is `Dropped`.
-pub comes_dropped : (e rest : Editor) (k : ℕ) (edits : List Replacement) → kept_answer k e.answers ≡ Some edits → rest ≡ without_answer e k → IsRewritten rest (applies rest k edits) None → ComesOf (done_by e (apply k)) (is_some (kept_answer k e.answers)) applying.TheVariants.Dropped rest
+pub comes_dropped : (e rest : Editor) (k : ℕ) (edits : List Replacement) → edits_of_answer k e.answers ≡ Some edits → rest ≡ without_answer e k → IsRewritten rest (applying_result rest k edits) None → IsApplyOutcome (act_result e (apply k)) (is_some (edits_of_answer k e.answers)) applying.TheVariants.Dropped rest
 comes_dropped e rest k edits held is made =
-    subst (λ (r : Editor). ComesOf (done_by e (apply k)) (is_some (kept_answer k e.answers)) applying.TheVariants.Dropped r) (sym is)
-    (subst (λ x. ComesOf (unwrap_or (option_and_then (applies (without_answer e k) k) x) (stays (without_answer e k))) (is_some x) applying.TheVariants.Dropped (without_answer e k)) (sym held)
-    (go (applies (without_answer e k) k edits) (subst (λ r. IsRewritten r (applies r k edits) None) is made)))
+    subst (λ (r : Editor). IsApplyOutcome (act_result e (apply k)) (is_some (edits_of_answer k e.answers)) applying.TheVariants.Dropped r) (sym is)
+    (subst (λ x. IsApplyOutcome (unwrap_or (option_and_then (applying_result (without_answer e k) k) x) (unchanged_result (without_answer e k))) (is_some x) applying.TheVariants.Dropped (without_answer e k)) (sym held)
+    (go (applying_result (without_answer e k) k edits) (subst (λ r. IsRewritten r (applying_result r k edits) None) is made)))
   where
-    go : (o : Option Done) → IsRewritten (without_answer e k) o None → ComesOf (unwrap_or o (stays (without_answer e k))) true applying.TheVariants.Dropped (without_answer e k)
+    go : (o : Option ActResult) → IsRewritten (without_answer e k) o None → IsApplyOutcome (unwrap_or o (unchanged_result (without_answer e k))) true applying.TheVariants.Dropped (without_answer e k)
     go None h = ((refl, refl, refl), refl)
     go (Some done) h = absurd h
 
 -- The outcome for an answer whose edits were made is `Made`.
-pub comes_made : (e rest new : Editor) (k : ℕ) (edits : List Replacement) (r : rewritten.Rewritten) (a : applying.Applying) → kept_answer k e.answers ≡ Some edits → rest ≡ without_answer e k → IsRewritten rest (applies rest k edits) (Some r) → IsAppliedAs rest r a new
-    → ComesOf (done_by e (apply k)) (is_some (kept_answer k e.answers)) a new
+pub comes_made : (e rest new : Editor) (k : ℕ) (edits : List Replacement) (r : rewritten.RewrittenDocument) (a : applying.ApplyOutcome) → edits_of_answer k e.answers ≡ Some edits → rest ≡ without_answer e k → IsRewritten rest (applying_result rest k edits) (Some r) → IsAppliedAs rest r a new
+    → IsApplyOutcome (act_result e (apply k)) (is_some (edits_of_answer k e.answers)) a new
 comes_made e rest new k edits r applying.TheVariants.NotHeld held is made applied = absurd applied
 comes_made e rest new k edits r applying.TheVariants.Dropped held is made applied = absurd applied
 comes_made e rest new k edits r (applying.TheVariants.Made a content) held is made applied =
-    subst (λ x. ComesOf (unwrap_or (option_and_then (applies (without_answer e k) k) x) (stays (without_answer e k))) (is_some x) (applying.TheVariants.Made a content) new) (sym held)
-    (go (applies (without_answer e k) k edits) (subst (λ x. IsRewritten x (applies x k edits) (Some r)) is made) (subst (λ x. IsAppliedAs x r (applying.TheVariants.Made a content) new) is applied))
+    subst (λ x. IsApplyOutcome (unwrap_or (option_and_then (applying_result (without_answer e k) k) x) (unchanged_result (without_answer e k))) (is_some x) (applying.TheVariants.Made a content) new) (sym held)
+    (go (applying_result (without_answer e k) k edits) (subst (λ x. IsRewritten x (applying_result x k edits) (Some r)) is made) (subst (λ x. IsAppliedAs x r (applying.TheVariants.Made a content) new) is applied))
   where
-    go : (o : Option Done) → IsRewritten (without_answer e k) o (Some r) → IsAppliedAs (without_answer e k) r (applying.TheVariants.Made a content) new → ComesOf (unwrap_or o (stays (without_answer e k))) true (applying.TheVariants.Made a content) new
+    go : (o : Option ActResult) → IsRewritten (without_answer e k) o (Some r) → IsAppliedAs (without_answer e k) r (applying.TheVariants.Made a content) new → IsApplyOutcome (unwrap_or o (unchanged_result (without_answer e k))) true (applying.TheVariants.Made a content) new
     go None h applied = absurd h
     go (Some done) h (is_new, is_applied, says) = (
-      (is_new ∙ sym h.text, subst (λ sent. SaysSent new.requested sent (Some content)) (sym h.says) (says, refl)),
+      (is_new ∙ sym h.text, subst (λ sent. IsSentContent new.requested sent (Some content)) (sym h.says) (says, refl)),
       h.applied ∙ ap (λ x. x ∷ []) (sym is_applied),
       refl,
     )
 
 -- ---- documents
 
--- Opening a document that isn't open has the result that `opens` defines.
-pub opens_so : (e new : Editor) (uri text : List ℕ) (content : Option (Vec ℕ Global)) → open_at e uri ≡ None → Acts (opens e uri text) content new → Acts (done_by e (open_document uri text)) content new
-opens_so e new uri text content none acts = subst (λ o. Acts (cond (is_some o) (stays e) (opens e uri text)) content new) (sym none) acts
+-- Opening a document that isn't open has the result that `opening_result` defines.
+pub opens_so : (e new : Editor) (uri text : List ℕ) (content : Option (Vec ℕ Global)) → open_at e uri ≡ None → PerformsAct (opening_result e uri text) content new → PerformsAct (act_result e (open_document uri text)) content new
+opens_so e new uri text content none acts = subst (λ o. PerformsAct (cond (is_some o) (unchanged_result e) (opening_result e uri text)) content new) (sym none) acts
 
-pub open_already : (e new : Editor) (uri text : List ℕ) (d : Open) → open_at e uri ≡ Some d → new ≡ e → Acts (done_by e (open_document uri text)) None new
-open_already e new uri text d at is = subst (λ o. Acts (cond (is_some o) (stays e) (opens e uri text)) None new) (sym at) (is, tt)
+pub open_already : (e new : Editor) (uri text : List ℕ) (d : OpenDocument) → open_at e uri ≡ Some d → new ≡ e → PerformsAct (act_result e (open_document uri text)) None new
+open_already e new uri text d at is = subst (λ o. PerformsAct (cond (is_some o) (unchanged_result e) (opening_result e uri text)) None new) (sym at) (is, tt)
 
 -- ---- asking
 
@@ -118,15 +118,15 @@ slice_get_last [] x = refl
 slice_get_last (y ∷ xs) x = slice_get_last xs x
 
 -- The editor has sent one more request, and the content is that request.
-pub asks_once_more : (e new : Editor) (uri : List ℕ) (ask : Ask) (d : Open) (content : Vec ℕ Global) (n : ℕ) (older : List requested.SentAsk) (this : requested.SentAsk) → open_at e uri ≡ Some d → map requested_of older ≡ e.requested → n ≡ length older
-    → requested_of this ≡ record { ask = ask; uri = uri; text = d.text; opening = d.opening; version = d.version } → new ≡ record e { requested = map requested_of (older ++ this ∷ []) } → IsRequest (n + 1) uri ask content.items
-    → Acts (done_by e (ask_about uri ask)) (Some content) new
+pub asks_once_more : (e new : Editor) (uri : List ℕ) (ask : Ask) (d : OpenDocument) (content : Vec ℕ Global) (n : ℕ) (older : List requested.SentAsk) (this : requested.SentAsk) → open_at e uri ≡ Some d → map sent_ask_of older ≡ e.requested → n ≡ length older
+    → sent_ask_of this ≡ record { ask = ask; uri = uri; text = d.text; opening = d.opening; version = d.version } → new ≡ record e { requested = map sent_ask_of (older ++ this ∷ []) } → IsRequest (n + 1) uri ask content.items
+    → PerformsAct (act_result e (ask_about uri ask)) (Some content) new
 asks_once_more e new uri ask d content n older this at were count is is_new request =
     let a : SentAsk = record { ask = ask; uri = uri; text = d.text; opening = d.opening; version = d.version } in
-    let grown : map requested_of (older ++ this ∷ []) ≡ e.requested ++ a ∷ [] = map-append requested_of older (this ∷ []) ∙ (λ i. were i ++ is i ∷ []) in
+    let grown : map sent_ask_of (older ++ this ∷ []) ≡ e.requested ++ a ∷ [] = map-append sent_ask_of older (this ∷ []) ∙ (λ i. were i ++ is i ∷ []) in
     let now : new ≡ record e { requested = e.requested ++ a ∷ [] } = is_new ∙ (λ i. record e { requested = grown i }) in
-    let number : n + 1 ≡ suc (length e.requested) = rw add-one (ap suc (count ∙ sym (length-map older requested_of) ∙ ap length were)) in
-    subst (λ o. Acts (unwrap_or (option_and_then (λ d. Some (asks e uri ask d)) o) (stays e)) (Some content) new) (sym at) (
+    let number : n + 1 ≡ suc (length e.requested) = rw add-one (ap suc (count ∙ sym (length-map older sent_ask_of) ∙ ap length were)) in
+    subst (λ o. PerformsAct (unwrap_or (option_and_then (λ d. Some (asks e uri ask d)) o) (unchanged_result e)) (Some content) new) (sym at) (
       now,
       (
         (subst (λ k. IsRequest k uri ask content.items) number request, subst (λ (x : Editor). IsAsk x.requested (suc (length e.requested)) uri ask) (sym now) (record { sent = a; is = slice_get_last e.requested a; about = refl; asks_this = refl })),

@@ -7,7 +7,7 @@ use Rattle.serde_json.specs.View.{view, items_view}
 use Rattle.serde_json.specs.declared.value.Value.{Value}
 use Rattle.ob0_text.specs.declared.edits.Edit.{Edit}
 use Rattle.ob0_world_rules.specs.Edited.{Replacement, replacement_of, replacements}
-use Rattle.ob0_world_editor.specs.Understood.{edit_in, edits_in}
+use Rattle.ob0_world_editor.specs.MessagesToEditor.{edit_in, edits_in}
 
 abbrev pub HasRead : List Value → ℕ → List Edit → Type 0
 HasRead values i edits = edits_in (items_view values) ≡ option_map (λ es. replacements edits ++ es) (edits_in (items_view (drop i values)))

@@ -8,15 +8,15 @@ use Rattle.serde_json.specs.View.{items_of}
 use Rattle.ob0_text.specs.declared.edits.Change.{Change}
 use Rattle.ob0_text.specs.declared.edits.Indent.TheVariants.{Tab, Spaces}
 use Rattle.ob0_text.specs.declared.position_types.Range.{Range}
-use Rattle.ob0_text.specs.OpenDocuments.{Opened, Changed, Closed, TextChange, change_in_text}
+use Rattle.ob0_text.specs.OpenDocuments.{Opened, Changed, Closed, TextChange, text_change_of}
 use Rattle.ob0_rpc.specs.Requesting.{request_by_method}
 use Rattle.ob0_rpc.specs.Messages.{ReadsContent}
-use Rattle.ob0_rpc.specs.Notifications.{change_in, all_changes, change_of, open_of}
+use Rattle.ob0_rpc.specs.Notifications.{content_change, all_changes, change_or_unreadable, open_or_unreadable}
 use Rattle.ob0_rpc.specs.Shapes.{notification_message}
-use Rattle.ob0_world_rules.specs.Edited.{whole_text}
+use Rattle.ob0_world_rules.specs.Edited.{whole_text_change}
 use Rattle.ob0_world_rules.specs.Asks.{Ask, rename, inline_here, inline_all, format}
 use Rattle.ob0_world_editor.specs.Shapes.{request_message, change_object, change_value, change_params, open_params, close_params, params_for, method_of}
-use Rattle.ob0_world_editor.specs.Heard.{IsNote, IsRequest, call_for}
+use Rattle.ob0_world_editor.specs.MessagesToServer.{IsNotificationFor, IsRequest, client_request_for}
 
 -- ---- depths
 
@@ -40,11 +40,11 @@ shallow_request k uri (format (Spaces n)) = omega arith
 
 -- ---- changes are read back
 
-read_back : (range : Option Range) (new : List ℕ) → change_in (change_object range new) ≡ Some (record { range = range; text = chars new })
+read_back : (range : Option Range) (new : List ℕ) → content_change (change_object range new) ≡ Some (record { range = range; text = chars new })
 read_back (Some range) new = refl
 read_back None new = refl
 
-changes_read_back : (cs : List Change) → all_changes (items_of (map change_value cs)) ≡ Some (map change_in_text cs)
+changes_read_back : (cs : List Change) → all_changes (items_of (map change_value cs)) ≡ Some (map text_change_of cs)
 changes_read_back [] = refl
 changes_read_back (c ∷ cs) = rw (read_back c.range (string_bytes c.text), changes_read_back cs) refl
 
@@ -58,7 +58,7 @@ version_read n h = rw (lt_true n (2 ^ 63) h) refl
 -- ---- notes
 
 pub opening_reported : (content uri : List ℕ) (version : ℕ) (text : List ℕ) → version < 2 ^ 63 → ReadsContent content (Some (notification_message (codes "textDocument/didOpen") (open_params uri version text)))
-    → IsNote (Opened uri (pos version) (chars text)) content
+    → IsNotificationFor (Opened uri (pos version) (chars text)) content
 opening_reported content uri version text h reads =
     record {
       json = notification_message (codes "textDocument/didOpen") (open_params uri version text);
@@ -66,12 +66,12 @@ opening_reported content uri version text h reads =
       method = codes "textDocument/didOpen";
       params = open_params uri version text;
       means = refl;
-      reported = ap (λ v. open_of (Some uri) v (Some (chars text))) (version_read version h);
+      reported = ap (λ v. open_or_unreadable (Some uri) v (Some (chars text))) (version_read version h);
       fits = version_read version h;
     }
 
 changed_so : (content uri : List ℕ) (version : ℕ) (values : List Data) (all : List TextChange) → version < 2 ^ 63 → all_changes (items_of values) ≡ Some all
-    → ReadsContent content (Some (notification_message (codes "textDocument/didChange") (change_params uri version values))) → IsNote (Changed uri (pos version) all) content
+    → ReadsContent content (Some (notification_message (codes "textDocument/didChange") (change_params uri version values))) → IsNotificationFor (Changed uri (pos version) all) content
 changed_so content uri version values all h are reads =
     record {
       json = notification_message (codes "textDocument/didChange") (change_params uri version values);
@@ -79,19 +79,19 @@ changed_so content uri version values all h are reads =
       method = codes "textDocument/didChange";
       params = change_params uri version values;
       means = refl;
-      reported = (λ i. change_of (Some uri) (version_read version h i) (are i));
+      reported = (λ i. change_or_unreadable (Some uri) (version_read version h i) (are i));
       fits = version_read version h;
     }
 
 pub changing_reported : (content uri : List ℕ) (version : ℕ) (cs : List Change) → version < 2 ^ 63 → ReadsContent content (Some (notification_message (codes "textDocument/didChange") (change_params uri version (map change_value cs))))
-    → IsNote (Changed uri (pos version) (map change_in_text cs)) content
-changing_reported content uri version cs h reads = changed_so content uri version (map change_value cs) (map change_in_text cs) h (changes_read_back cs) reads
+    → IsNotificationFor (Changed uri (pos version) (map text_change_of cs)) content
+changing_reported content uri version cs h reads = changed_so content uri version (map change_value cs) (map text_change_of cs) h (changes_read_back cs) reads
 
 pub rewriting_reported : (content uri : List ℕ) (version : ℕ) (text : List ℕ) → version < 2 ^ 63 → ReadsContent content (Some (notification_message (codes "textDocument/didChange") (change_params uri version (change_object None text ∷ []))))
-    → IsNote (Changed uri (pos version) (whole_text (chars text) ∷ [])) content
-rewriting_reported content uri version text h reads = changed_so content uri version (change_object None text ∷ []) (whole_text (chars text) ∷ []) h refl reads
+    → IsNotificationFor (Changed uri (pos version) (whole_text_change (chars text) ∷ [])) content
+rewriting_reported content uri version text h reads = changed_so content uri version (change_object None text ∷ []) (whole_text_change (chars text) ∷ []) h refl reads
 
-pub closing_reported : (content uri : List ℕ) → ReadsContent content (Some (notification_message (codes "textDocument/didClose") (close_params uri))) → IsNote (Closed uri) content
+pub closing_reported : (content uri : List ℕ) → ReadsContent content (Some (notification_message (codes "textDocument/didClose") (close_params uri))) → IsNotificationFor (Closed uri) content
 closing_reported content uri reads =
     record {
       json = notification_message (codes "textDocument/didClose") (close_params uri);
@@ -109,7 +109,7 @@ pub ask_requested : (content : List ℕ) (k : ℕ) (uri : List ℕ) (ask : Ask) 
 ask_requested content k uri ask reads =
     record { json = request_message k (method_of ask) (params_for uri ask); reads = reads; params = params_for uri ask; means = refl; calls = called ask }
   where
-    called : (ask : Ask) → request_by_method (method_of ask) (params_for uri ask) ≡ Ok (call_for uri ask)
+    called : (ask : Ask) → request_by_method (method_of ask) (params_for uri ask) ≡ Ok (client_request_for uri ask)
     called (rename position name) = refl
     called (inline_here position) = refl
     called (inline_all position) = refl

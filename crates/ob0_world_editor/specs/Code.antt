@@ -9,7 +9,7 @@ use Rattle.ob0_world_editor.specs.declared.reading.Message as message
 use Rattle.ob0_world_editor.specs.declared.applied.Applied as applied
 use Rattle.ob0_world_rules.specs.Edited.{replacements}
 use Rattle.ob0_world_rules.specs.Asks.{Ask, rename, inline_here, inline_all, format}
-use Rattle.ob0_world_rules.specs.ClientAndServer.{SentAsk, Answer, Applied, ToEditor, publishes, answers}
+use Rattle.ob0_world_rules.specs.ClientAndServer.{SentAsk, Answer, Applied, MessageToEditor, publishes, answers}
 
 -- returns the ask that a value of the code means
 abbrev pub ask_of : ask.Ask → Ask
@@ -19,8 +19,8 @@ ask_of (ask.TheVariants.InlineAll position) = inline_all position
 ask_of (ask.TheVariants.Format indent) = format indent
 
 -- returns the sent request that a value of the code means
-abbrev pub requested_of : requested.SentAsk → SentAsk
-requested_of a =
+abbrev pub sent_ask_of : requested.SentAsk → SentAsk
+sent_ask_of a =
     record {
       ask = ask_of a.ask;
       uri = string_bytes a.uri;
@@ -34,7 +34,7 @@ abbrev pub answer_of : answer.HeldAnswer → Answer
 answer_of a = record { number = a.number; edits = replacements a.edits.items }
 
 -- returns the message to the editor that a value of the code means
-abbrev pub message_of : message.Message → ToEditor
+abbrev pub message_of : message.Message → MessageToEditor
 message_of (message.TheVariants.Published uri version empty) =
     publishes (string_bytes uri) version empty
 message_of (message.TheVariants.Answered number edits) = answers number (replacements edits.items)

@@ -1,7 +1,7 @@
 pub mod Code
 pub mod Shapes
-pub mod Heard
-pub mod Understood
+pub mod MessagesToServer
+pub mod MessagesToEditor
 pub mod Entries
 pub mod Moves
-pub mod Beginning
+pub mod InitializeRequest

@@ -9,21 +9,21 @@ use Rattle.ob0_text.specs.declared.position_types.Range.{Range}
 use Rattle.ob0_text.specs.declared.edits.Change.{Change}
 use Rattle.ob0_text.specs.declared.edits.Indent.{Indent}
 use Rattle.ob0_text.specs.declared.edits.Indent.TheVariants.{Tab, Spaces}
-use Rattle.ob0_rpc.specs.Shapes.{text, json_rpc, position_value, range_value}
+use Rattle.ob0_rpc.specs.Shapes.{text, jsonrpc_version, position_value, range_value}
 use Rattle.ob0_world_rules.specs.Asks.{Ask, rename, inline_here, inline_all, format}
 
 -- returns a request with the number k as its id: {"id":k,"jsonrpc":"2.0","method":M,"params":P}
 abbrev pub request_message : ℕ → List ℕ → Data → Data
 request_message k method params =
-    object (member (codes "id") (number (unsigned k)) (member (codes "jsonrpc") json_rpc
+    object (member (codes "id") (number (unsigned k)) (member (codes "jsonrpc") jsonrpc_version
     (member (codes "method") (text method) (member (codes "params") params no_members))))
 
 -- ---- notifications
 
 -- Returns a document that is opened:
 -- {"languageId":"oberon-0","text":t,"uri":u,"version":v}
-abbrev pub opened_value : List ℕ → ℕ → List ℕ → Data
-opened_value uri version contents =
+abbrev pub opened_document_value : List ℕ → ℕ → List ℕ → Data
+opened_document_value uri version contents =
     object (member (codes "languageId") (text (codes "oberon-0"))
     (member (codes "text") (text contents)
     (member (codes "uri") (text uri)
@@ -32,7 +32,7 @@ opened_value uri version contents =
 -- returns the params of `textDocument/didOpen`: {"textDocument":{..}}
 abbrev pub open_params : List ℕ → ℕ → List ℕ → Data
 open_params uri version contents =
-    object (member (codes "textDocument") (opened_value uri version contents) no_members)
+    object (member (codes "textDocument") (opened_document_value uri version contents) no_members)
 
 -- returns a change: {"range":R,"text":t}, or {"text":t} if the whole text is replaced
 abbrev pub change_object : Option Range → List ℕ → Data
@@ -46,8 +46,8 @@ abbrev pub change_value : Change → Data
 change_value c = change_object c.range (string_bytes c.text)
 
 -- returns a document's identifier with a version: {"uri":u,"version":v}
-abbrev pub versioned_value : List ℕ → ℕ → Data
-versioned_value uri version =
+abbrev pub versioned_document_value : List ℕ → ℕ → Data
+versioned_document_value uri version =
     object (member (codes "uri") (text uri)
     (member (codes "version") (number (unsigned version)) no_members))
 
@@ -56,7 +56,7 @@ versioned_value uri version =
 abbrev pub change_params : List ℕ → ℕ → List Data → Data
 change_params uri version changes =
     object (member (codes "contentChanges") (array (items_of changes))
-    (member (codes "textDocument") (versioned_value uri version) no_members))
+    (member (codes "textDocument") (versioned_document_value uri version) no_members))
 
 -- returns a document's identifier: {"uri":u}
 abbrev pub document_value : List ℕ → Data
@@ -75,31 +75,31 @@ rename_params uri position name =
     (position_value position) (member (codes "textDocument") (document_value uri) no_members)))
 
 -- returns the empty range at a position
-abbrev pub empty_at : Position → Range
-empty_at position = record { start = position; end = position }
+abbrev pub empty_range_at : Position → Range
+empty_range_at position = record { start = position; end = position }
 
 -- the context of a request for code actions: {"diagnostics":[]}
-abbrev pub diagnostics_of_none : Data
-diagnostics_of_none = object (member (codes "diagnostics") (array no_items) no_members)
+abbrev pub empty_diagnostics : Data
+empty_diagnostics = object (member (codes "diagnostics") (array no_items) no_members)
 
 -- Returns the params of a request for the code actions at a position:
 -- {"context":{"diagnostics":[]},"range":R,"textDocument":{"uri":u}}
 abbrev pub actions_params : List ℕ → Position → Data
 actions_params uri position =
-    object (member (codes "context") diagnostics_of_none
+    object (member (codes "context") empty_diagnostics
     (member (codes "range") (range_value position position)
     (member (codes "textDocument") (document_value uri) no_members)))
 
 -- returns formatting options: {"insertSpaces":b,"tabSize":n}
-abbrev pub options_by : Bool → ℕ → Data
-options_by spaces size =
+abbrev pub indent_options : Bool → ℕ → Data
+indent_options spaces size =
     object (member (codes "insertSpaces") (boolean spaces)
     (member (codes "tabSize") (number (unsigned size)) no_members))
 
 -- returns the formatting options for an indent, as a JSON value
 abbrev pub options_value : Indent → Data
-options_value Tab = options_by false 1
-options_value (Spaces n) = options_by true n
+options_value Tab = indent_options false 1
+options_value (Spaces n) = indent_options true n
 
 -- returns the params of a formatting request: {"options":{..},"textDocument":{"uri":u}}
 abbrev pub formatting_params : List ℕ → Indent → Data

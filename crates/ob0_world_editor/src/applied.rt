@@ -15,7 +15,7 @@ pub struct Applied {
 
 /// The result of applying an answer.
 #[derive(Drop)]
-pub enum Applying {
+pub enum ApplyOutcome {
     /// The editor has no answer with this number.
     NotHeld,
     /// The answer was discarded: its document has been changed, closed or reopened since the

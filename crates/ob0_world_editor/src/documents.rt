@@ -11,26 +11,26 @@ use std::marker::Model;
 
 /// A document that is open in the editor: its version, its text and the number of its opening.
 #[derive(Drop)]
-pub struct Open {
+pub struct OpenDocument {
     pub version: u64,
     pub text: String,
     /// Each opening of a document has its own number.
     pub opening: u64,
 }
 
-impl Open {
+impl OpenDocument {
     /// Returns a document with a copy of this text.
     pub fn with_text(
         alloc: Global,
         version: u64,
         text: &str,
         opening: u64,
-    ) -> Result<Open, AllocError>
+    ) -> Result<OpenDocument, AllocError>
         ensures { IfOk result (λ d. open_document d
             ≡ record { version = pos version; text = chars text.now; opening = opening }) }
     {
         let text = String::from_str(alloc, text)?;
-        Ok(Open {
+        Ok(OpenDocument {
             version,
             text,
             opening,
@@ -41,7 +41,7 @@ impl Open {
 /// The open documents, by their uris.
 #[derive(Drop)]
 pub struct OpenDocuments {
-    by_uri: BTreeMap<String, Open>,
+    by_uri: BTreeMap<String, OpenDocument>,
 }
 
 impl Model for OpenDocuments {
@@ -66,14 +66,19 @@ impl OpenDocuments {
     }
 
     /// Returns the open document with this uri. None if it isn't open.
-    pub fn get(&self, uri: &str) -> Option<&Open>
+    pub fn get(&self, uri: &str) -> Option<&OpenDocument>
         ensures { option_map (λ d. open_document d.now) result ≡ map_of.get self.now uri.now }
     {
         self.by_uri.get(uri)
     }
 
     /// Opens a document, or replaces an open one. If an allocation fails, the documents are unchanged.
-    pub fn put(&mut self, alloc: Global, uri: &str, document: Open) -> Result<(), AllocError>
+    pub fn put(
+        &mut self,
+        alloc: Global,
+        uri: &str,
+        document: OpenDocument,
+    ) -> Result<(), AllocError>
         ensures ok { OnOk result
             (self.new ≡ map_of.insert self.old uri.now (open_document document)) }
         ensures err { OnErr result (self.new ≡ self.old) }

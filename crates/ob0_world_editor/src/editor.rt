@@ -9,19 +9,19 @@
 //! needs no invariant about the units of its stores.
 ghost use Rattle.std.specs.Prelude.{◌≡◌, IfOk, OnOk, OnErr, map, option_map, is_some, ◌<◌, ◌-◌, ◌^◌, pos, string_bytes};
 ghost use Rattle.std.specs.Str.{chars};
-ghost use Rattle.ob0_text.specs.OpenDocuments.{change_in_text};
+ghost use Rattle.ob0_text.specs.OpenDocuments.{text_change_of};
 ghost use Rattle.ob0_world_rules.specs.ClientAndServer.{answers, new_editor};
-ghost use Rattle.ob0_world_rules.specs.Editing as acts;
-ghost use Rattle.ob0_world_rules.specs.Editing.{change_document, close_document, ask_about, apply, applies, done_by, kept_answer, reads, without_answer};
-ghost use Rattle.ob0_world_editor.specs.Code.{ask_of, message_of, requested_of};
+ghost use Rattle.ob0_world_rules.specs.EditorActs as acts;
+ghost use Rattle.ob0_world_rules.specs.EditorActs.{change_document, close_document, ask_about, apply, applying_result, act_result, edits_of_answer, reads, without_answer};
+ghost use Rattle.ob0_world_editor.specs.Code.{ask_of, message_of, sent_ask_of};
 ghost use Rattle.ob0_world_editor.specs.Entries.{open_document};
 ghost use Rattle.ob0_world_rules.specs.Edited.{edited, replacements};
-ghost use Rattle.ob0_world_editor.specs.Moves.{AreFew, Acts, ComesOf, has_edits, with_edits, IsRewritten, IsAppliedAs, StoresRewritten, IsPlaceOf};
-ghost use Rattle.ob0_world_editor.specs.Understood.{understood};
+ghost use Rattle.ob0_world_editor.specs.Moves.{AreFew, PerformsAct, IsApplyOutcome, has_edits, editing_result, IsRewritten, IsAppliedAs, StoresRewritten, IsIndexOfAnswer};
+ghost use Rattle.ob0_world_editor.specs.MessagesToEditor.{message_to_editor_in};
 
-use crate::applied::{Applied, Applying, applied_edit};
+use crate::applied::{Applied, ApplyOutcome, applied_edit};
 use crate::asks::{Ask, copy_of};
-use crate::documents::{Open, OpenDocuments};
+use crate::documents::{OpenDocument, OpenDocuments};
 use crate::reading::{Message, numbered_ask, read_message};
 use crate::texts::{apply_changes, apply_edits};
 use crate::writing::{did_change, did_close, did_open, did_rewrite, request};
@@ -49,7 +49,7 @@ pub struct HeldAnswer {
 /// An applied edit (`applied.after` is the new text of the document), with the document's new
 /// version and its opening.
 #[derive(Drop)]
-struct Rewritten {
+struct RewrittenDocument {
     applied: Applied,
     version: u64,
     opening: u64,
@@ -71,7 +71,7 @@ impl Model for Editor {
     ghost use Rattle.std.specs.Prelude.{map};
     ghost use Rattle.std.specs.Coded.{codes};
     ghost use Rattle.ob0_world_rules.specs.ClientAndServer.{Editor};
-    ghost use Rattle.ob0_world_editor.specs.Code.{requested_of, answer_of};
+    ghost use Rattle.ob0_world_editor.specs.Code.{sent_ask_of, answer_of};
     ghost use Rattle.ob0_world_editor.specs.Entries.{open_documents_code};
 
     ghost Value = { Editor };
@@ -82,7 +82,7 @@ impl Model for Editor {
       unit = e.unit;
       documents = e.documents;
       openings = e.openings;
-      requested = map requested_of e.requested.items;
+      requested = map sent_ask_of e.requested.items;
       answers = map answer_of e.answers.items;
     } };
 }
@@ -106,8 +106,8 @@ impl Editor {
     /// the editor is unchanged.
     pub fn open(&mut self, uri: &str, text: &str) -> Result<Option<Vec<u8>>, AllocError>
         requires { AreFew self.old }
-        ensures ok { IfOk result (λ content. Acts
-            (done_by self.old (acts.open_document uri.now (chars text.now))) content self.new) }
+        ensures ok { IfOk result (λ content. PerformsAct
+            (act_result self.old (acts.open_document uri.now (chars text.now))) content self.new) }
         ensures err { OnErr result (self.new ≡ self.old) }
     {
         if self.documents.get(uri).is_some() {
@@ -115,7 +115,7 @@ impl Editor {
         }
         let opening = self.openings + 1;
         let content = did_open(self.alloc, uri, 1, text)?;
-        let document = Open::with_text(self.alloc, 1, text, opening)?;
+        let document = OpenDocument::with_text(self.alloc, 1, text, opening)?;
         self.documents.put(self.alloc, uri, document)?;
         self.openings = opening;
         Ok(Some(content))
@@ -125,8 +125,8 @@ impl Editor {
     /// the editor is unchanged.
     pub fn change(&mut self, uri: &str, changes: &[Change]) -> Result<Option<Vec<u8>>, AllocError>
         requires { AreFew self.old }
-        ensures ok { IfOk result (λ content. Acts
-            (done_by self.old (change_document uri.now (map change_in_text changes.now))) content
+        ensures ok { IfOk result (λ content. PerformsAct
+            (act_result self.old (change_document uri.now (map text_change_of changes.now))) content
             self.new) }
         ensures err { OnErr result (self.new ≡ self.old) }
     {
@@ -137,7 +137,7 @@ impl Editor {
         let opening = open.opening;
         let text = apply_changes::<Whole>(self.alloc, self.unit, open.text.as_str(), changes)?;
         let content = did_change(self.alloc, uri, version, changes)?;
-        let document = Open {
+        let document = OpenDocument {
             version,
             text,
             opening,
@@ -150,7 +150,7 @@ impl Editor {
     /// editor is unchanged.
     pub fn close(&mut self, uri: &str) -> Result<Option<Vec<u8>>, AllocError>
         ensures ok { IfOk result
-            (λ content. Acts (done_by self.old (close_document uri.now)) content self.new) }
+            (λ content. PerformsAct (act_result self.old (close_document uri.now)) content self.new) }
         ensures err { OnErr result (self.new ≡ self.old) }
     {
         if self.documents.get(uri).is_none() {
@@ -165,8 +165,8 @@ impl Editor {
     /// editor is unchanged.
     pub fn ask(&mut self, uri: &str, ask: &Ask) -> Result<Option<Vec<u8>>, AllocError>
         requires { AreFew self.old }
-        ensures ok { IfOk result (λ content. Acts
-            (done_by self.old (ask_about uri.now (ask_of ask.now))) content self.new) }
+        ensures ok { IfOk result (λ content. PerformsAct
+            (act_result self.old (ask_about uri.now (ask_of ask.now))) content self.new) }
         ensures err { OnErr result (self.new ≡ self.old) }
     {
         let Some(open) = self.documents.get(uri) else {
@@ -183,7 +183,7 @@ impl Editor {
     /// for this editor.
     pub fn read(&self, content: &[u8]) -> Result<Option<Message>, AllocError>
         ensures { IfOk result
-            (λ found. option_map message_of found ≡ understood self.now.requested content.now) }
+            (λ found. option_map message_of found ≡ message_to_editor_in self.now.requested content.now) }
     {
         read_message(self.alloc, self.requested.as_slice(), content)
     }
@@ -207,26 +207,26 @@ impl Editor {
     /// notification. If the document's opening or version has changed since the request, or two
     /// edits share a character, no edit is made. The editor no longer has the answer after the
     /// call, even after an error.
-    pub fn apply(&mut self, k: u64) -> Result<Applying, AllocError>
+    pub fn apply(&mut self, k: u64) -> Result<ApplyOutcome, AllocError>
         requires { AreFew self.old }
-        ensures ok { IfOk result (λ applying. ComesOf (done_by self.old (apply k))
-            (is_some (kept_answer k self.old.answers)) applying self.new) }
+        ensures ok { IfOk result (λ applying. IsApplyOutcome (act_result self.old (apply k))
+            (is_some (edits_of_answer k self.old.answers)) applying self.new) }
         ensures err { OnErr result (self.new ≡ without_answer self.old k) }
     {
         let Some(edits) = self.take_answer(k) else {
-            return Ok(Applying::NotHeld);
+            return Ok(ApplyOutcome::NotHeld);
         };
         let rewritten = self.rewrite(k, edits.as_slice());
         drop(edits);
         match rewritten? {
-            Some(rewritten) => self.make(rewritten),
-            None => Ok(Applying::Dropped),
+            Some(rewritten) => self.store_rewritten(rewritten),
+            None => Ok(ApplyOutcome::Dropped),
         }
     }
 
     /// Discards answer `k`, and returns true if the editor had it.
     pub fn discard(&mut self, k: u64) -> bool
-        ensures held { result ≡ is_some (kept_answer k self.old.answers) }
+        ensures held { result ≡ is_some (edits_of_answer k self.old.answers) }
         ensures after { self.new ≡ without_answer self.old k }
     {
         self.take_answer(k).is_some()
@@ -234,20 +234,20 @@ impl Editor {
 
     fn take_answer(&mut self, k: u64) -> Option<Vec<Edit>>
         ensures edits { option_map (λ v. replacements v.items) result
-            ≡ kept_answer k self.old.answers }
+            ≡ edits_of_answer k self.old.answers }
         ensures after { self.new ≡ without_answer self.old k }
     {
-        let place = place_of(self.answers.as_slice(), k)?;
+        let place = index_of_answer(self.answers.as_slice(), k)?;
         let answer = self.answers.remove(place);
         Some(answer.edits)
     }
 
     /// Returns the new text of the document of request `k`, with these edits made. None if its opening or version has
     /// changed since the request, or if two edits share a character.
-    fn rewrite(&self, k: u64, edits: &[Edit]) -> Result<Option<Rewritten>, AllocError>
+    fn rewrite(&self, k: u64, edits: &[Edit]) -> Result<Option<RewrittenDocument>, AllocError>
         requires { AreFew self.now }
         ensures { IfOk result (λ rewritten.
-            IsRewritten self.now (applies self.now k (replacements edits.now)) rewritten) }
+            IsRewritten self.now (applying_result self.now k (replacements edits.now)) rewritten) }
     {
         let Some(requested) = numbered_ask(self.requested.as_slice(), k) else {
             return Ok(None);
@@ -265,12 +265,12 @@ impl Editor {
     fn rewrite_document(
         &self,
         uri: &str,
-        document: &Open,
+        document: &OpenDocument,
         edits: &[Edit],
-    ) -> Result<Option<Rewritten>, AllocError>
+    ) -> Result<Option<RewrittenDocument>, AllocError>
         requires { document.now.version < 2 ^ 63 - 1 }
         ensures { IfOk result (λ rewritten. IsRewritten self.now
-            (with_edits self.now uri.now (open_document document.now)
+            (editing_result self.now uri.now (open_document document.now)
             (edited self.now.unit (chars (string_bytes document.now.text))
             (replacements edits.now)))
             rewritten) }
@@ -280,7 +280,7 @@ impl Editor {
             return Ok(None);
         };
         let applied = applied_edit(self.alloc, uri, before, after)?;
-        Ok(Some(Rewritten {
+        Ok(Some(RewrittenDocument {
             applied,
             version: document.version + 1,
             opening: document.opening,
@@ -289,13 +289,13 @@ impl Editor {
 
     /// Stores a document's new text, and returns the applied edit with the content of the notification. On an error the
     /// editor is unchanged.
-    fn make(&mut self, rewritten: Rewritten) -> Result<Applying, AllocError>
+    fn store_rewritten(&mut self, rewritten: RewrittenDocument) -> Result<ApplyOutcome, AllocError>
         requires { rewritten.version < 2 ^ 63 }
         ensures ok { IfOk result (λ applying. IsAppliedAs self.old rewritten applying self.new) }
         ensures err { OnErr result (self.new ≡ self.old) }
     {
-        let content = self.take_text(&rewritten)?;
-        Ok(Applying::Made {
+        let content = self.store_text(&rewritten)?;
+        Ok(ApplyOutcome::Made {
             applied: rewritten.applied,
             content,
         })
@@ -303,7 +303,7 @@ impl Editor {
 
     /// Stores a copy of a document's new text, and returns the content of the notification. On an error the editor is
     /// unchanged.
-    fn take_text(&mut self, rewritten: &Rewritten) -> Result<Vec<u8>, AllocError>
+    fn store_text(&mut self, rewritten: &RewrittenDocument) -> Result<Vec<u8>, AllocError>
         requires { rewritten.now.version < 2 ^ 63 }
         ensures ok { IfOk result
             (λ content. StoresRewritten self.old rewritten.now content self.new) }
@@ -313,15 +313,20 @@ impl Editor {
         let text = rewritten.applied.after.as_str();
         let version = rewritten.version;
         let content = did_rewrite(self.alloc, uri, version, text)?;
-        let document = Open::with_text(self.alloc, version, text, rewritten.opening)?;
+        let document = OpenDocument::with_text(self.alloc, version, text, rewritten.opening)?;
         self.documents.put(self.alloc, uri, document)?;
         Ok(content)
     }
 }
 
 /// Returns a request about a document, with copies of the ask, the uri and the document's present state.
-fn sent_ask(alloc: Global, ask: &Ask, uri: &str, document: &Open) -> Result<SentAsk, AllocError>
-    ensures { IfOk result (λ sent. requested_of sent ≡ record {
+fn sent_ask(
+    alloc: Global,
+    ask: &Ask,
+    uri: &str,
+    document: &OpenDocument,
+) -> Result<SentAsk, AllocError>
+    ensures { IfOk result (λ sent. sent_ask_of sent ≡ record {
       ask = ask_of ask.now;
       uri = uri.now;
       text = chars (string_bytes document.now.text);
@@ -342,8 +347,8 @@ fn sent_ask(alloc: Global, ask: &Ask, uri: &str, document: &Open) -> Result<Sent
 }
 
 /// Returns the index of the first answer to ask `k`. None if there is none.
-fn place_of(answers: &[HeldAnswer], k: u64) -> Option<usize>
-    ensures { IsPlaceOf answers.now k result }
+fn index_of_answer(answers: &[HeldAnswer], k: u64) -> Option<usize>
+    ensures { IsIndexOfAnswer answers.now k result }
 {
     for place in 0..answers.len() {
         if answers[place].number == k {

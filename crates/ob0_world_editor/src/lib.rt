@@ -4,17 +4,17 @@
 
 mod applied;
 mod asks;
-mod beginning;
 mod documents;
 mod editor;
+mod initialize_request;
 mod objects;
 mod params;
 mod reading;
 mod texts;
 mod writing;
 
-pub use applied::{Applied, Applying};
+pub use applied::{Applied, ApplyOutcome};
 pub use asks::Ask;
-pub use beginning::initialize;
 pub use editor::Editor;
+pub use initialize_request::initialize;
 pub use reading::Message;

@@ -2,7 +2,7 @@
 //! so they mustn't contain a character that needs one.
 //!
 //! The editor's messages are types that write themselves. An object with one member is a
-//! `OneMember`. An object with two or three members is written by one call of a function of this
+//! `OneMemberObject`. An object with two or three members is written by one call of a function of this
 //! file, and its proof applies `object_of` to the clause of that call.
 //!
 //! Each `?` makes the proof much slower. So a `write` has none, except for objects with four
@@ -11,11 +11,11 @@ ghost use Rattle.std.specs.Prelude.{OnOk};
 ghost use Rattle.serde_json.specs.Data.{member, no_members};
 ghost use Rattle.ob0_rpc.specs.Appending.{AppendsMembers};
 
-use ob0_rpc::{WriteJson, end_object, first_member, next_member};
+use ob0_rpc::{WriteJson, end_object, write_first_member, write_next_member};
 use std::alloc::AllocError;
 
 /// Appends a JSON object of two members to `out`.
-pub fn two_members<A: WriteJson, B: WriteJson>(
+pub fn write_two_members<A: WriteJson, B: WriteJson>(
     out: &mut Vec<u8>,
     name: &str,
     value: &A,
@@ -26,13 +26,13 @@ pub fn two_members<A: WriteJson, B: WriteJson>(
         (member name.now (A.value value.now) (member second_name.now (B.value second.now)
         no_members)) out.old.items out.new.items) }
 {
-    first_member(out, name, value)?;
-    next_member(out, second_name, second)?;
+    write_first_member(out, name, value)?;
+    write_next_member(out, second_name, second)?;
     end_object(out)
 }
 
 /// Appends a JSON object of three members to `out`.
-pub fn three_members<A: WriteJson, B: WriteJson, C: WriteJson>(
+pub fn write_three_members<A: WriteJson, B: WriteJson, C: WriteJson>(
     out: &mut Vec<u8>,
     name: &str,
     value: &A,
@@ -45,8 +45,8 @@ pub fn three_members<A: WriteJson, B: WriteJson, C: WriteJson>(
         (member name.now (A.value value.now) (member second_name.now (B.value second.now)
         (member third_name.now (C.value third.now) no_members))) out.old.items out.new.items) }
 {
-    first_member(out, name, value)?;
-    next_member(out, second_name, second)?;
-    next_member(out, third_name, third)?;
+    write_first_member(out, name, value)?;
+    write_next_member(out, second_name, second)?;
+    write_next_member(out, third_name, third)?;
     end_object(out)
 }

@@ -4,12 +4,13 @@ ghost use Rattle.std.specs.Prelude.{◌≡◌, false, Some, None, OnOk, codes, m
 ghost use Rattle.serde_json.specs.Data.{array, member, no_members, object};
 ghost use Rattle.serde_json.specs.View.{items_of};
 ghost use Rattle.ob0_rpc.specs.Appending.{AppendsEach};
-ghost use Rattle.ob0_rpc.specs.Shapes.{json_rpc, text as text_data};
-ghost use Rattle.ob0_world_editor.specs.Shapes.{actions_params, change_object, change_value, document_value, opened_value, options_by, options_value, rename_params, versioned_value};
+ghost use Rattle.ob0_rpc.specs.Shapes.{jsonrpc_version, text as text_data};
+ghost use Rattle.ob0_world_editor.specs.Shapes.{actions_params, change_object, change_value, document_value, opened_document_value, indent_options, options_value, rename_params, versioned_document_value};
 
-use crate::objects::{three_members, two_members};
+use crate::objects::{write_three_members, write_two_members};
 use ob0_rpc::{
-    OneMember, WriteJson, begin_list, end_list, end_object, first_member, next_member, write_item,
+    OneMemberObject, WriteJson, begin_list, end_list, end_object, write_first_member, write_item,
+    write_next_member,
 };
 use ob0_text::{Change, Indent, Position, Range};
 use std::alloc::AllocError;
@@ -24,15 +25,15 @@ pub struct Request<'a, I, P> {
 
 impl<'a, I: WriteJson, P: WriteJson> WriteJson for Request<'a, I, P> {
     ghost value = { λ r. object (member (codes "id") (I.value r.id)
-        (member (codes "jsonrpc") json_rpc
+        (member (codes "jsonrpc") jsonrpc_version
         (member (codes "method") (text_data r.method.now)
         (member (codes "params") (P.value r.params.now) no_members)))) };
 
     fn write(&self, out: &mut Vec<u8>) -> Result<(), AllocError> {
-        first_member(out, "id", &self.id)?;
-        next_member(out, "jsonrpc", &"2.0")?;
-        next_member(out, "method", &self.method)?;
-        next_member(out, "params", self.params)?;
+        write_first_member(out, "id", &self.id)?;
+        write_next_member(out, "jsonrpc", &"2.0")?;
+        write_next_member(out, "method", &self.method)?;
+        write_next_member(out, "params", self.params)?;
         end_object(out)
     }
 }
@@ -48,22 +49,22 @@ impl<'a> WriteJson for DocumentId<'a> {
 
     fn write(&self, out: &mut Vec<u8>) -> Result<(), AllocError> {
         let (key, value) = ("uri", self.uri);
-        OneMember { key, value }.write(out)
+        OneMemberObject { key, value }.write(out)
     }
 }
 
 /// A document's identifier with its version.
 #[derive(Drop)]
-pub struct DocumentVersion<'a> {
+pub struct VersionedDocumentId<'a> {
     pub uri: &'a str,
     pub version: u64,
 }
 
-impl<'a> WriteJson for DocumentVersion<'a> {
-    ghost value = { λ d. versioned_value d.uri.now d.version };
+impl<'a> WriteJson for VersionedDocumentId<'a> {
+    ghost value = { λ d. versioned_document_value d.uri.now d.version };
 
     fn write(&self, out: &mut Vec<u8>) -> Result<(), AllocError> {
-        two_members(out, "uri", &self.uri, "version", &self.version)
+        write_two_members(out, "uri", &self.uri, "version", &self.version)
     }
 }
 
@@ -76,13 +77,13 @@ pub struct OpenedDocument<'a> {
 }
 
 impl<'a> WriteJson for OpenedDocument<'a> {
-    ghost value = { λ d. opened_value d.uri.now d.version d.text.now };
+    ghost value = { λ d. opened_document_value d.uri.now d.version d.text.now };
 
     fn write(&self, out: &mut Vec<u8>) -> Result<(), AllocError> {
-        first_member(out, "languageId", &"oberon-0")?;
-        next_member(out, "text", &self.text)?;
-        next_member(out, "uri", &self.uri)?;
-        next_member(out, "version", &self.version)?;
+        write_first_member(out, "languageId", &"oberon-0")?;
+        write_next_member(out, "text", &self.text)?;
+        write_next_member(out, "uri", &self.uri)?;
+        write_next_member(out, "version", &self.version)?;
         end_object(out)
     }
 }
@@ -99,10 +100,10 @@ impl<'a> WriteJson for ContentChange<'a> {
 
     fn write(&self, out: &mut Vec<u8>) -> Result<(), AllocError> {
         match self.range {
-            Some(range) => two_members(out, "range", &range, "text", &self.text),
+            Some(range) => write_two_members(out, "range", &range, "text", &self.text),
             None => {
                 let (key, value) = ("text", self.text);
-                OneMember { key, value }.write(out)
+                OneMemberObject { key, value }.write(out)
             }
         }
     }
@@ -143,16 +144,16 @@ fn write_changes(out: &mut Vec<u8>, changes: &[Change]) -> Result<(), AllocError
 #[derive(Drop)]
 pub struct DidChangeParams<'a, C> {
     pub changes: C,
-    pub document: DocumentVersion<'a>,
+    pub document: VersionedDocumentId<'a>,
 }
 
 impl<'a, C: WriteJson> WriteJson for DidChangeParams<'a, C> {
     ghost value = { λ p. object (member (codes "contentChanges") (C.value p.changes)
-        (member (codes "textDocument") (versioned_value p.document.uri.now p.document.version)
+        (member (codes "textDocument") (versioned_document_value p.document.uri.now p.document.version)
         no_members)) };
 
     fn write(&self, out: &mut Vec<u8>) -> Result<(), AllocError> {
-        two_members(
+        write_two_members(
             out,
             "contentChanges",
             &self.changes,
@@ -174,7 +175,7 @@ impl<'a> WriteJson for RenameParams<'a> {
     ghost value = { λ p. rename_params p.document.uri.now p.position p.new_name.now };
 
     fn write(&self, out: &mut Vec<u8>) -> Result<(), AllocError> {
-        three_members(
+        write_three_members(
             out,
             "newName",
             &self.new_name,
@@ -198,7 +199,7 @@ impl<'a> WriteJson for CodeActionParams<'a> {
 
     fn write(&self, out: &mut Vec<u8>) -> Result<(), AllocError> {
         let none: [Range; 0] = [];
-        let context = OneMember {
+        let context = OneMemberObject {
             key: "diagnostics",
             value: none.as_slice(),
         };
@@ -206,7 +207,7 @@ impl<'a> WriteJson for CodeActionParams<'a> {
             start: self.position,
             end: self.position,
         };
-        three_members(
+        write_three_members(
             out,
             "context",
             &context,
@@ -226,10 +227,10 @@ pub struct FormattingOptions {
 }
 
 impl WriteJson for FormattingOptions {
-    ghost value = { λ o. options_by o.insert_spaces o.tab_size };
+    ghost value = { λ o. indent_options o.insert_spaces o.tab_size };
 
     fn write(&self, out: &mut Vec<u8>) -> Result<(), AllocError> {
-        two_members(
+        write_two_members(
             out,
             "insertSpaces",
             &self.insert_spaces,
@@ -242,7 +243,7 @@ impl WriteJson for FormattingOptions {
 impl FormattingOptions {
     /// Returns the formatting options for an indent.
     pub fn of(indent: Indent) -> FormattingOptions
-        ensures { options_by result.insert_spaces result.tab_size ≡ options_value indent }
+        ensures { indent_options result.insert_spaces result.tab_size ≡ options_value indent }
     {
         match indent {
             Indent::Tab => FormattingOptions {
@@ -266,11 +267,11 @@ pub struct FormattingParams<'a> {
 
 impl<'a> WriteJson for FormattingParams<'a> {
     ghost value = { λ p. object
-        (member (codes "options") (options_by p.options.insert_spaces p.options.tab_size)
+        (member (codes "options") (indent_options p.options.insert_spaces p.options.tab_size)
         (member (codes "textDocument") (document_value p.document.uri.now) no_members)) };
 
     fn write(&self, out: &mut Vec<u8>) -> Result<(), AllocError> {
-        two_members(
+        write_two_members(
             out,
             "options",
             &self.options,

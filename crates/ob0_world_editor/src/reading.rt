@@ -3,10 +3,10 @@ ghost use Rattle.std.specs.Prelude.{◌≡◌, IfOk, codes, option_map, option_a
 ghost use Rattle.serde_json.specs.Find.{get, as_number, as_i64, as_array};
 ghost use Rattle.serde_json.specs.View.{view, items_view};
 ghost use Rattle.ob0_rpc.specs.Members.{text_member};
-ghost use Rattle.ob0_world_editor.specs.Code.{message_of, ask_of, requested_of};
+ghost use Rattle.ob0_world_editor.specs.Code.{message_of, ask_of, sent_ask_of};
 ghost use Rattle.ob0_world_rules.specs.Edited.{replacement_of, replacements};
-ghost use Rattle.ob0_world_editor.specs.Heard.{request_number};
-ghost use Rattle.ob0_world_editor.specs.Understood.{understood, value_read, publication_understood, answer_read, has_none, edit_in, edits_in, workspace_items, is_text, titled_action, action_items, items_for as items_of_answer, edits_for};
+ghost use Rattle.ob0_world_editor.specs.MessagesToServer.{request_number};
+ghost use Rattle.ob0_world_editor.specs.MessagesToEditor.{message_to_editor_in, message_to_editor_of, publication_of_params, answer_of_response, has_no_items, edit_in, edits_in, workspace_edit_items, is_given_text, titled_action, action_edit_items, edit_items_for as items_of_answer, edits_for};
 ghost use Rattle.ob0_world_rules.specs.ClientAndServer.{request_numbered};
 
 use crate::asks::Ask;
@@ -40,10 +40,10 @@ pub fn read_message(
 ) -> Result<Option<Message>, AllocError>
     ensures { IfOk result
         (λ found. option_map message_of found
-        ≡ understood (map requested_of requested.now) content.now) }
+        ≡ message_to_editor_in (map sent_ask_of requested.now) content.now) }
 {
     match Value::from_slice(alloc, content) {
-        Ok(message) => read_value(alloc, requested, &message),
+        Ok(message) => read_message_value(alloc, requested, &message),
         Err(error) => if error.is_memory() {
             Err(AllocError)
         } else {
@@ -52,13 +52,13 @@ pub fn read_message(
     }
 }
 
-fn read_value(
+fn read_message_value(
     alloc: Global,
     requested: &[SentAsk],
     message: &Value,
 ) -> Result<Option<Message>, AllocError>
     ensures { IfOk result (λ found. option_map message_of found
-        ≡ value_read request_number (map requested_of requested.now) (view message.now)) }
+        ≡ message_to_editor_of request_number (map sent_ask_of requested.now) (view message.now)) }
 {
     if message.get("method").is_none() {
         return read_answer(alloc, requested, message);
@@ -76,7 +76,7 @@ fn read_value(
 
 fn read_publication(alloc: Global, params: &Value) -> Result<Option<Message>, AllocError>
     ensures { IfOk result
-        (λ found. option_map message_of found ≡ publication_understood (view params.now)) }
+        (λ found. option_map message_of found ≡ publication_of_params (view params.now)) }
 {
     let Some(uri) = text_in(params, "uri") else {
         return Ok(None);
@@ -103,7 +103,7 @@ fn published_version(params: &Value) -> Option<i64>
 
 fn has_no_diagnostics(params: &Value) -> Option<bool>
     ensures { result
-        ≡ option_map has_none
+        ≡ option_map has_no_items
         (option_and_then as_array (get (codes "diagnostics") (view params.now))) }
 {
     let diagnostics = published_diagnostics(params)?;
@@ -125,7 +125,7 @@ fn read_answer(
     answer: &Value,
 ) -> Result<Option<Message>, AllocError>
     ensures { IfOk result (λ found. option_map message_of found
-        ≡ answer_read request_number (map requested_of requested.now) (view answer.now)) }
+        ≡ answer_of_response request_number (map sent_ask_of requested.now) (view answer.now)) }
 {
     let Some(number) = answer_number(answer) else {
         return Ok(None);
@@ -145,8 +145,8 @@ fn answer_number(answer: &Value) -> Option<u64>
 
 /// Returns the ask with this number; the first has number 1. None if there is none.
 pub fn numbered_ask(requested: &[SentAsk], number: u64) -> Option<&SentAsk>
-    ensures { option_map (λ a. requested_of a.now) result
-        ≡ request_numbered (map requested_of requested.now) number }
+    ensures { option_map (λ a. sent_ask_of a.now) result
+        ≡ request_numbered (map sent_ask_of requested.now) number }
 {
     if number == 0 {
         return None;
@@ -166,16 +166,16 @@ fn read_edits(alloc: Global, uri: &str, ask: &Ask, answer: &Value) -> Result<Vec
         (λ edits. replacements edits.items
         ≡ edits_for uri.now (ask_of ask.now) (view answer.now)) }
 {
-    let Some(values) = answered_values(uri, ask, answer) else {
+    let Some(values) = answer_edit_values(uri, ask, answer) else {
         return Ok(Vec::new(alloc));
     };
-    match edits_of(alloc, values)? {
+    match read_edit_list(alloc, values)? {
         Some(edits) => Ok(edits),
         None => Ok(Vec::new(alloc)),
     }
 }
 
-fn answered_values<'v>(uri: &str, ask: &Ask, answer: &'v Value) -> Option<&'v Vec<Value>>
+fn answer_edit_values<'v>(uri: &str, ask: &Ask, answer: &'v Value) -> Option<&'v Vec<Value>>
     ensures { option_map (λ v. items_view v.now.items) result
         ≡ option_and_then (items_of_answer uri.now (ask_of ask.now))
         (get (codes "result") (view answer.now)) }
@@ -185,13 +185,13 @@ fn answered_values<'v>(uri: &str, ask: &Ask, answer: &'v Value) -> Option<&'v Ve
         Ask::Rename {
             position: _position,
             name: _name,
-        } => workspace_values(result, uri),
+        } => workspace_edit_values(result, uri),
         Ask::InlineHere {
             position: _position,
-        } => action_values(result, "Inline here", uri),
+        } => action_edit_values(result, "Inline here", uri),
         Ask::InlineAll {
             position: _position,
-        } => action_values(result, "Inline everywhere", uri),
+        } => action_edit_values(result, "Inline everywhere", uri),
         Ask::Format { indent: _indent } => result.as_array(),
     }
 }
@@ -199,9 +199,9 @@ fn answered_values<'v>(uri: &str, ask: &Ask, answer: &'v Value) -> Option<&'v Ve
 /// Returns the list of edits of this document in a WorkspaceEdit. If the WorkspaceEdit has
 /// `documentChanges`, the list is in the first of them. Otherwise it is in `changes`, under the
 /// uri. None if there is no such list.
-fn workspace_values<'v>(edit: &'v Value, uri: &str) -> Option<&'v Vec<Value>>
+fn workspace_edit_values<'v>(edit: &'v Value, uri: &str) -> Option<&'v Vec<Value>>
     ensures { option_map (λ v. items_view v.now.items) result
-        ≡ workspace_items uri.now (view edit.now) }
+        ≡ workspace_edit_items uri.now (view edit.now) }
 {
     match edit.get("documentChanges") {
         Some(documents) => documents.get(0)?.get("edits")?.as_array(),
@@ -210,12 +210,12 @@ fn workspace_values<'v>(edit: &'v Value, uri: &str) -> Option<&'v Vec<Value>>
 }
 
 /// Returns the list of edits of this document in the first action with this title. None if there is none.
-fn action_values<'v>(actions: &'v Value, title: &str, uri: &str) -> Option<&'v Vec<Value>>
+fn action_edit_values<'v>(actions: &'v Value, title: &str, uri: &str) -> Option<&'v Vec<Value>>
     ensures { option_map (λ v. items_view v.now.items) result
-        ≡ action_items title.now uri.now (view actions.now) }
+        ≡ action_edit_items title.now uri.now (view actions.now) }
 {
     let action = action_with_title(actions.as_array()?, title)?;
-    workspace_values(action.get("edit")?, uri)
+    workspace_edit_values(action.get("edit")?, uri)
 }
 
 fn action_with_title<'v>(actions: &'v [Value], title: &str) -> Option<&'v Value>
@@ -232,7 +232,7 @@ fn action_with_title<'v>(actions: &'v [Value], title: &str) -> Option<&'v Value>
 
 /// Returns true if a JSON value has a member of this name with this text.
 fn has_text(value: &Value, name: &str, text: &str) -> bool
-    ensures { result ≡ is_text text.now (text_member name.now (view value.now)) }
+    ensures { result ≡ is_given_text text.now (text_member name.now (view value.now)) }
 {
     match text_in(value, name) {
         Some(found) => found == text,
@@ -243,13 +243,13 @@ fn has_text(value: &Value, name: &str, text: &str) -> bool
 // ---- edits
 
 /// Returns all edits of a list of JSON values. None if one of them can't be read.
-fn edits_of(alloc: Global, values: &[Value]) -> Result<Option<Vec<Edit>>, AllocError>
+fn read_edit_list(alloc: Global, values: &[Value]) -> Result<Option<Vec<Edit>>, AllocError>
     ensures { IfOk result (λ found. option_map (λ edits. replacements edits.items) found
         ≡ edits_in (items_view values.now)) }
 {
     let mut edits = Vec::new(alloc);
     for value in values {
-        match edit_of(alloc, value)? {
+        match read_edit(alloc, value)? {
             Some(edit) => edits.push(edit)?,
             None => return Ok(None),
         }
@@ -257,7 +257,7 @@ fn edits_of(alloc: Global, values: &[Value]) -> Result<Option<Vec<Edit>>, AllocE
     Ok(Some(edits))
 }
 
-fn edit_of(alloc: Global, value: &Value) -> Result<Option<Edit>, AllocError>
+fn read_edit(alloc: Global, value: &Value) -> Result<Option<Edit>, AllocError>
     ensures { IfOk result (λ found. option_map replacement_of found ≡ edit_in (view value.now)) }
 {
     let Some(range) = range_in(value, "range") else {

@@ -2,8 +2,8 @@
 ghost use Rattle.std.specs.Prelude.{◌≡◌, Some, map, IfOk, OnOk, string_bytes};
 ghost use Rattle.std.specs.Option.{option_map};
 ghost use Rattle.std.specs.Str.{chars};
-ghost use Rattle.ob0_text.specs.OpenDocuments.{change_in_text, changed_text};
-ghost use Rattle.ob0_world_rules.specs.Edited.{edited, after_changes};
+ghost use Rattle.ob0_text.specs.OpenDocuments.{text_change_of, changed_text};
+ghost use Rattle.ob0_world_rules.specs.Edited.{edited, text_after_changes};
 ghost use Rattle.ob0_world_rules.specs.Edited.{replacements};
 
 use ob0_text::{Change, Edit, PatchFault, TextStore, Unit, patch};
@@ -17,18 +17,18 @@ pub fn apply_changes<T: TextStore>(
     text: &str,
     changes: &[Change],
 ) -> Result<String, AllocError>
-    ensures { IfOk result (λ new. after_changes unit (Some (chars text.now))
-        (map change_in_text changes.now)
+    ensures { IfOk result (λ new. text_after_changes unit (Some (chars text.now))
+        (map text_change_of changes.now)
         ≡ Some (chars (string_bytes new))) }
 {
     let mut store = T::from_str_in(alloc, text, unit)?;
     for change in changes {
-        make_change(alloc, unit, &mut store, change)?;
+        apply_change(alloc, unit, &mut store, change)?;
     }
     store.to_string(alloc)
 }
 
-fn make_change<T: TextStore>(
+fn apply_change<T: TextStore>(
     alloc: Global,
     unit: Unit,
     store: &mut T,
@@ -37,7 +37,7 @@ fn make_change<T: TextStore>(
     requires { T.unit_of store.old ≡ unit }
     ensures unit { OnOk result (T.unit_of store.new ≡ unit) }
     ensures ok { OnOk result (changed_text unit (Some (T.content store.old))
-        (change_in_text change.now)
+        (text_change_of change.now)
         ≡ Some (T.content store.new)) }
 {
     match change.range {

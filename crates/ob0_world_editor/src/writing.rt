@@ -2,19 +2,20 @@
 ghost use Rattle.std.specs.Prelude.{◌≤◌, ◌<◌, ◌^◌, ◌∷◌, [], pos, IfOk, map};
 ghost use Rattle.std.specs.Str.{chars};
 ghost use Rattle.serde_json.specs.Data.{depth};
-ghost use Rattle.ob0_text.specs.OpenDocuments.{Opened, Changed, Closed, change_in_text};
+ghost use Rattle.ob0_text.specs.OpenDocuments.{Opened, Changed, Closed, text_change_of};
 ghost use Rattle.ob0_rpc.specs.Writing.{Writes};
-ghost use Rattle.ob0_world_rules.specs.Edited.{whole_text};
+ghost use Rattle.ob0_world_rules.specs.Edited.{whole_text_change};
 ghost use Rattle.ob0_world_editor.specs.Code.{ask_of};
-ghost use Rattle.ob0_world_editor.specs.Heard.{IsNote, IsRequest};
+ghost use Rattle.ob0_world_editor.specs.MessagesToServer.{IsNotificationFor, IsRequest};
 ghost use Rattle.ob0_world_editor.specs.Shapes.{request_message};
 
 use crate::asks::Ask;
 use crate::params::{
-    CodeActionParams, ContentChange, ContentChanges, DidChangeParams, DocumentId, DocumentVersion,
+    CodeActionParams, ContentChange, ContentChanges, DidChangeParams, DocumentId,
     FormattingOptions, FormattingParams, OpenedDocument, RenameParams, Request,
+    VersionedDocumentId,
 };
-use ob0_rpc::{OneMember, WriteJson, content_of, notify};
+use ob0_rpc::{OneMemberObject, WriteJson, content_of, notification_of};
 use ob0_text::Change;
 use std::alloc::{AllocError, Global};
 
@@ -22,11 +23,15 @@ use std::alloc::{AllocError, Global};
 pub fn did_open(alloc: Global, uri: &str, version: u64, text: &str) -> Result<Vec<u8>, AllocError>
     requires { version < 2 ^ 63 }
     ensures { IfOk result
-        (λ content. IsNote (Opened uri.now (pos version) (chars text.now)) content.items) }
+        (λ content. IsNotificationFor (Opened uri.now (pos version) (chars text.now)) content.items) }
 {
     let value = OpenedDocument { uri, version, text };
     let key = "textDocument";
-    notify(alloc, "textDocument/didOpen", &OneMember { key, value })
+    notification_of(
+        alloc,
+        "textDocument/didOpen",
+        &OneMemberObject { key, value },
+    )
 }
 
 /// Returns the content of the notification that these changes were made in a document.
@@ -37,12 +42,12 @@ pub fn did_change(
     changes: &[Change],
 ) -> Result<Vec<u8>, AllocError>
     requires { version < 2 ^ 63 }
-    ensures { IfOk result (λ content. IsNote
-        (Changed uri.now (pos version) (map change_in_text changes.now)) content.items) }
+    ensures { IfOk result (λ content. IsNotificationFor
+        (Changed uri.now (pos version) (map text_change_of changes.now)) content.items) }
 {
     let changes = ContentChanges { changes };
-    let document = DocumentVersion { uri, version };
-    notify(
+    let document = VersionedDocumentId { uri, version };
+    notification_of(
         alloc,
         "textDocument/didChange",
         &DidChangeParams { changes, document },
@@ -58,13 +63,13 @@ pub fn did_rewrite(
     text: &str,
 ) -> Result<Vec<u8>, AllocError>
     requires { version < 2 ^ 63 }
-    ensures { IfOk result (λ content. IsNote
-        (Changed uri.now (pos version) (whole_text (chars text.now) ∷ [])) content.items) }
+    ensures { IfOk result (λ content. IsNotificationFor
+        (Changed uri.now (pos version) (whole_text_change (chars text.now) ∷ [])) content.items) }
 {
     let whole = [ContentChange { range: None, text }];
     let changes = whole.as_slice();
-    let document = DocumentVersion { uri, version };
-    notify(
+    let document = VersionedDocumentId { uri, version };
+    notification_of(
         alloc,
         "textDocument/didChange",
         &DidChangeParams { changes, document },
@@ -73,11 +78,15 @@ pub fn did_rewrite(
 
 /// Returns the content of the notification that a document was closed.
 pub fn did_close(alloc: Global, uri: &str) -> Result<Vec<u8>, AllocError>
-    ensures { IfOk result (λ content. IsNote (Closed uri.now) content.items) }
+    ensures { IfOk result (λ content. IsNotificationFor (Closed uri.now) content.items) }
 {
     let value = DocumentId { uri };
     let key = "textDocument";
-    notify(alloc, "textDocument/didClose", &OneMember { key, value })
+    notification_of(
+        alloc,
+        "textDocument/didClose",
+        &OneMemberObject { key, value },
+    )
 }
 
 /// Returns the content of the request for an ask about a document. Both ways of inlining request the code actions at
@@ -94,27 +103,27 @@ pub fn request(alloc: Global, number: u64, uri: &str, ask: &Ask) -> Result<Vec<u
                 position,
                 document,
             };
-            send(alloc, number, "textDocument/rename", &params)
+            request_content(alloc, number, "textDocument/rename", &params)
         }
         Ask::InlineHere { position } => {
             let position = *position;
             let params = CodeActionParams { position, document };
-            send(alloc, number, "textDocument/codeAction", &params)
+            request_content(alloc, number, "textDocument/codeAction", &params)
         }
         Ask::InlineAll { position } => {
             let position = *position;
             let params = CodeActionParams { position, document };
-            send(alloc, number, "textDocument/codeAction", &params)
+            request_content(alloc, number, "textDocument/codeAction", &params)
         }
         Ask::Format { indent } => {
             let options = FormattingOptions::of(*indent);
             let params = FormattingParams { options, document };
-            send(alloc, number, "textDocument/formatting", &params)
+            request_content(alloc, number, "textDocument/formatting", &params)
         }
     }
 }
 
-fn send<P: WriteJson>(
+fn request_content<P: WriteJson>(
     alloc: Global,
     number: u64,
     method: &str,

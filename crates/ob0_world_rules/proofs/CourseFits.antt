@@ -6,20 +6,20 @@ use Rattle.std.specs.Prelude.{⊤, All, Option, Some, None, is_some, unwrap_or, 
 use Rattle.std.proofs.lemmas.List.Elements.{All-nil, All-push, All-head, All-tail, All-append}
 use Rattle.ob0_text.specs.declared.position_types.Unit.{Unit}
 use Rattle.ob0_text.specs.OpenDocuments.{OpenDocuments, Document, InStep, OutOfStep, DocumentEvent, Opened, Changed, Lost, Closed, document_at, after_event}
-use Rattle.ob0_world_rules.specs.Edited.{Replacement, after_changes}
+use Rattle.ob0_world_rules.specs.Edited.{Replacement, text_after_changes}
 use Rattle.ob0_world_rules.specs.Asks.{Ask}
-use Rattle.ob0_world_rules.specs.Answers.{IsAnswer, IsEmptyIfCorrect}
-use Rattle.ob0_world_rules.specs.ClientAndServer.{Open, Editor, open_at, ToServer, notifies, requests, ToEditor, publishes, answers, Made, ClientAndServer, start, after_message}
-use Rattle.ob0_world_rules.specs.Editing.{Act, open_document, change_document, close_document, ask_about, apply, discard, Done, stays, opens, rewrites, closes, asks, kept_answer, without_answer, applies, done_by}
+use Rattle.ob0_world_rules.specs.Answers.{IsAnswer, IsEmptyIfWellTyped}
+use Rattle.ob0_world_rules.specs.ClientAndServer.{OpenDocument, Editor, open_at, MessageToServer, notifies, requests, MessageToEditor, publishes, answers, Made, ClientAndServer, start, after_message}
+use Rattle.ob0_world_rules.specs.EditorActs.{Act, open_document, change_document, close_document, ask_about, apply, discard, ActResult, unchanged_result, opening_result, rewriting_result, closing_result, asks, edits_of_answer, without_answer, applying_result, act_result}
 use Rattle.ob0_world_rules.specs.Serving.{Publishes, Replies}
-use Rattle.ob0_world_rules.specs.Happens.{Event, does, serve, take_message, after_act, after_taking, ServerTakes, Happens, Course}
-use Rattle.ob0_world_rules.specs.Laws.{HasAnswers, IsAnswerable, ACourseFits}
-use Rattle.ob0_world_rules.proofs.Acts.{applied_so}
+use Rattle.ob0_world_rules.specs.Happens.{Event, does, serve, take_message, after_act, after_editor_takes, ServerTakes, Happens, Course}
+use Rattle.ob0_world_rules.specs.Laws.{HasAnswers, IsAnswerable, CourseExists}
+use Rattle.ob0_world_rules.proofs.PerformsAct.{applied_so}
 
 -- ---- asks have answers
 
 -- holds if the message isn't a request, or is a request that has answers
-abbrev CanBeReplied : ToServer → Type 0
+abbrev CanBeReplied : MessageToServer → Type 0
 CanBeReplied (notifies note) = ⊤
 CanBeReplied (requests k uri ask) = HasAnswers ask
 
@@ -30,50 +30,50 @@ note_sent : (note : DocumentEvent) → All CanBeReplied (notifies note ∷ [])
 note_sent note = All-push CanBeReplied [] (notifies note) none_sent tt
 
 -- Each message that an act sends can be replied to if the act's ask has answers.
-act_sends : (e : Editor) (act : Act) → IsAnswerable (does act) → All CanBeReplied (done_by e act).sent
+act_sends : (e : Editor) (act : Act) → IsAnswerable (does act) → All CanBeReplied (act_result e act).sent
 act_sends e (open_document uri text) h = go (is_some (open_at e uri))
   where
-    go : (b : Bool) → All CanBeReplied (cond b (stays e) (opens e uri text)).sent
+    go : (b : Bool) → All CanBeReplied (cond b (unchanged_result e) (opening_result e uri text)).sent
     go true = none_sent
     go false = note_sent _
 act_sends e (change_document uri how) h = go (open_at e uri)
   where
-    of_text : (d : Open) (o : Option (List ℕ)) → All CanBeReplied (unwrap_or (option_and_then (λ text. Some (rewrites e uri d text how [])) o) (stays e)).sent
+    of_text : (d : OpenDocument) (o : Option (List ℕ)) → All CanBeReplied (unwrap_or (option_and_then (λ text. Some (rewriting_result e uri d text how [])) o) (unchanged_result e)).sent
     of_text d None = none_sent
     of_text d (Some text) = note_sent _
 
-    go : (o : Option Open) → All CanBeReplied (unwrap_or (option_and_then (λ d. option_and_then (λ text. Some (rewrites e uri d text how [])) (after_changes e.unit (Some d.text) how)) o) (stays e)).sent
+    go : (o : Option OpenDocument) → All CanBeReplied (unwrap_or (option_and_then (λ d. option_and_then (λ text. Some (rewriting_result e uri d text how [])) (text_after_changes e.unit (Some d.text) how)) o) (unchanged_result e)).sent
     go None = none_sent
-    go (Some d) = of_text d (after_changes e.unit (Some d.text) how)
+    go (Some d) = of_text d (text_after_changes e.unit (Some d.text) how)
 act_sends e (close_document uri) h = go (is_some (open_at e uri))
   where
-    go : (b : Bool) → All CanBeReplied (cond b (closes e uri) (stays e)).sent
+    go : (b : Bool) → All CanBeReplied (cond b (closing_result e uri) (unchanged_result e)).sent
     go true = note_sent _
     go false = none_sent
 act_sends e (ask_about uri ask) h = go (open_at e uri)
   where
-    go : (o : Option Open) → All CanBeReplied (unwrap_or (option_and_then (λ d. Some (asks e uri ask d)) o) (stays e)).sent
+    go : (o : Option OpenDocument) → All CanBeReplied (unwrap_or (option_and_then (λ d. Some (asks e uri ask d)) o) (unchanged_result e)).sent
     go None = none_sent
     go (Some d) = All-push CanBeReplied [] _ none_sent h
 act_sends e (apply k) h =
-    go (option_and_then (applies (without_answer e k) k) (kept_answer k e.answers))
-    (λ done is. subst (λ (x : Done). All CanBeReplied x.sent) (sym (applied_so e k done is).is) (note_sent _))
+    go (option_and_then (applying_result (without_answer e k) k) (edits_of_answer k e.answers))
+    (λ done is. subst (λ (x : ActResult). All CanBeReplied x.sent) (sym (applied_so e k done is).is) (note_sent _))
   where
-    go : (o : Option Done) → ((done : Done) → o ≡ Some done → All CanBeReplied done.sent) → All CanBeReplied (unwrap_or o (stays (without_answer e k))).sent
+    go : (o : Option ActResult) → ((done : ActResult) → o ≡ Some done → All CanBeReplied done.sent) → All CanBeReplied (unwrap_or o (unchanged_result (without_answer e k))).sent
     go None each = none_sent
     go (Some done) each = each done refl
 act_sends e (discard k) h = none_sent
 
 -- ---- the server's replies
 
-publish_fits : (uri : List ℕ) (o : Option Document) → ((said : List ToEditor) (made : List Made) → Publishes uri o said made → ⊥) → ⊥
+publish_fits : (uri : List ℕ) (o : Option Document) → ((said : List MessageToEditor) (made : List Made) → Publishes uri o said made → ⊥) → ⊥
 publish_fits uri (Some (InStep version text)) none =
     replies false (λ no. absurd (differ no), λ fits. absurd (replies true (λ yes'. fits, λ f. refl)))
   where
     differ : false ≡ true → ⊥
     differ no' = cc
 
-    replies : (empty : Bool) → IsEmptyIfCorrect text empty → ⊥
+    replies : (empty : Bool) → IsEmptyIfWellTyped text empty → ⊥
     replies empty right = none (publishes uri (Some version) empty ∷ []) (record { uri = uri; version = version; text = text; empty = empty } ∷ []) (empty, right, refl, refl)
 publish_fits uri (Some OutOfStep) none = none [] [] (refl, refl)
 publish_fits uri None none = none [] [] (refl, refl)
@@ -83,7 +83,7 @@ answer_fits unit (Some (InStep version text)) ask h none = h unit text none
 answer_fits unit (Some OutOfStep) ask h none = none [] refl
 answer_fits unit None ask h none = none [] refl
 
-reply_fits : (held : OpenDocuments) (m : ToServer) → CanBeReplied m → ((said : List ToEditor) (made : List Made) → Replies held m said made → ⊥) → ⊥
+reply_fits : (held : OpenDocuments) (m : MessageToServer) → CanBeReplied m → ((said : List MessageToEditor) (made : List Made) → Replies held m said made → ⊥) → ⊥
 reply_fits held (notifies (Opened uri version text)) h none = publish_fits uri (document_at (after_event held (Opened uri version text)) uri) none
 reply_fits held (notifies (Changed uri version how)) h none = publish_fits uri (document_at (after_event held (Changed uri version how)) uri) none
 reply_fits held (notifies (Lost uri)) h none = none [] [] (refl, refl)
@@ -93,7 +93,7 @@ reply_fits held (requests k uri ask) h none =
 
 -- ---- events
 
-serve_fits : (w : ClientAndServer) (queue : List ToServer) → w.to_server ≡ queue → All CanBeReplied w.to_server → ((new : ClientAndServer) → ServerTakes w queue new → All CanBeReplied new.to_server → ⊥) → ⊥
+serve_fits : (w : ClientAndServer) (queue : List MessageToServer) → w.to_server ≡ queue → All CanBeReplied w.to_server → ((new : ClientAndServer) → ServerTakes w queue new → All CanBeReplied new.to_server → ⊥) → ⊥
 serve_fits w [] is waiting none = none w refl waiting
 serve_fits w (m ∷ rest) is waiting none =
     let all : All CanBeReplied (m ∷ rest) = subst (All CanBeReplied) is waiting in
@@ -102,15 +102,15 @@ serve_fits w (m ∷ rest) is waiting none =
     (record w { to_server = rest; held = after_message w.held m; to_editor = w.to_editor ++ said; made = w.made ++ made })
     (said, made, replies, refl) (All-tail CanBeReplied m rest all))
 
-taken : (w : ClientAndServer) (queue : List ToEditor) → All CanBeReplied w.to_server → All CanBeReplied (after_taking w queue).to_server
+taken : (w : ClientAndServer) (queue : List MessageToEditor) → All CanBeReplied w.to_server → All CanBeReplied (after_editor_takes w queue).to_server
 taken w [] waiting = waiting
 taken w (m ∷ rest) waiting = waiting
 
 event_fits : (e : Event) (w : ClientAndServer) → IsAnswerable e → All CanBeReplied w.to_server → ((new : ClientAndServer) → Happens w e new → All CanBeReplied new.to_server → ⊥) → ⊥
 event_fits (does act) w h waiting none =
-    none (after_act w (done_by w.editor act)) refl (All-append CanBeReplied w.to_server (done_by w.editor act).sent waiting (act_sends w.editor act h))
+    none (after_act w (act_result w.editor act)) refl (All-append CanBeReplied w.to_server (act_result w.editor act).sent waiting (act_sends w.editor act h))
 event_fits serve w h waiting none = serve_fits w w.to_server refl waiting none
-event_fits take_message w h waiting none = none (after_taking w w.to_editor) refl (taken w w.to_editor waiting)
+event_fits take_message w h waiting none = none (after_editor_takes w w.to_editor) refl (taken w w.to_editor waiting)
 
 fits : (events : List Event) (w : ClientAndServer) → All IsAnswerable events → All CanBeReplied w.to_server → ((end : ClientAndServer) → Course w events end → ⊥) → ⊥
 fits [] w all waiting none = none w refl
@@ -118,5 +118,5 @@ fits (e ∷ events) w all waiting none =
     event_fits e w (All-head IsAnswerable e events all) waiting
     (λ new happens still. fits events new (All-tail IsAnswerable e events all) still (λ end course. none end (new, happens, course)))
 
-pub a_course_fits : ACourseFits
-a_course_fits unit events all none = fits events (start unit) all none_sent none
+pub course_exists : CourseExists
+course_exists unit events all none = fits events (start unit) all none_sent none

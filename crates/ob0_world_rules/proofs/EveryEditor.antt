@@ -10,15 +10,15 @@ use Rattle.ob0_text.specs.declared.position_types.Unit.{Unit}
 use Rattle.ob0_text.specs.OpenDocuments.{OpenDocuments, Opened, Changed, Closed, document_at}
 use Rattle.ob0_world_rules.specs.Language.{WellTypedText, SameRun}
 use Rattle.ob0_world_rules.specs.Edited.{edited}
-use Rattle.ob0_world_rules.specs.ClientAndServer.{Open, SentAsk, Editor, open_at, ToServer, notifies, requests, ToEditor, Applied, ClientAndServer, after_message}
-use Rattle.ob0_world_rules.specs.Editing.{Done, stays, closes, asks, without_answer}
+use Rattle.ob0_world_rules.specs.ClientAndServer.{OpenDocument, SentAsk, Editor, open_at, MessageToServer, notifies, requests, MessageToEditor, Applied, ClientAndServer, after_message}
+use Rattle.ob0_world_rules.specs.EditorActs.{ActResult, unchanged_result, closing_result, asks, without_answer}
 use Rattle.ob0_world_rules.specs.Happens.{after_act, ServerTakes}
-use Rattle.ob0_world_rules.specs.Mirror.{will_have, as_open}
+use Rattle.ob0_world_rules.specs.Mirror.{documents_after_queue, in_step_document}
 use Rattle.ob0_world_rules.specs.Headline.{KeepsTheRun}
 use Rattle.ob0_world_rules.specs.Laws.{EditsPreserveRun}
-use Rattle.ob0_world_rules.specs.MadeInOrder.{Announced, AreMadeOf, versions_announced, versioned_uri}
-use Rattle.ob0_world_rules.specs.Editors.{Revision, Move, to_open, to_revise, to_close, to_ask, to_apply, to_drop, revised, with_document, Revises, told, AppliesAnswer, opened_as, May}
-use Rattle.ob0_world_rules.specs.EveryEditor.{EditorAndServer, nothing_yet, without_others, notes_among, as_model, Turn, editor_does, editor_says, server_takes, editor_takes, after_move, TakesNext, after_one, MayHappen, MayLead, HoldsWithEditor, WithEveryEditor}
+use Rattle.ob0_world_rules.specs.PublicationsInOrder.{AnnouncedDocument, AreMadeForDocuments, versions_announced_by, versioned_uri}
+use Rattle.ob0_world_rules.specs.Editors.{Revision, Move, to_open, to_revise, to_close, to_ask, to_apply, to_drop, revised_document, with_document, Revises, notifications_of, AppliesAnswer, opening_result_as, IsAllowedMove}
+use Rattle.ob0_world_rules.specs.EveryEditor.{EditorAndServer, initial_editor_and_server, modeled_messages, notifications_among, model_state_of, Turn, editor_does, editor_says, server_takes, editor_takes, after_move, ServerTakesNext, after_editor_takes_next, MayHappen, MayLeadTo, HoldsWithEditor, HoldsForEveryEditor}
 use Rattle.ob0_world_rules.proofs.UriLaws.{get_put, uri_itself}
 use Rattle.ob0_world_rules.proofs.Asked.{Known}
 use Rattle.ob0_world_rules.proofs.Keeping.{AnswerFits, Kept, acts_kept, revise_kept, held_known}
@@ -27,17 +27,17 @@ use Rattle.ob0_world_rules.proofs.Pending.{Awaits, Pending, pending_push, pendin
 
 -- ---- queues with other messages
 
-pub others_append : {A : Type 0} (xs ys : List (Option A)) → without_others (xs ++ ys) ≡ without_others xs ++ without_others ys
+pub others_append : {A : Type 0} (xs ys : List (Option A)) → modeled_messages (xs ++ ys) ≡ modeled_messages xs ++ modeled_messages ys
 others_append [] ys = refl
 others_append (None ∷ xs) ys = others_append xs ys
 others_append (Some x ∷ xs) ys = ap (λ zs. x ∷ zs) (others_append xs ys)
 
-pub others_none : {A : Type 0} (xs : List A) → without_others (map Some xs) ≡ xs
+pub others_none : {A : Type 0} (xs : List A) → modeled_messages (map Some xs) ≡ xs
 others_none [] = refl
 others_none (x ∷ xs) = ap (λ zs. x ∷ zs) (others_none xs)
 
-pub others_push : {A : Type 0} (queue : List (Option A)) (more : List A) → without_others (queue ++ map Some more) ≡ without_others queue ++ more
-others_push queue more = others_append queue (map Some more) ∙ ap (λ ms. without_others queue ++ ms) (others_none more)
+pub others_push : {A : Type 0} (queue : List (Option A)) (more : List A) → modeled_messages (queue ++ map Some more) ≡ modeled_messages queue ++ more
+others_push queue more = others_append queue (map Some more) ∙ ap (λ ms. modeled_messages queue ++ ms) (others_none more)
 
 module _ (unit : Unit) where
   -- ---- the invariant of every turn
@@ -45,27 +45,27 @@ module _ (unit : Unit) where
   -- states the invariant: the model's state is `Kept`, and the publications are made for the announced documents, in
   -- order
   record Good (w : EditorAndServer) : Type 0 where
-    kept : Kept unit (as_model w)
+    kept : Kept unit (model_state_of w)
     latest : AreLatest unit w.held w.made
-    published : List Announced
-    waiting : List Announced
+    published : List AnnouncedDocument
+    waiting : List AnnouncedDocument
     all : w.announced ≡ published ++ waiting
-    made_of : AreMadeOf w.made published
-    pending : Pending w.held (without_others w.to_server) waiting
+    made_of : AreMadeForDocuments w.made published
+    pending : Pending w.held (modeled_messages w.to_server) waiting
 
   -- A move in the model is the same move without the other messages.
-  moved_so : (w : EditorAndServer) (done : Done) (announced : List Announced) → after_act (as_model w) done ≡ as_model (after_move w done announced)
+  moved_so : (w : EditorAndServer) (done : ActResult) (announced : List AnnouncedDocument) → after_act (model_state_of w) done ≡ model_state_of (after_move w done announced)
   moved_so w done announced i =
-      record (as_model w) {
+      record (model_state_of w) {
         editor = done.editor;
         to_server = sym (others_push w.to_server done.sent) i;
         applied = w.applied ++ done.applied;
       }
 
   -- A move that sends no message keeps the invariant.
-  none_sent : (w : EditorAndServer) (e : Editor) (applied : List Applied) → Good w → Kept unit (after_act (as_model w) (record { editor = e; sent = []; applied = applied })) → Good (after_move w (record { editor = e; sent = []; applied = applied }) [])
+  none_sent : (w : EditorAndServer) (e : Editor) (applied : List Applied) → Good w → Kept unit (after_act (model_state_of w) (record { editor = e; sent = []; applied = applied })) → Good (after_move w (record { editor = e; sent = []; applied = applied }) [])
   none_sent w e applied good kept =
-      let done : Done = record { editor = e; sent = []; applied = applied } in
+      let done : ActResult = record { editor = e; sent = []; applied = applied } in
       record {
         kept = subst (Kept unit) (moved_so w done []) kept;
         latest = good.latest;
@@ -73,19 +73,19 @@ module _ (unit : Unit) where
         waiting = good.waiting;
         all = append-nil w.announced ∙ good.all;
         made_of = good.made_of;
-        pending = subst (λ q. Pending w.held q good.waiting) (sym (others_push w.to_server [] ∙ append-nil (without_others w.to_server))) good.pending;
+        pending = subst (λ q. Pending w.held q good.waiting) (sym (others_push w.to_server [] ∙ append-nil (modeled_messages w.to_server))) good.pending;
       }
 
   -- A move that sends one message keeps the invariant.
-  one_sent : (w : EditorAndServer) (e : Editor) (m : ToServer) (announced : List Announced) (applied : List Applied) → Good w → Kept unit (after_act (as_model w) (record { editor = e; sent = m ∷ []; applied = applied }))
-      → ((held : OpenDocuments) → ((uri : List ℕ) → document_at (after_message held m) uri ≡ option_map as_open (open_at e uri)) → Awaits held m announced)
-      → map versioned_uri announced ≡ versions_announced m
+  one_sent : (w : EditorAndServer) (e : Editor) (m : MessageToServer) (announced : List AnnouncedDocument) (applied : List Applied) → Good w → Kept unit (after_act (model_state_of w) (record { editor = e; sent = m ∷ []; applied = applied }))
+      → ((held : OpenDocuments) → ((uri : List ℕ) → document_at (after_message held m) uri ≡ option_map in_step_document (open_at e uri)) → Awaits held m announced)
+      → map versioned_uri announced ≡ versions_announced_by m
       → Good (after_move w (record { editor = e; sent = m ∷ []; applied = applied }) announced)
   one_sent w e m announced applied good kept awaits names =
-      let done : Done = record { editor = e; sent = m ∷ []; applied = applied } in
-      let before : OpenDocuments = will_have (as_model w) in
-      let mirror : (uri : List ℕ) → document_at (after_message before m) uri ≡ option_map as_open (open_at e uri) =
-      λ uri. sym (ap (λ held. document_at held uri) (fold_push after_message w.held (without_others w.to_server) m)) ∙ kept.mirror uri in
+      let done : ActResult = record { editor = e; sent = m ∷ []; applied = applied } in
+      let before : OpenDocuments = documents_after_queue (model_state_of w) in
+      let mirror : (uri : List ℕ) → document_at (after_message before m) uri ≡ option_map in_step_document (open_at e uri) =
+      λ uri. sym (ap (λ held. document_at held uri) (fold_push after_message w.held (modeled_messages w.to_server) m)) ∙ kept.mirror uri in
       record {
         kept = subst (Kept unit) (moved_so w done announced) kept;
         latest = good.latest;
@@ -94,53 +94,53 @@ module _ (unit : Unit) where
         all = ap (λ ts. ts ++ announced) good.all ∙ append_assoc good.published good.waiting announced;
         made_of = good.made_of;
         pending = subst (λ q. Pending w.held q (good.waiting ++ announced)) (sym (others_push w.to_server (m ∷ [])))
-            (pending_push w.held (without_others w.to_server) m good.waiting announced good.pending (awaits before mirror, names));
+            (pending_push w.held (modeled_messages w.to_server) m good.waiting announced good.pending (awaits before mirror, names));
       }
 
   -- ---- the editor's moves
 
   -- A document is found under the uri under which it was inserted.
-  put_there : (held : OpenDocuments) (e : Editor) (uri : List ℕ) (d : Open) (m : ToServer) → ((q : List ℕ) → document_at (after_message held m) q ≡ option_map as_open (open_at (with_document e uri d) q)) → document_at (after_message held m) uri ≡ Some (as_open d)
-  put_there held e uri d m mirror = mirror uri ∙ ap (option_map as_open) (get_put e.documents uri d uri ∙ ap (λ b. cond b (Some d) (map_of.get e.documents uri)) (uri_itself uri))
+  put_there : (held : OpenDocuments) (e : Editor) (uri : List ℕ) (d : OpenDocument) (m : MessageToServer) → ((q : List ℕ) → document_at (after_message held m) q ≡ option_map in_step_document (open_at (with_document e uri d) q)) → document_at (after_message held m) uri ≡ Some (in_step_document d)
+  put_there held e uri d m mirror = mirror uri ∙ ap (option_map in_step_document) (get_put e.documents uri d uri ∙ ap (λ b. cond b (Some d) (map_of.get e.documents uri)) (uri_itself uri))
 
   open_good : (w : EditorAndServer) (uri text : List ℕ) (version : ℤ) → Good w
-      → Good (after_move w (opened_as (record { version = version; text = text; opening = w.editor.openings + 1 }) w.editor uri) (record { uri = uri; document = record { version = version; text = text; opening = w.editor.openings + 1 } } ∷ []))
+      → Good (after_move w (opening_result_as (record { version = version; text = text; opening = w.editor.openings + 1 }) w.editor uri) (record { uri = uri; document = record { version = version; text = text; opening = w.editor.openings + 1 } } ∷ []))
   open_good w uri text version good =
-      let d : Open = record { version = version; text = text; opening = w.editor.openings + 1 } in
-      let m : ToServer = notifies (Opened uri version text) in
+      let d : OpenDocument = record { version = version; text = text; opening = w.editor.openings + 1 } in
+      let m : MessageToServer = notifies (Opened uri version text) in
       one_sent w (record (with_document w.editor uri d) { openings = d.opening }) m (record { uri = uri; document = d } ∷ []) [] good
-      (opened_kept unit (as_model w) uri text version good.kept)
+      (opened_kept unit (model_state_of w) uri text version good.kept)
       (λ held mirror. (Some d, put_there held w.editor uri d m mirror, refl))
       refl
 
-  revisions_good : (revisions : List Revision) (w : EditorAndServer) (uri : List ℕ) (new : Editor) (announced : List Announced) (applied : List Applied) → Good w → Revises w.editor uri revisions new announced → All KeepsTheRun applied
-      → Good (after_move w (record { editor = new; sent = told uri revisions; applied = applied }) announced)
+  revisions_good : (revisions : List Revision) (w : EditorAndServer) (uri : List ℕ) (new : Editor) (announced : List AnnouncedDocument) (applied : List Applied) → Good w → Revises w.editor uri revisions new announced → All KeepsTheRun applied
+      → Good (after_move w (record { editor = new; sent = notifications_of uri revisions; applied = applied }) announced)
   revisions_good [] w uri new announced applied good (is, none) keeps =
       subst (λ ts. Good (after_move w (record { editor = new; sent = []; applied = applied }) ts)) (sym none)
       (none_sent w new applied good
-      (subst (λ e. Kept unit (after_act (as_model w) (record { editor = e; sent = []; applied = applied }))) (sym is)
-      (acts_kept unit (as_model w) (record { editor = w.editor; sent = []; applied = applied }) good.kept (λ k a same. same) refl refl good.kept.mirror tt keeps)))
+      (subst (λ e. Kept unit (after_act (model_state_of w) (record { editor = e; sent = []; applied = applied }))) (sym is)
+      (acts_kept unit (model_state_of w) (record { editor = w.editor; sent = []; applied = applied }) good.kept (λ k a same. same) refl refl good.kept.mirror tt keeps)))
   revisions_good (r ∷ more) w uri new announced applied good (d, later, at, makes, rest, is) keeps =
-      let m : ToServer = notifies (Changed uri r.version r.how) in
-      let first : Done = record { editor = with_document w.editor uri (revised d r); sent = m ∷ []; applied = [] } in
-      let one : List Announced = record { uri = uri; document = revised d r } ∷ [] in
+      let m : MessageToServer = notifies (Changed uri r.version r.how) in
+      let first : ActResult = record { editor = with_document w.editor uri (revised_document d r); sent = m ∷ []; applied = [] } in
+      let one : List AnnouncedDocument = record { uri = uri; document = revised_document d r } ∷ [] in
       let between : EditorAndServer = after_move w first one in
       let so : Good between =
       one_sent w first.editor m one [] good
-      (revise_kept unit (as_model w) uri d (revised d r) r.how [] good.kept at makes (All-nil KeepsTheRun))
-      (λ held mirror. (Some (revised d r), put_there held w.editor uri (revised d r) m mirror, refl))
+      (revise_kept unit (model_state_of w) uri d (revised_document d r) r.how [] good.kept at makes (All-nil KeepsTheRun))
+      (λ held mirror. (Some (revised_document d r), put_there held w.editor uri (revised_document d r) m mirror, refl))
       refl in
-      let last : Good (after_move between (record { editor = new; sent = told uri more; applied = applied }) later) = revisions_good more between uri new later applied so rest keeps in
+      let last : Good (after_move between (record { editor = new; sent = notifications_of uri more; applied = applied }) later) = revisions_good more between uri new later applied so rest keeps in
       subst Good
       (λ i. record w {
         editor = new;
-        to_server = append_assoc w.to_server (Some m ∷ []) (map Some (told uri more)) i;
+        to_server = append_assoc w.to_server (Some m ∷ []) (map Some (notifications_of uri more)) i;
         announced = (append_assoc w.announced one later ∙ ap (λ ts. w.announced ++ ts) (sym is)) i;
         applied = ap (λ es. es ++ applied) (append-nil w.applied) i;
       })
       last
 
-  apply_good : (w : EditorAndServer) (k : ℕ) (revisions : List Revision) (done : Done) (announced : List Announced) → Good w → AppliesAnswer w.editor k revisions done announced → Good (after_move w done announced)
+  apply_good : (w : EditorAndServer) (k : ℕ) (revisions : List Revision) (done : ActResult) (announced : List AnnouncedDocument) → Good w → AppliesAnswer w.editor k revisions done announced → Good (after_move w done announced)
   apply_good w k revisions done announced good a =
       let e : Editor = without_answer w.editor k in
       let known : Known w.editor.requested k (λ text. EditsPreserveRun unit text a.edits) = held_known unit w.editor.requested k w.editor.answers a.edits a.answered good.kept.answers_held in
@@ -153,7 +153,7 @@ module _ (unit : Unit) where
       let without : EditorAndServer = record w { editor = e } in
       let so : Good without =
       record {
-        kept = without_kept unit (as_model w) k good.kept;
+        kept = without_kept unit (model_state_of w) k good.kept;
         latest = good.latest;
         published = good.published;
         waiting = good.waiting;
@@ -164,30 +164,30 @@ module _ (unit : Unit) where
       subst (λ x. Good (after_move w x announced)) (sym a.is)
       (revisions_good revisions without a.requested.uri a.new announced (applied ∷ []) so a.revises (All-push KeepsTheRun [] applied (All-nil KeepsTheRun) keeps))
 
-  move_good : (w : EditorAndServer) (move : Move) (done : Done) (announced : List Announced) → Good w → May w.editor move done announced → Good (after_move w done announced)
+  move_good : (w : EditorAndServer) (move : Move) (done : ActResult) (announced : List AnnouncedDocument) → Good w → IsAllowedMove w.editor move done announced → Good (after_move w done announced)
   move_good w (to_open uri version text) done announced good (is, are) =
       subst (λ x. Good (after_move w x announced)) (sym is)
-      (subst (λ ts. Good (after_move w (opened_as (record { version = version; text = text; opening = w.editor.openings + 1 }) w.editor uri) ts)) (sym are) (open_good w uri text version good))
+      (subst (λ ts. Good (after_move w (opening_result_as (record { version = version; text = text; opening = w.editor.openings + 1 }) w.editor uri) ts)) (sym are) (open_good w uri text version good))
   move_good w (to_revise uri revisions) done announced good (new, revises, is) =
       subst (λ x. Good (after_move w x announced)) (sym is) (revisions_good revisions w uri new announced [] good revises (All-nil KeepsTheRun))
   move_good w (to_close uri) done announced good (is, are) =
       subst (λ x. Good (after_move w x announced)) (sym is)
-      (subst (λ ts. Good (after_move w (closes w.editor uri) ts)) (sym are)
-      (one_sent w (closes w.editor uri).editor (notifies (Closed uri)) [] [] good (close_kept unit (as_model w) uri good.kept) (λ held mirror. refl) refl))
+      (subst (λ ts. Good (after_move w (closing_result w.editor uri) ts)) (sym are)
+      (one_sent w (closing_result w.editor uri).editor (notifies (Closed uri)) [] [] good (close_kept unit (model_state_of w) uri good.kept) (λ held mirror. refl) refl))
   move_good w (to_ask uri ask) done announced good (d, at, is, are) =
       subst (λ x. Good (after_move w x announced)) (sym is)
       (subst (λ ts. Good (after_move w (asks w.editor uri ask d) ts)) (sym are)
-      (one_sent w (asks w.editor uri ask d).editor (requests (suc (length w.editor.requested)) uri ask) [] [] good (ask_kept unit (as_model w) uri ask d at good.kept) (λ held mirror. refl) refl))
+      (one_sent w (asks w.editor uri ask d).editor (requests (suc (length w.editor.requested)) uri ask) [] [] good (ask_kept unit (model_state_of w) uri ask d at good.kept) (λ held mirror. refl) refl))
   move_good w (to_apply k revisions) done announced good may = apply_good w k revisions done announced good may
   move_good w (to_drop k) done announced good (is, are) =
       subst (λ x. Good (after_move w x announced)) (sym is)
-      (subst (λ ts. Good (after_move w (stays (without_answer w.editor k)) ts)) (sym are)
-      (none_sent w (without_answer w.editor k) [] good (still_kept unit (record (as_model w) { editor = without_answer w.editor k }) (without_kept unit (as_model w) k good.kept))))
+      (subst (λ ts. Good (after_move w (unchanged_result (without_answer w.editor k)) ts)) (sym are)
+      (none_sent w (without_answer w.editor k) [] good (still_kept unit (record (model_state_of w) { editor = without_answer w.editor k }) (without_kept unit (model_state_of w) k good.kept))))
 
   -- ---- the other turns
 
   -- A turn keeps the invariant if the model's state is the same and nothing is announced.
-  unmoved : (w new : EditorAndServer) → Good w → as_model w ≡ as_model new → w.announced ≡ new.announced → Good new
+  unmoved : (w new : EditorAndServer) → Good w → model_state_of w ≡ model_state_of new → w.announced ≡ new.announced → Good new
   unmoved w new good same announced =
       record {
         kept = subst (Kept unit) same good.kept;
@@ -195,34 +195,34 @@ module _ (unit : Unit) where
         published = good.published;
         waiting = good.waiting;
         all = sym announced ∙ good.all;
-        made_of = subst (λ (x : ClientAndServer). AreMadeOf x.made good.published) same good.made_of;
+        made_of = subst (λ (x : ClientAndServer). AreMadeForDocuments x.made good.published) same good.made_of;
         pending = subst (λ (x : ClientAndServer). Pending x.held x.to_server good.waiting) same good.pending;
       }
 
   says_good : (w : EditorAndServer) → Good w → Good (record w { to_server = w.to_server ++ None ∷ [] })
   says_good w good =
       unmoved w (record w { to_server = w.to_server ++ None ∷ [] }) good
-      (λ i. record (as_model w) { to_server = (sym (append-nil (without_others w.to_server)) ∙ sym (others_append w.to_server (None ∷ []))) i })
+      (λ i. record (model_state_of w) { to_server = (sym (append-nil (modeled_messages w.to_server)) ∙ sym (others_append w.to_server (None ∷ []))) i })
       refl
 
-  serve_good : (w : EditorAndServer) (queue : List (Option ToServer)) (new : EditorAndServer) → w.to_server ≡ queue → Good w → TakesNext w queue new → Good new
+  serve_good : (w : EditorAndServer) (queue : List (Option MessageToServer)) (new : EditorAndServer) → w.to_server ≡ queue → Good w → ServerTakesNext w queue new → Good new
   serve_good w [] new waits good is = subst Good (sym is) good
   serve_good w (None ∷ rest) new waits good (said, none, is) =
       subst Good (sym is)
       (unmoved w (record w { to_server = rest; to_editor = w.to_editor ++ said }) good
-      (λ i. record (as_model w) {
-        to_server = ap without_others waits i;
-        to_editor = sym (others_append w.to_editor said ∙ ap (λ ms. without_others w.to_editor ++ ms) none ∙ append-nil (without_others w.to_editor)) i;
+      (λ i. record (model_state_of w) {
+        to_server = ap modeled_messages waits i;
+        to_editor = sym (others_append w.to_editor said ∙ ap (λ ms. modeled_messages w.to_editor ++ ms) none ∙ append-nil (modeled_messages w.to_editor)) i;
       })
       refl)
   serve_good w (Some m ∷ rest) new waits good (said, made, replies, is) =
       let after : EditorAndServer = record w { to_server = rest; held = after_message w.held m; to_editor = w.to_editor ++ map Some said; made = w.made ++ made } in
-      let queue : List ToServer = m ∷ without_others rest in
-      let same : (as_model w).to_server ≡ queue = ap without_others waits in
-      let takes : ServerTakes (as_model w) queue (as_model after) = (said, made, replies, λ i. record (as_model after) { to_editor = others_push w.to_editor said i }) in
-      let both : Both unit (as_model after) = serve_kept unit (as_model w) queue (as_model after) same (good.kept, good.latest) takes in
-      let next : Next good.published good.waiting [] (as_model after) =
-      serve_next good.published good.waiting (as_model w) queue (as_model after) good.made_of (subst (λ q. Pending w.held q good.waiting) same good.pending) same takes in
+      let queue : List MessageToServer = m ∷ modeled_messages rest in
+      let same : (model_state_of w).to_server ≡ queue = ap modeled_messages waits in
+      let takes : ServerTakes (model_state_of w) queue (model_state_of after) = (said, made, replies, λ i. record (model_state_of after) { to_editor = others_push w.to_editor said i }) in
+      let both : Both unit (model_state_of after) = serve_kept unit (model_state_of w) queue (model_state_of after) same (good.kept, good.latest) takes in
+      let next : Next good.published good.waiting [] (model_state_of after) =
+      serve_next good.published good.waiting (model_state_of w) queue (model_state_of after) good.made_of (subst (λ q. Pending w.held q good.waiting) same good.pending) same takes in
       subst Good (sym is)
       (record {
         kept = both.0;
@@ -234,14 +234,14 @@ module _ (unit : Unit) where
         pending = next.pending;
       })
 
-  take_good : (w : EditorAndServer) (queue : List (Option ToEditor)) → w.to_editor ≡ queue → Good w → Good (after_one w queue)
+  take_good : (w : EditorAndServer) (queue : List (Option MessageToEditor)) → w.to_editor ≡ queue → Good w → Good (after_editor_takes_next w queue)
   take_good w [] waits good = good
   take_good w (None ∷ rest) waits good =
-      unmoved w (record w { to_editor = rest }) good (λ i. record (as_model w) { to_editor = ap without_others waits i }) refl
+      unmoved w (record w { to_editor = rest }) good (λ i. record (model_state_of w) { to_editor = ap modeled_messages waits i }) refl
   take_good w (Some m ∷ rest) waits good =
-      let queue : List ToEditor = m ∷ without_others rest in
+      let queue : List MessageToEditor = m ∷ modeled_messages rest in
       record {
-        kept = take_kept unit (as_model w) queue good.kept (subst (All (AnswerFits unit w.editor.requested)) (ap without_others waits) good.kept.answered);
+        kept = take_kept unit (model_state_of w) queue good.kept (subst (All (AnswerFits unit w.editor.requested)) (ap modeled_messages waits) good.kept.answered);
         latest = good.latest;
         published = good.published;
         waiting = good.waiting;
@@ -258,11 +258,11 @@ module _ (unit : Unit) where
   turn_good w server_takes new good takes = serve_good w w.to_server new refl good takes
   turn_good w editor_takes new good is = subst Good (sym is) (take_good w w.to_editor refl good)
 
-  turns_good : (turns : List Turn) (w new : EditorAndServer) → Good w → MayLead w turns new → Good new
+  turns_good : (turns : List Turn) (w new : EditorAndServer) → Good w → MayLeadTo w turns new → Good new
   turns_good [] w new good is = subst Good (sym is) good
   turns_good (turn ∷ turns) w new good (between, happens, lead) = turns_good turns between new (turn_good w turn between good happens) lead
 
-  first_good : Good (nothing_yet unit)
+  first_good : Good (initial_editor_and_server unit)
   first_good =
       record {
         kept = (start_kept unit).0;
@@ -277,15 +277,15 @@ module _ (unit : Unit) where
   holds_with : (w : EditorAndServer) → Good w → HoldsWithEditor w
   holds_with w good =
       record {
-        holds = record { applied = good.kept.applied; made = good.kept.made; latest_made = λ nothing_waits. up_to_date unit (as_model w) (good.kept, good.latest) (ap notes_among nothing_waits) };
-        latest = up_to_date unit (as_model w) (good.kept, good.latest);
+        holds = record { applied = good.kept.applied; made = good.kept.made; latest_made = λ nothing_waits. up_to_date unit (model_state_of w) (good.kept, good.latest) (ap notifications_among nothing_waits) };
+        latest = up_to_date unit (model_state_of w) (good.kept, good.latest);
         mirrors = good.kept.mirror;
         published = good.published;
         waiting = good.waiting;
         all = good.all;
         made_of = good.made_of;
-        still_wait = pending_named w.held (without_others w.to_server) good.waiting good.pending;
+        still_wait = pending_named w.held (modeled_messages w.to_server) good.waiting good.pending;
       }
 
-pub with_every_editor : WithEveryEditor
-with_every_editor unit turns w lead = holds_with unit w (turns_good unit turns (nothing_yet unit) w (first_good unit) lead)
+pub holds_for_every_editor : HoldsForEveryEditor
+holds_for_every_editor unit turns w lead = holds_with unit w (turns_good unit turns (initial_editor_and_server unit) w (first_good unit) lead)

@@ -14,14 +14,14 @@ use Rattle.ob0_text.proofs.EntryLaws.{updated-some, updated-none}
 use Rattle.ob0_world_rules.specs.Edited.{Replacement}
 use Rattle.ob0_world_rules.specs.Asks.{Ask}
 use Rattle.ob0_world_rules.specs.Answers.{IsAnswer}
-use Rattle.ob0_world_rules.specs.ClientAndServer.{Open, SentAsk, Answer, open_at, ToServer, notifies, requests, ToEditor, publishes, answers, Made, ClientAndServer, start, after_message}
-use Rattle.ob0_world_rules.specs.Editing.{stays, closes, asks, all_but, without_answer}
+use Rattle.ob0_world_rules.specs.ClientAndServer.{OpenDocument, SentAsk, Answer, open_at, MessageToServer, notifies, requests, MessageToEditor, publishes, answers, Made, ClientAndServer, start, after_message}
+use Rattle.ob0_world_rules.specs.EditorActs.{unchanged_result, closing_result, asks, answers_except, without_answer}
 use Rattle.ob0_world_rules.specs.Serving.{Publishes, RepliesToNotification, Replies}
-use Rattle.ob0_world_rules.specs.Happens.{after_act, after_taking, ServerTakes}
-use Rattle.ob0_world_rules.specs.Editors.{opened_as}
-use Rattle.ob0_world_rules.specs.EveryEditor.{notes_among}
-use Rattle.ob0_world_rules.specs.Mirror.{will_have, as_open}
-use Rattle.ob0_world_rules.specs.Headline.{KeepsTheRun, IsRight, last_publication, AreUpToDate}
+use Rattle.ob0_world_rules.specs.Happens.{after_act, after_editor_takes, ServerTakes}
+use Rattle.ob0_world_rules.specs.Editors.{opening_result_as}
+use Rattle.ob0_world_rules.specs.EveryEditor.{notifications_among}
+use Rattle.ob0_world_rules.specs.Mirror.{documents_after_queue, in_step_document}
+use Rattle.ob0_world_rules.specs.Headline.{KeepsTheRun, IsCorrectPublication, last_publication, AreUpToDate}
 use Rattle.ob0_world_rules.specs.Laws.{EditsPreserveRun}
 use Rattle.ob0_world_rules.proofs.UriLaws.{get_put, get_removed, same_uri, uri_itself}
 use Rattle.ob0_world_rules.proofs.Latest.{IsMadeFor, latest_push}
@@ -30,7 +30,7 @@ use Rattle.ob0_world_rules.proofs.KeptRuns.{answer_keeps}
 use Rattle.ob0_world_rules.proofs.Keeping.{Fits, AnswerFits, HeldFits, HasText, AsksSee, Kept, message_unit, acts_kept, put_mirrors, remove_mirrors, answers_kept}
 
 -- Messages without a notification don't change the server's documents.
-quiet_stays : (held : OpenDocuments) (q : List ToServer) → notes_among q ≡ [] → fold after_message held q ≡ held
+quiet_stays : (held : OpenDocuments) (q : List MessageToServer) → notifications_among q ≡ [] → fold after_message held q ≡ held
 quiet_stays held [] quiet = refl
 quiet_stays held (notifies note ∷ q) quiet = absurd (cc)
 quiet_stays held (requests k uri ask ∷ q) quiet = quiet_stays held q quiet
@@ -38,45 +38,45 @@ quiet_stays held (requests k uri ask ∷ q) quiet = quiet_stays held q quiet
 -- ---- the editor's events
 
 module _ (unit : Unit) where
-  pub opened_kept : (w : ClientAndServer) (uri text : List ℕ) (version : ℤ) → Kept unit w → Kept unit (after_act w (opened_as (record { version = version; text = text; opening = w.editor.openings + 1 }) w.editor uri))
+  pub opened_kept : (w : ClientAndServer) (uri text : List ℕ) (version : ℤ) → Kept unit w → Kept unit (after_act w (opening_result_as (record { version = version; text = text; opening = w.editor.openings + 1 }) w.editor uri))
   opened_kept w uri text version kept =
-      let d : Open = record { version = version; text = text; opening = w.editor.openings + 1 } in
-      acts_kept unit w (opened_as d w.editor uri) kept (λ k a is. is) refl refl (put_mirrors w uri d kept.mirror) tt (All-nil KeepsTheRun)
+      let d : OpenDocument = record { version = version; text = text; opening = w.editor.openings + 1 } in
+      acts_kept unit w (opening_result_as d w.editor uri) kept (λ k a is. is) refl refl (put_mirrors w uri d kept.mirror) tt (All-nil KeepsTheRun)
 
-  pub close_kept : (w : ClientAndServer) (uri : List ℕ) → Kept unit w → Kept unit (after_act w (closes w.editor uri))
+  pub close_kept : (w : ClientAndServer) (uri : List ℕ) → Kept unit w → Kept unit (after_act w (closing_result w.editor uri))
   close_kept w uri kept =
-      acts_kept unit w (closes w.editor uri) kept (λ k a is. is) refl refl (remove_mirrors w uri kept.mirror) tt (All-nil KeepsTheRun)
+      acts_kept unit w (closing_result w.editor uri) kept (λ k a is. is) refl refl (remove_mirrors w uri kept.mirror) tt (All-nil KeepsTheRun)
 
-  pub ask_kept : (w : ClientAndServer) (uri : List ℕ) (ask : Ask) (d : Open) → open_at w.editor uri ≡ Some d → Kept unit w → Kept unit (after_act w (asks w.editor uri ask d))
+  pub ask_kept : (w : ClientAndServer) (uri : List ℕ) (ask : Ask) (d : OpenDocument) → open_at w.editor uri ≡ Some d → Kept unit w → Kept unit (after_act w (asks w.editor uri ask d))
   ask_kept w uri ask d is kept =
       let a : SentAsk = record { ask = ask; uri = uri; text = d.text; opening = d.opening; version = d.version } in
-      let known : Known (w.editor.requested ++ a ∷ []) (suc (length w.editor.requested)) (HasText (will_have w) uri) =
+      let known : Known (w.editor.requested ++ a ∷ []) (suc (length w.editor.requested)) (HasText (documents_after_queue w) uri) =
       record {
         requested = a;
         is = slice_get_last w.editor.requested a;
-        holds = (d.version, kept.mirror uri ∙ ap (option_map as_open) is);
+        holds = (d.version, kept.mirror uri ∙ ap (option_map in_step_document) is);
       } in
       acts_kept unit w (asks w.editor uri ask d) kept (numbered_push w.editor.requested (a ∷ [])) refl refl kept.mirror (known, tt) (All-nil KeepsTheRun)
 
   -- An act that sends nothing and changes nothing keeps the invariant.
-  pub still_kept : (w : ClientAndServer) → Kept unit w → Kept unit (after_act w (stays w.editor))
+  pub still_kept : (w : ClientAndServer) → Kept unit w → Kept unit (after_act w (unchanged_result w.editor))
   still_kept w kept =
-      acts_kept unit w (stays w.editor) kept (λ k a is. is) refl refl kept.mirror tt (All-nil KeepsTheRun)
+      acts_kept unit w (unchanged_result w.editor) kept (λ k a is. is) refl refl kept.mirror tt (All-nil KeepsTheRun)
 
   -- Taking the first message out of the editor's queue keeps the invariant.
-  rest_kept : (w : ClientAndServer) (rest : List ToEditor) → Kept unit w → All (AnswerFits unit w.editor.requested) rest → Kept unit (record w { to_editor = rest })
+  rest_kept : (w : ClientAndServer) (rest : List MessageToEditor) → Kept unit w → All (AnswerFits unit w.editor.requested) rest → Kept unit (record w { to_editor = rest })
   rest_kept w rest kept fit =
       record { counts = kept.counts; holds = kept.holds; mirror = kept.mirror; requested = kept.requested; answered = fit; answers_held = kept.answers_held; applied = kept.applied; made = kept.made }
 
   -- An answer with edits keeps the run of its request's text.
-  with_edits : (asked : List SentAsk) (k : ℕ) (edit : Replacement) (edits : List Replacement) → Known asked k (Fits unit (edit ∷ edits)) → Known asked k (λ text. EditsPreserveRun unit text (edit ∷ edits))
-  with_edits asked k edit edits known = record { requested = known.requested; is = known.is; holds = go known.requested.text known.holds }
+  editing_result : (asked : List SentAsk) (k : ℕ) (edit : Replacement) (edits : List Replacement) → Known asked k (Fits unit (edit ∷ edits)) → Known asked k (λ text. EditsPreserveRun unit text (edit ∷ edits))
+  editing_result asked k edit edits known = record { requested = known.requested; is = known.is; holds = go known.requested.text known.holds }
     where
       go : (text : List ℕ) → Fits unit (edit ∷ edits) text → EditsPreserveRun unit text (edit ∷ edits)
       go text (inl none) = absurd (cc)
       go text (inr keep) = keep
 
-  pub take_kept : (w : ClientAndServer) (queue : List ToEditor) → Kept unit w → All (AnswerFits unit w.editor.requested) queue → Kept unit (after_taking w queue)
+  pub take_kept : (w : ClientAndServer) (queue : List MessageToEditor) → Kept unit w → All (AnswerFits unit w.editor.requested) queue → Kept unit (after_editor_takes w queue)
   take_kept w [] kept fit = kept
   take_kept w (publishes uri version empty ∷ rest) kept fit = rest_kept w rest kept (All-tail (AnswerFits unit w.editor.requested) (publishes uri version empty) rest fit)
   take_kept w (answers k [] ∷ rest) kept fit = rest_kept w rest kept (All-tail (AnswerFits unit w.editor.requested) (answers k []) rest fit)
@@ -85,22 +85,22 @@ module _ (unit : Unit) where
       let a : Answer = record { number = k; edits = edit ∷ edits } in
       let known : Known asked k (Fits unit (edit ∷ edits)) = All-head (AnswerFits unit asked) (answers k (edit ∷ edits)) rest fit in
       answers_kept unit w (w.editor.answers ++ a ∷ []) rest kept
-      (All-push (HeldFits unit asked) w.editor.answers a kept.answers_held (with_edits asked k edit edits known))
+      (All-push (HeldFits unit asked) w.editor.answers a kept.answers_held (editing_result asked k edit edits known))
       (All-tail (AnswerFits unit asked) (answers k (edit ∷ edits)) rest fit)
 
   -- ---- applying
 
-  All-all_but : (P : Answer → Type 0) (k : ℕ) (list : List Answer) → All P list → All P (all_but k list)
-  All-all_but P k [] all = all
-  All-all_but P k (a ∷ rest) all = go (a.number == k) (All-all_but P k rest (All-tail P a rest all))
+  All-answers_except : (P : Answer → Type 0) (k : ℕ) (list : List Answer) → All P list → All P (answers_except k list)
+  All-answers_except P k [] all = all
+  All-answers_except P k (a ∷ rest) all = go (a.number == k) (All-answers_except P k rest (All-tail P a rest all))
     where
-      go : (b : Bool) → All P (all_but k rest) → All P (cond b rest (a ∷ all_but k rest))
+      go : (b : Bool) → All P (answers_except k rest) → All P (cond b rest (a ∷ answers_except k rest))
       go true later = All-tail P a rest all
-      go false later = All-cons P a (all_but k rest) (All-head P a rest all) later
+      go false later = All-cons P a (answers_except k rest) (All-head P a rest all) later
 
   pub without_kept : (w : ClientAndServer) (k : ℕ) → Kept unit w → Kept unit (record w { editor = without_answer w.editor k })
   without_kept w k kept =
-      answers_kept unit w (all_but k w.editor.answers) w.to_editor kept (All-all_but (HeldFits unit w.editor.requested) k w.editor.answers kept.answers_held) kept.answered
+      answers_kept unit w (answers_except k w.editor.answers) w.to_editor kept (All-answers_except (HeldFits unit w.editor.requested) k w.editor.answers kept.answers_held) kept.answered
 
   -- ---- the server's events
 
@@ -140,25 +140,25 @@ module _ (unit : Unit) where
       go false is = others q version text (subst (λ u. bytes_eq u q ≡ false) named is) found_at
 
   -- states that the messages fit their requests, and that the publications among them are right and the latest
-  record Sound (asked : List SentAsk) (held : OpenDocuments) (said : List ToEditor) (made more : List Made) : Type 0 where
+  record Sound (asked : List SentAsk) (held : OpenDocuments) (said : List MessageToEditor) (made more : List Made) : Type 0 where
     fit : All (AnswerFits unit asked) said
-    right : All IsRight more
+    right : All IsCorrectPublication more
     now : AreLatest held (made ++ more)
 
-  silent : (asked : List SentAsk) (held : OpenDocuments) (made : List Made) (said : List ToEditor) (more : List Made) → said ≡ [] → more ≡ [] → AreLatest held made → Sound asked held said made more
+  silent : (asked : List SentAsk) (held : OpenDocuments) (made : List Made) (said : List MessageToEditor) (more : List Made) → said ≡ [] → more ≡ [] → AreLatest held made → Sound asked held said made more
   silent asked held made said more none none_made now =
       subst (λ s. Sound asked held s made more) (sym none)
       (subst (λ m. Sound asked held [] made m) (sym none_made)
-      (record { fit = All-nil (AnswerFits unit asked); right = All-nil IsRight; now = subst (AreLatest held) (sym (append-nil made)) now }))
+      (record { fit = All-nil (AnswerFits unit asked); right = All-nil IsCorrectPublication; now = subst (AreLatest held) (sym (append-nil made)) now }))
 
-  publish_sound : (asked : List SentAsk) (held : OpenDocuments) (uri : List ℕ) (o : Option Document) (said : List ToEditor) (made more : List Made) → document_at held uri ≡ o → Others held uri made → Publishes uri o said more → Sound asked held said made more
+  publish_sound : (asked : List SentAsk) (held : OpenDocuments) (uri : List ℕ) (o : Option Document) (said : List MessageToEditor) (made more : List Made) → document_at held uri ≡ o → Others held uri made → Publishes uri o said more → Sound asked held said made more
   publish_sound asked held uri (Some (InStep version text)) said made more at others (empty, right, is_said, is_made) =
       let m : Made = record { uri = uri; version = version; text = text; empty = empty } in
       subst (λ s. Sound asked held s made more) (sym is_said)
       (subst (λ ms. Sound asked held (publishes uri (Some version) empty ∷ []) made ms) (sym is_made)
       (record {
         fit = All-push (AnswerFits unit asked) [] (publishes uri (Some version) empty) (All-nil (AnswerFits unit asked)) tt;
-        right = All-push IsRight [] m (All-nil IsRight) right;
+        right = All-push IsCorrectPublication [] m (All-nil IsCorrectPublication) right;
         now = publish_latest held uri m made refl at others;
       }))
   publish_sound asked held uri (Some OutOfStep) said made more at others h =
@@ -210,7 +210,7 @@ module _ (unit : Unit) where
       go true h = absurd (none-some (InStep version text) h)
       go false h = now q version text h
 
-  note_sound : (asked : List SentAsk) (held : OpenDocuments) (note : DocumentEvent) (said : List ToEditor) (made more : List Made) → AreLatest held made → RepliesToNotification held note said more → Sound asked (after_event held note) said made more
+  note_sound : (asked : List SentAsk) (held : OpenDocuments) (note : DocumentEvent) (said : List MessageToEditor) (made more : List Made) → AreLatest held made → RepliesToNotification held note said more → Sound asked (after_event held note) said made more
   note_sound asked held (Opened uri version text) said made more now h =
       publish_sound asked (after_event held (Opened uri version text)) uri (document_at (after_event held (Opened uri version text)) uri) said made more refl (put_others held uri (InStep version text) made now) h
   note_sound asked held (Changed uri version how) said made more now h =
@@ -232,10 +232,10 @@ module _ (unit : Unit) where
       record { requested = known.requested; is = known.is; holds = answer_keeps unit known.requested.text ask edits (subst (λ o. IsAnswer unit o ask edits) known.holds.1 (subst (λ u. IsAnswer u (document_at held uri) ask edits) same_unit may)) }
 
   -- holds if the server has the text of the request when it takes this message
-  abbrev Meets : List SentAsk → OpenDocuments → ToServer → Type 0
+  abbrev Meets : List SentAsk → OpenDocuments → MessageToServer → Type 0
   Meets asked held m = AsksSee asked held (m ∷ [])
 
-  message_sound : (asked : List SentAsk) (held : OpenDocuments) (m : ToServer) (said : List ToEditor) (made more : List Made) → held.unit ≡ unit → Meets asked held m → AreLatest held made → Replies held m said more → Sound asked (after_message held m) said made more
+  message_sound : (asked : List SentAsk) (held : OpenDocuments) (m : MessageToServer) (said : List MessageToEditor) (made more : List Made) → held.unit ≡ unit → Meets asked held m → AreLatest held made → Replies held m said more → Sound asked (after_message held m) said made more
   message_sound asked held (notifies note) said made more same_unit meets now h = note_sound asked held note said made more now h
   message_sound asked held (requests k uri ask) said made more same_unit meets now (edits, may, is_said, is_made) =
       let quiet : Sound asked held [] made more = silent asked held made [] more refl is_made now in
@@ -250,11 +250,11 @@ module _ (unit : Unit) where
 
   -- If the server will have the text of each request in a queue, that holds of the first message, and later of the
   -- rest.
-  sees_first : (e : List SentAsk) (held : OpenDocuments) (m : ToServer) (rest : List ToServer) → AsksSee e held (m ∷ rest) → Meets e held m × AsksSee e (after_message held m) rest
+  sees_first : (e : List SentAsk) (held : OpenDocuments) (m : MessageToServer) (rest : List MessageToServer) → AsksSee e held (m ∷ rest) → Meets e held m × AsksSee e (after_message held m) rest
   sees_first e held (notifies note) rest h = (tt, h)
   sees_first e held (requests k uri ask) rest h = ((h.0, tt), h.1)
 
-  pub serve_kept : (w : ClientAndServer) (queue : List ToServer) (new : ClientAndServer) → w.to_server ≡ queue → Both w → ServerTakes w queue new → Both new
+  pub serve_kept : (w : ClientAndServer) (queue : List MessageToServer) (new : ClientAndServer) → w.to_server ≡ queue → Both w → ServerTakes w queue new → Both new
   serve_kept w [] new is both h = subst Both (sym h) both
   serve_kept w (m ∷ rest) new is (kept, now) (said, more, may, is_new) =
       let asked : List SentAsk = w.editor.requested in
@@ -264,12 +264,12 @@ module _ (unit : Unit) where
         record {
           counts = kept.counts;
           holds = message_unit w.held m ∙ kept.holds;
-          mirror = subst (λ q. (uri : List ℕ) → document_at (fold after_message w.held q) uri ≡ option_map as_open (open_at w.editor uri)) is kept.mirror;
+          mirror = subst (λ q. (uri : List ℕ) → document_at (fold after_message w.held q) uri ≡ option_map in_step_document (open_at w.editor uri)) is kept.mirror;
           requested = see.1;
           answered = All-append (AnswerFits unit asked) w.to_editor said kept.answered sound.fit;
           answers_held = kept.answers_held;
           applied = kept.applied;
-          made = All-append IsRight w.made more kept.made sound.right;
+          made = All-append IsCorrectPublication w.made more kept.made sound.right;
         },
         sound.now,
       )
@@ -277,7 +277,7 @@ module _ (unit : Unit) where
   -- ---- all events
 
   -- When the editor takes a message, the server's documents and publications don't change.
-  pub take_unmoved : (w : ClientAndServer) (queue : List ToEditor) → ((after_taking w queue).held ≡ w.held) × ((after_taking w queue).made ≡ w.made)
+  pub take_unmoved : (w : ClientAndServer) (queue : List MessageToEditor) → ((after_editor_takes w queue).held ≡ w.held) × ((after_editor_takes w queue).made ≡ w.made)
   take_unmoved w [] = (refl, refl)
   take_unmoved w (m ∷ rest) = (refl, refl)
 
@@ -289,17 +289,17 @@ module _ (unit : Unit) where
     record {
       counts = refl;
       holds = refl;
-      mirror = λ q. map_of.get-empty (slice_cmp nat_cmp) q ∙ sym (ap (option_map as_open) (map_of.get-empty (slice_cmp nat_cmp) q));
+      mirror = λ q. map_of.get-empty (slice_cmp nat_cmp) q ∙ sym (ap (option_map in_step_document) (map_of.get-empty (slice_cmp nat_cmp) q));
       requested = tt;
       answered = All-nil (AnswerFits unit []);
       answers_held = All-nil (HeldFits unit []);
       applied = All-nil KeepsTheRun;
-      made = All-nil IsRight;
+      made = All-nil IsCorrectPublication;
     },
     λ uri version text at. nothing_at uri (InStep version text) (IsMadeFor version text None) at,
   )
 
-  pub up_to_date : (w : ClientAndServer) → Both w → notes_among w.to_server ≡ [] → AreUpToDate w.editor w.made
+  pub up_to_date : (w : ClientAndServer) → Both w → notifications_among w.to_server ≡ [] → AreUpToDate w.editor w.made
   up_to_date w (kept, now) quiet uri d at =
-      let held : document_at w.held uri ≡ Some (as_open d) = subst (λ held. document_at held uri ≡ Some (as_open d)) (quiet_stays w.held w.to_server quiet) (kept.mirror uri ∙ ap (option_map as_open) at) in
+      let held : document_at w.held uri ≡ Some (in_step_document d) = subst (λ held. document_at held uri ≡ Some (in_step_document d)) (quiet_stays w.held w.to_server quiet) (kept.mirror uri ∙ ap (option_map in_step_document) at) in
       now uri d.version d.text held

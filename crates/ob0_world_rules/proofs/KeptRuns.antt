@@ -10,7 +10,7 @@ use Rattle.ob0_edits.specs.Texts.{utf8}
 use Rattle.ob0_world_rules.specs.Edited.{Replacement, replacements}
 use Rattle.ob0_world_rules.proofs.EditedTexts.{edited_as_patched}
 use Rattle.ob0_world_rules.specs.Asks.{Ask, rename, inline_here, inline_all, format}
-use Rattle.ob0_world_rules.specs.Answers.{GivesEdits, AnswersFor}
+use Rattle.ob0_world_rules.specs.Answers.{GivesEdits, IsAnswerForText}
 use Rattle.ob0_world_rules.specs.Laws.{EditsPreserveRun}
 use Rattle.ob0_world_rules.proofs.ModuleTexts.{well_typed_text}
 use Rattle.ob0_world_rules.proofs.Trees.{same_run}
@@ -33,6 +33,6 @@ edits_keep_the_run unit text (inline_all position) edits (list, found, is) = sub
 edits_keep_the_run unit text (format indent) edits found = runs_kept unit text found.after edits found.made found.runs
 
 -- An answer about a text has no edits, or edits that preserve its run.
-pub answer_keeps : (unit : Unit) (text : List ℕ) (ask : Ask) (given : List Replacement) → AnswersFor unit text ask given → (given ≡ []) ⊎ EditsPreserveRun unit text given
+pub answer_keeps : (unit : Unit) (text : List ℕ) (ask : Ask) (given : List Replacement) → IsAnswerForText unit text ask given → (given ≡ []) ⊎ EditsPreserveRun unit text given
 answer_keeps unit text ask given (inl (edits, found, is)) = inr (subst (EditsPreserveRun unit text) (sym is) (edits_keep_the_run unit text ask edits found))
 answer_keeps unit text ask given (inr (why, none)) = inl none

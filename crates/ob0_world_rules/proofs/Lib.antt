@@ -7,15 +7,15 @@ pub mod OneLayout
 pub mod OneInlining
 pub mod OneFields
 pub mod OneRenaming
-mod OneAnswer
-pub mod OneCourse
+mod AnswerIsDetermined
+pub mod CourseIsDetermined
 mod CourseFits
 mod Keeping
 pub mod Interleavings
 pub mod UriLaws
 pub mod Asked
 pub mod SameDocument
-pub mod Acts
+pub mod PerformsAct
 pub mod EditedTexts
 pub mod EveryEditor
 pub mod ModelEditor

@@ -4,25 +4,25 @@ use Rattle.std.specs.Prelude.{◌⊎◌, ℤ, pos, Some}
 use Rattle.std.proofs.lemmas.List.{map-append}
 use Rattle.ob0_text.specs.declared.position_types.Unit.{Unit}
 use Rattle.ob0_text.specs.OpenDocuments.{TextChange, changed_text}
-use Rattle.ob0_world_rules.specs.Edited.{Replacement, edited, whole_text, after_changes}
-use Rattle.ob0_world_rules.specs.ClientAndServer.{Open, EditorDocuments, SentAsk, Editor, request_numbered, open_at, ToServer, ToEditor, publishes, answers, ClientAndServer, start, after_message}
-use Rattle.ob0_world_rules.specs.Editing.{Act, Done, next_version, stays, opens, rewrites, kept_answer, without_answer, done_by, reads}
-use Rattle.ob0_world_rules.specs.Happens.{Event, does, serve, take_message, after_act, after_taking, ServerTakes, Happens, Course}
+use Rattle.ob0_world_rules.specs.Edited.{Replacement, edited, whole_text_change, text_after_changes}
+use Rattle.ob0_world_rules.specs.ClientAndServer.{OpenDocument, EditorDocuments, SentAsk, Editor, request_numbered, open_at, MessageToServer, MessageToEditor, publishes, answers, ClientAndServer, start, after_message}
+use Rattle.ob0_world_rules.specs.EditorActs.{Act, ActResult, next_version, unchanged_result, opening_result, rewriting_result, edits_of_answer, without_answer, act_result, reads}
+use Rattle.ob0_world_rules.specs.Happens.{Event, does, serve, take_message, after_act, after_editor_takes, ServerTakes, Happens, Course}
 use Rattle.ob0_world_rules.specs.Headline.{Holds}
 use Rattle.ob0_world_rules.specs.Mirror.{Mirrors}
-use Rattle.ob0_world_rules.specs.Laws.{InEveryInterleaving, ServerMirrors}
-use Rattle.ob0_world_rules.specs.MadeInOrder.{Announced, announced_at, announced_in, announced_at_event, AreAnnounced, named_in, MadeInOrder}
-use Rattle.ob0_world_rules.specs.Editors.{Revision, Move, to_open, to_revise, to_close, to_ask, to_apply, to_drop, revised, with_document, Revises, AppliesAnswer, May}
-use Rattle.ob0_world_rules.specs.EveryEditor.{EditorAndServer, as_model, Turn, editor_does, server_takes, editor_takes, TakesNext, after_one, MayHappen, MayLead, HoldsWithEditor, TheModelIsOne}
+use Rattle.ob0_world_rules.specs.Laws.{HoldsInEveryInterleaving, ServerMirrorsEditor}
+use Rattle.ob0_world_rules.specs.PublicationsInOrder.{AnnouncedDocument, announced_if_open, announced_in, announced_at_event, AreAnnounced, versions_announced_in, PublicationsInOrder}
+use Rattle.ob0_world_rules.specs.Editors.{Revision, Move, to_open, to_revise, to_close, to_ask, to_apply, to_drop, revised_document, with_document, Revises, AppliesAnswer, IsAllowedMove}
+use Rattle.ob0_world_rules.specs.EveryEditor.{EditorAndServer, model_state_of, Turn, editor_does, server_takes, editor_takes, ServerTakesNext, after_editor_takes_next, MayHappen, MayLeadTo, HoldsWithEditor, ModelEditorKeepsRules}
 use Rattle.ob0_world_rules.proofs.SameDocument.{Same, Knows, same_text, knows_first, knows_other, knows_open, knows_rewrite, knows_close, knows_ask}
-use Rattle.ob0_world_rules.proofs.Acts.{edit_of, of_each}
-use Rattle.ob0_world_rules.proofs.EveryEditor.{others_none, with_every_editor}
+use Rattle.ob0_world_rules.proofs.PerformsAct.{edit_of, of_each}
+use Rattle.ob0_world_rules.proofs.EveryEditor.{others_none, holds_for_every_editor}
 use Rattle.std.specs.FinMap as map_of
 use Rattle.ob0_world_rules.proofs.UriLaws.{get_put, uri_itself}
-use Rattle.ob0_world_rules.proofs.OneCourse.{one_course}
+use Rattle.ob0_world_rules.proofs.CourseIsDetermined.{course_is_determined}
 
 -- returns the model's state with the announced documents and no other messages
-abbrev pub from_model : ClientAndServer → List Announced → EditorAndServer
+abbrev pub from_model : ClientAndServer → List AnnouncedDocument → EditorAndServer
 from_model w announced =
     record {
       editor = w.editor;
@@ -35,47 +35,47 @@ from_model w announced =
     }
 
 -- states that some turns may lead from one state of the model to the other, and announce the documents `more`
-record ComesTo (w : ClientAndServer) (announced : List Announced) (new : ClientAndServer) (more : List Announced) : Type 0 where
+record ComesTo (w : ClientAndServer) (announced : List AnnouncedDocument) (new : ClientAndServer) (more : List AnnouncedDocument) : Type 0 where
   turns : List Turn
-  lead : MayLead (from_model w announced) turns (from_model new (announced ++ more))
+  lead : MayLeadTo (from_model w announced) turns (from_model new (announced ++ more))
 
 -- One turn leads to its result.
-by_turn : (w : ClientAndServer) (announced : List Announced) (new : ClientAndServer) (more : List Announced) (turn : Turn) → MayHappen (from_model w announced) turn (from_model new (announced ++ more)) → ComesTo w announced new more
+by_turn : (w : ClientAndServer) (announced : List AnnouncedDocument) (new : ClientAndServer) (more : List AnnouncedDocument) (turn : Turn) → MayHappen (from_model w announced) turn (from_model new (announced ++ more)) → ComesTo w announced new more
 by_turn w announced new more turn happens = record { turns = turn ∷ []; lead = (from_model new (announced ++ more), happens, refl) }
 
 -- One turn that announces nothing leads to its result.
-by_quiet_turn : (w : ClientAndServer) (announced : List Announced) (new : ClientAndServer) (turn : Turn) → MayHappen (from_model w announced) turn (from_model new announced) → ComesTo w announced new []
+by_quiet_turn : (w : ClientAndServer) (announced : List AnnouncedDocument) (new : ClientAndServer) (turn : Turn) → MayHappen (from_model w announced) turn (from_model new announced) → ComesTo w announced new []
 by_quiet_turn w announced new turn happens = by_turn w announced new [] turn (subst (λ ts. MayHappen (from_model w announced) turn (from_model new ts)) (sym (append-nil announced)) happens)
 
 -- An equal state is reached without any turn.
-as_it_was : (w new : ClientAndServer) (announced : List Announced) → new ≡ w → ComesTo w announced new []
+as_it_was : (w new : ClientAndServer) (announced : List AnnouncedDocument) → new ≡ w → ComesTo w announced new []
 as_it_was w new announced is = record { turns = []; lead = λ i. from_model (is i) (append-nil announced i) }
 
-by_move : (w : ClientAndServer) (announced : List Announced) (move : Move) (done : Done) (more : List Announced) → May w.editor move done more → ComesTo w announced (after_act w done) more
+by_move : (w : ClientAndServer) (announced : List AnnouncedDocument) (move : Move) (done : ActResult) (more : List AnnouncedDocument) → IsAllowedMove w.editor move done more → ComesTo w announced (after_act w done) more
 by_move w announced move done more may =
     by_turn w announced (after_act w done) more (editor_does move)
     (done, more, may, λ i. record (from_model (after_act w done) (announced ++ more)) { to_server = map-append Some w.to_server done.sent i })
 
 -- A document that is inserted is the one that is announced.
-put_announced : (docs : EditorDocuments) (uri : List ℕ) (d : Open) → announced_at uri (map_of.get (map_of.insert docs uri d) uri) ++ [] ≡ record { uri = uri; document = d } ∷ []
-put_announced docs uri d = ap (λ o. announced_at uri o ++ []) (get_put docs uri d uri ∙ ap (λ b. cond b (Some d) (map_of.get docs uri)) (uri_itself uri))
+put_announced : (docs : EditorDocuments) (uri : List ℕ) (d : OpenDocument) → announced_if_open uri (map_of.get (map_of.insert docs uri d) uri) ++ [] ≡ record { uri = uri; document = d } ∷ []
+put_announced docs uri d = ap (λ o. announced_if_open uri o ++ []) (get_put docs uri d uri ∙ ap (λ b. cond b (Some d) (map_of.get docs uri)) (uri_itself uri))
 
 -- returns the revision with the next version and this text, by one notification
 abbrev rewrite_of : ℤ → List ℕ → List TextChange → Revision
 rewrite_of version text how = record { version = next_version version; text = text; how = how }
 
-rewritten_revises : (e : Editor) (uri : List ℕ) (d : Open) (how : List TextChange) (text : List ℕ) → open_at e uri ≡ Some d → after_changes e.unit (Some d.text) how ≡ Some text
-    → Revises e uri (rewrite_of d.version text how ∷ []) (with_document e uri (revised d (rewrite_of d.version text how))) (record { uri = uri; document = revised d (rewrite_of d.version text how) } ∷ [])
+rewritten_revises : (e : Editor) (uri : List ℕ) (d : OpenDocument) (how : List TextChange) (text : List ℕ) → open_at e uri ≡ Some d → text_after_changes e.unit (Some d.text) how ≡ Some text
+    → Revises e uri (rewrite_of d.version text how ∷ []) (with_document e uri (revised_document d (rewrite_of d.version text how))) (record { uri = uri; document = revised_document d (rewrite_of d.version text how) } ∷ [])
 rewritten_revises e uri d how text at makes = (d, [], at, makes, (refl, refl), refl)
 
-whole : (u : Unit) (old text : List ℕ) → after_changes u (Some old) (whole_text text ∷ []) ≡ Some text
+whole : (u : Unit) (old text : List ℕ) → text_after_changes u (Some old) (whole_text_change text ∷ []) ≡ Some text
 unfolding changed_text
 whole u old text = refl
 
-applied_so : (e : Editor) (k : ℕ) (edits : List Replacement) (a : SentAsk) (d : Open) (text : List ℕ) → kept_answer k e.answers ≡ Some edits → request_numbered e.requested k ≡ Some a → Same e a d → d.text ≡ a.text → edited e.unit d.text edits ≡ Some text
-    → AppliesAnswer e k (rewrite_of d.version text (whole_text text ∷ []) ∷ []) (rewrites (without_answer e k) a.uri d text (whole_text text ∷ []) (edit_of a.uri d text ∷ [])) (record { uri = a.uri; document = revised d (rewrite_of d.version text (whole_text text ∷ [])) } ∷ [])
+applied_so : (e : Editor) (k : ℕ) (edits : List Replacement) (a : SentAsk) (d : OpenDocument) (text : List ℕ) → edits_of_answer k e.answers ≡ Some edits → request_numbered e.requested k ≡ Some a → Same e a d → d.text ≡ a.text → edited e.unit d.text edits ≡ Some text
+    → AppliesAnswer e k (rewrite_of d.version text (whole_text_change text ∷ []) ∷ []) (rewriting_result (without_answer e k) a.uri d text (whole_text_change text ∷ []) (edit_of a.uri d text ∷ [])) (record { uri = a.uri; document = revised_document d (rewrite_of d.version text (whole_text_change text ∷ [])) } ∷ [])
 applied_so e k edits a d text answered numbered same as_asked makes =
-    let r : Revision = rewrite_of d.version text (whole_text text ∷ []) in
+    let r : Revision = rewrite_of d.version text (whole_text_change text ∷ []) in
     record {
       edits = edits;
       answered = answered;
@@ -86,9 +86,9 @@ applied_so e k edits a d text answered numbered same as_asked makes =
       same_text = as_asked;
       text = text;
       makes = makes;
-      new = with_document (without_answer e k) a.uri (revised d r);
-      revises = rewritten_revises (without_answer e k) a.uri d (whole_text text ∷ []) text same.at (whole e.unit d.text text);
-      first = whole_text text ∷ [];
+      new = with_document (without_answer e k) a.uri (revised_document d r);
+      revises = rewritten_revises (without_answer e k) a.uri d (whole_text_change text ∷ []) text same.at (whole e.unit d.text text);
+      first = whole_text_change text ∷ [];
       next = [];
       cut = refl;
       first_make = whole e.unit d.text text;
@@ -97,7 +97,7 @@ applied_so e k edits a d text answered numbered same as_asked makes =
 
 -- ---- the asks of the model's editor
 
-knows_act : (e : Editor) (act : Act) → Knows e → Knows (done_by e act).editor
+knows_act : (e : Editor) (act : Act) → Knows e → Knows (act_result e act).editor
 knows_act e act knows =
     of_each e (λ done. Knows done.editor)
     (record {
@@ -107,12 +107,12 @@ knows_act e act knows =
       closed = λ uri d at. knows_close e uri knows;
       asked = λ uri ask d at. knows_ask e uri ask d at knows;
       made = λ k edits a d text answered numbered same makes.
-          knows_rewrite (without_answer e k) a.uri d text (whole_text text ∷ []) (edit_of a.uri d text ∷ []) same.at (knows_other e (without_answer e k).answers knows);
+          knows_rewrite (without_answer e k) a.uri d text (whole_text_change text ∷ []) (edit_of a.uri d text ∷ []) same.at (knows_other e (without_answer e k).answers knows);
       dropped = λ k. knows_other e (without_answer e k).answers knows;
     })
     act
 
-knows_read : (e : Editor) (m : ToEditor) → Knows e → Knows (reads e m)
+knows_read : (e : Editor) (m : MessageToEditor) → Knows e → Knows (reads e m)
 knows_read e (publishes uri version empty) knows = knows
 knows_read e (answers k []) knows = knows
 knows_read e (answers k (edit ∷ edits)) knows = knows_other e (reads e (answers k (edit ∷ edits))).answers knows
@@ -121,61 +121,61 @@ pub knows_event : (w : ClientAndServer) (event : Event) (new : ClientAndServer) 
 knows_event w (does act) new knows is = subst (λ (x : ClientAndServer). Knows x.editor) (sym is) (knows_act w.editor act knows)
 knows_event w serve new knows happens = go w.to_server happens
   where
-    go : (queue : List ToServer) → ServerTakes w queue new → Knows new.editor
+    go : (queue : List MessageToServer) → ServerTakes w queue new → Knows new.editor
     go [] is = subst (λ (x : ClientAndServer). Knows x.editor) (sym is) knows
     go (m ∷ rest) (said, made, replies, is) = subst (λ (x : ClientAndServer). Knows x.editor) (sym is) knows
 knows_event w take_message new knows is = subst (λ (x : ClientAndServer). Knows x.editor) (sym is) (go w.to_editor)
   where
-    go : (queue : List ToEditor) → Knows (after_taking w queue).editor
+    go : (queue : List MessageToEditor) → Knows (after_editor_takes w queue).editor
     go [] = knows
     go (m ∷ rest) = knows_read w.editor m knows
 
 -- ---- each event
 
 -- An act that does nothing leaves an equal state.
-nothing_done : (w : ClientAndServer) → after_act w (stays w.editor) ≡ w
+nothing_done : (w : ClientAndServer) → after_act w (unchanged_result w.editor) ≡ w
 nothing_done w i = record w { to_server = append-nil w.to_server i; applied = append-nil w.applied i }
 
 -- holds if an act changes nothing, or is a move that the editor may make and that announces what its messages announce
-abbrev pub IsMove : Editor → Done → Type 0
-IsMove e done = (done ≡ stays e) ⊎ ((move : Move) × May e move done (announced_in done.editor done.sent))
+abbrev pub IsMove : Editor → ActResult → Type 0
+IsMove e done = (done ≡ unchanged_result e) ⊎ ((move : Move) × IsAllowedMove e move done (announced_in done.editor done.sent))
 
-moves : (e : Editor) (done : Done) (move : Move) (announced : List Announced) → announced_in done.editor done.sent ≡ announced → May e move done announced → IsMove e done
-moves e done move announced are may = inr (move, subst (May e move done) (sym are) may)
+moves : (e : Editor) (done : ActResult) (move : Move) (announced : List AnnouncedDocument) → announced_in done.editor done.sent ≡ announced → IsAllowedMove e move done announced → IsMove e done
+moves e done move announced are may = inr (move, subst (IsAllowedMove e move done) (sym are) may)
 
-pub act_may : (e : Editor) (act : Act) → Knows e → IsMove e (done_by e act)
+pub act_may : (e : Editor) (act : Act) → Knows e → IsMove e (act_result e act)
 act_may e act knows =
     of_each e (IsMove e)
     (record {
       still = inl refl;
       opened = λ uri text none.
-          let d : Open = record { version = pos 1; text = text; opening = e.openings + 1 } in
-          moves e (opens e uri text) (to_open uri (pos 1) text) (record { uri = uri; document = d } ∷ []) (put_announced e.documents uri d) (refl, refl);
+          let d : OpenDocument = record { version = pos 1; text = text; opening = e.openings + 1 } in
+          moves e (opening_result e uri text) (to_open uri (pos 1) text) (record { uri = uri; document = d } ∷ []) (put_announced e.documents uri d) (refl, refl);
       changed = λ uri d how text at makes.
           let r : Revision = rewrite_of d.version text how in
-          moves e (rewrites e uri d text how []) (to_revise uri (r ∷ [])) (record { uri = uri; document = revised d r } ∷ []) (put_announced e.documents uri (revised d r))
-          (with_document e uri (revised d r), rewritten_revises e uri d how text at makes, refl);
+          moves e (rewriting_result e uri d text how []) (to_revise uri (r ∷ [])) (record { uri = uri; document = revised_document d r } ∷ []) (put_announced e.documents uri (revised_document d r))
+          (with_document e uri (revised_document d r), rewritten_revises e uri d how text at makes, refl);
       closed = λ uri d at. inr (to_close uri, (refl, refl));
       asked = λ uri ask d at. inr (to_ask uri ask, (d, at, refl, refl));
       made = λ k edits a d text answered numbered same makes.
-          let r : Revision = rewrite_of d.version text (whole_text text ∷ []) in
-          moves e (rewrites (without_answer e k) a.uri d text (whole_text text ∷ []) (edit_of a.uri d text ∷ [])) (to_apply k (r ∷ [])) (record { uri = a.uri; document = revised d r } ∷ [])
-          (put_announced e.documents a.uri (revised d r)) (applied_so e k edits a d text answered numbered same (same_text e k a d knows numbered same) makes);
+          let r : Revision = rewrite_of d.version text (whole_text_change text ∷ []) in
+          moves e (rewriting_result (without_answer e k) a.uri d text (whole_text_change text ∷ []) (edit_of a.uri d text ∷ [])) (to_apply k (r ∷ [])) (record { uri = a.uri; document = revised_document d r } ∷ [])
+          (put_announced e.documents a.uri (revised_document d r)) (applied_so e k edits a d text answered numbered same (same_text e k a d knows numbered same) makes);
       dropped = λ k. inr (to_drop k, (refl, refl));
     })
     act
 
-act_comes : (w : ClientAndServer) (announced : List Announced) (act : Act) → Knows w.editor → ComesTo w announced (after_act w (done_by w.editor act)) (announced_at_event w (does act))
-act_comes w announced act knows = go (done_by w.editor act) (act_may w.editor act knows)
+act_comes : (w : ClientAndServer) (announced : List AnnouncedDocument) (act : Act) → Knows w.editor → ComesTo w announced (after_act w (act_result w.editor act)) (announced_at_event w (does act))
+act_comes w announced act knows = go (act_result w.editor act) (act_may w.editor act knows)
   where
-    go : (done : Done) → IsMove w.editor done → ComesTo w announced (after_act w done) (announced_in done.editor done.sent)
-    go done (inl is) = subst (λ (d : Done). ComesTo w announced (after_act w d) (announced_in d.editor d.sent)) (sym is) (as_it_was w (after_act w (stays w.editor)) announced (nothing_done w))
+    go : (done : ActResult) → IsMove w.editor done → ComesTo w announced (after_act w done) (announced_in done.editor done.sent)
+    go done (inl is) = subst (λ (d : ActResult). ComesTo w announced (after_act w d) (announced_in d.editor d.sent)) (sym is) (as_it_was w (after_act w (unchanged_result w.editor)) announced (nothing_done w))
     go done (inr (move, may)) = by_move w announced move done (announced_in done.editor done.sent) may
 
-serve_comes : (w : ClientAndServer) (announced : List Announced) (queue : List ToServer) (new : ClientAndServer) → w.to_server ≡ queue → ServerTakes w queue new → ComesTo w announced new []
+serve_comes : (w : ClientAndServer) (announced : List AnnouncedDocument) (queue : List MessageToServer) (new : ClientAndServer) → w.to_server ≡ queue → ServerTakes w queue new → ComesTo w announced new []
 serve_comes w announced [] new waits is = as_it_was w new announced is
 serve_comes w announced (m ∷ rest) new waits (said, made, replies, is) =
-    let takes : TakesNext (from_model w announced) (Some m ∷ map Some rest) (from_model new announced) = (
+    let takes : ServerTakesNext (from_model w announced) (Some m ∷ map Some rest) (from_model new announced) = (
       said,
       made,
       replies,
@@ -186,74 +186,74 @@ serve_comes w announced (m ∷ rest) new waits (said, made, replies, is) =
         made = w.made ++ made;
       }),
     ) in
-    by_quiet_turn w announced new server_takes (subst (λ q. TakesNext (from_model w announced) q (from_model new announced)) (ap (map Some) (sym waits)) takes)
+    by_quiet_turn w announced new server_takes (subst (λ q. ServerTakesNext (from_model w announced) q (from_model new announced)) (ap (map Some) (sym waits)) takes)
 
-take_comes : (w : ClientAndServer) (announced : List Announced) (queue : List ToEditor) → w.to_editor ≡ queue → ComesTo w announced (after_taking w queue) []
+take_comes : (w : ClientAndServer) (announced : List AnnouncedDocument) (queue : List MessageToEditor) → w.to_editor ≡ queue → ComesTo w announced (after_editor_takes w queue) []
 take_comes w announced [] waits = as_it_was w w announced refl
 take_comes w announced (m ∷ rest) waits =
-    by_quiet_turn w announced (after_taking w (m ∷ rest)) editor_takes
-    (subst (λ q. from_model (after_taking w (m ∷ rest)) announced ≡ after_one (from_model w announced) (map Some q)) (sym waits) refl)
+    by_quiet_turn w announced (after_editor_takes w (m ∷ rest)) editor_takes
+    (subst (λ q. from_model (after_editor_takes w (m ∷ rest)) announced ≡ after_editor_takes_next (from_model w announced) (map Some q)) (sym waits) refl)
 
-event_comes : (w : ClientAndServer) (announced : List Announced) (event : Event) (new : ClientAndServer) → Knows w.editor → Happens w event new → ComesTo w announced new (announced_at_event w event)
+event_comes : (w : ClientAndServer) (announced : List AnnouncedDocument) (event : Event) (new : ClientAndServer) → Knows w.editor → Happens w event new → ComesTo w announced new (announced_at_event w event)
 event_comes w announced (does act) new knows is = subst (λ x. ComesTo w announced x (announced_at_event w (does act))) (sym is) (act_comes w announced act knows)
 event_comes w announced serve new knows happens = serve_comes w announced w.to_server new refl happens
 event_comes w announced take_message new knows is = subst (λ x. ComesTo w announced x []) (sym is) (take_comes w announced w.to_editor refl)
 
-lead_append : (turns more : List Turn) (w between new : EditorAndServer) → MayLead w turns between → MayLead between more new → MayLead w (turns ++ more) new
-lead_append [] more w between new is lead = subst (λ x. MayLead x more new) is lead
+lead_append : (turns more : List Turn) (w between new : EditorAndServer) → MayLeadTo w turns between → MayLeadTo between more new → MayLeadTo w (turns ++ more) new
+lead_append [] more w between new is lead = subst (λ x. MayLeadTo x more new) is lead
 lead_append (turn ∷ turns) more w between new (mid, happens, rest) lead = (mid, happens, lead_append turns more mid between new rest lead)
 
 -- states which documents events announce, and that turns may lead where the events lead
-record Led (w : ClientAndServer) (announced : List Announced) (events : List Event) (new : ClientAndServer) : Type 0 where
-  more : List Announced
+record Led (w : ClientAndServer) (announced : List AnnouncedDocument) (events : List Event) (new : ClientAndServer) : Type 0 where
+  more : List AnnouncedDocument
   are : AreAnnounced w events more
   comes : ComesTo w announced new more
 
-course_comes : (events : List Event) (w : ClientAndServer) (announced : List Announced) (new : ClientAndServer) → Knows w.editor → Course w events new → Led w announced events new
+course_comes : (events : List Event) (w : ClientAndServer) (announced : List AnnouncedDocument) (new : ClientAndServer) → Knows w.editor → Course w events new → Led w announced events new
 course_comes [] w announced new knows is = record { more = []; are = refl; comes = as_it_was w new announced is }
 course_comes (event ∷ events) w announced new knows (between, happens, run) =
-    let now : List Announced = announced_at_event w event in
+    let now : List AnnouncedDocument = announced_at_event w event in
     let first : ComesTo w announced between now = event_comes w announced event between knows happens in
     let rest : Led between (announced ++ now) events new = course_comes events between (announced ++ now) new (knows_event w event between knows happens) run in
-    let all : List Announced = now ++ rest.more in
+    let all : List AnnouncedDocument = now ++ rest.more in
     record {
       more = all;
       are = (between, rest.more, happens, rest.are, refl);
       comes = record {
         turns = first.turns ++ rest.comes.turns;
-        lead = subst (λ ts. MayLead (from_model w announced) (first.turns ++ rest.comes.turns) (from_model new ts)) (append_assoc announced now rest.more)
+        lead = subst (λ ts. MayLeadTo (from_model w announced) (first.turns ++ rest.comes.turns) (from_model new ts)) (append_assoc announced now rest.more)
             (lead_append first.turns rest.comes.turns (from_model w announced) (from_model between (announced ++ now)) (from_model new ((announced ++ now) ++ rest.more)) first.lead rest.comes.lead);
       };
     }
 
 -- Translating a state of the model to the model of every editor and back gives the same state.
-as_it_is : (w : ClientAndServer) (announced : List Announced) → as_model (from_model w announced) ≡ w
+as_it_is : (w : ClientAndServer) (announced : List AnnouncedDocument) → model_state_of (from_model w announced) ≡ w
 as_it_is w announced i = record w { to_server = others_none w.to_server i; to_editor = others_none w.to_editor i }
 
-pub the_model_is_one : TheModelIsOne
-the_model_is_one unit events end run =
+pub model_editor_keeps_rules : ModelEditorKeepsRules
+model_editor_keeps_rules unit events end run =
     let led : Led (start unit) [] events end = course_comes events (start unit) [] end (knows_first unit) run in
     (led.comes.turns, from_model end led.more, led.comes.lead, as_it_is end led.more)
 
 -- The laws of the model's editor follow from the laws of every editor.
-pub in_every_interleaving : InEveryInterleaving
-in_every_interleaving unit events end run =
-    let (turns, w, lead, is) = the_model_is_one unit events end run in
-    subst Holds is (with_every_editor unit turns w lead).holds
+pub holds_in_every_interleaving : HoldsInEveryInterleaving
+holds_in_every_interleaving unit events end run =
+    let (turns, w, lead, is) = model_editor_keeps_rules unit events end run in
+    subst Holds is (holds_for_every_editor unit turns w lead).holds
 
-pub server_mirrors : ServerMirrors
-server_mirrors unit events end run =
-    let (turns, w, lead, is) = the_model_is_one unit events end run in
-    subst Mirrors is (with_every_editor unit turns w lead).mirrors
+pub server_mirrors_editor : ServerMirrorsEditor
+server_mirrors_editor unit events end run =
+    let (turns, w, lead, is) = model_editor_keeps_rules unit events end run in
+    subst Mirrors is (holds_for_every_editor unit turns w lead).mirrors
 
-pub made_in_order : MadeInOrder
-made_in_order unit events end run =
+pub publications_in_order : PublicationsInOrder
+publications_in_order unit events end run =
     let led : Led (start unit) [] events end = course_comes events (start unit) [] end (knows_first unit) run in
-    let holds : HoldsWithEditor (from_model end led.more) = with_every_editor unit led.comes.turns (from_model end led.more) led.comes.lead in
+    let holds : HoldsWithEditor (from_model end led.more) = holds_for_every_editor unit led.comes.turns (from_model end led.more) led.comes.lead in
     record {
       announced = holds.published;
       waiting = holds.waiting;
       all = subst (AreAnnounced (start unit) events) holds.all led.are;
       made_of = holds.made_of;
-      still_wait = λ other too. holds.still_wait ∙ ap named_in (others_none end.to_server) ∙ ap (λ (x : ClientAndServer). named_in x.to_server) (one_course (start unit) events end other run too);
+      still_wait = λ other too. holds.still_wait ∙ ap versions_announced_in (others_none end.to_server) ∙ ap (λ (x : ClientAndServer). versions_announced_in x.to_server) (course_is_determined (start unit) events end other run too);
     }

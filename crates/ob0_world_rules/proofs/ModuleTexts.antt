@@ -7,23 +7,23 @@ use Rattle.std.proofs.lemmas.List.{map-append}
 use Rattle.ob0_scan.specs.declared.lexeme.LexemeKind.{LexemeKind}
 use Rattle.ob0_scan.specs.declared.lexeme.LexemeKind.TheVariants as lexeme
 use Rattle.ob0_scan.specs.Lexed.{Lexeme, Lexed}
-use Rattle.ob0_scan.specs.Scanned.{Scanned, IsScan, word_of, words, tokens_from, comments_from, max_text}
+use Rattle.ob0_scan.specs.TextWithTokens.{TextWithTokens, IsScan, word_of, words_of_lexemes, tokens_from, comments_from, max_text}
 use Rattle.ob0_tree.specs.Tree.{Tree, module_text}
 use Rattle.ob0_language_names.specs.Names.{Name}
 use Rattle.ob0_layout.proofs.Named.{named_lexeme, text_words}
 use Rattle.ob0_edits.specs.Diagnosed.{IsTextOf, IsWellTypedModule}
 use Rattle.ob0_edits.specs.Texts.{utf8}
 use Rattle.ob0_world_rules.specs.Language.{terminals, IsModuleText, WellTypedText}
-use Rattle.ob0_world_rules.specs.Laws.{OneReading}
+use Rattle.ob0_world_rules.specs.Laws.{ReadingsAgree}
 
 spelled_one : (l : Lexeme) (kind : LexemeKind) → map named_lexeme (word_of l kind) ≡ terminals kind l.text
 spelled_one l lexeme.Space = refl
 spelled_one l lexeme.Comment = refl
 spelled_one l (lexeme.Token kind) = refl
 
-spelled_so : (lexemes : List Lexeme) → map named_lexeme (words lexemes) ≡ flat_map (λ l. terminals l.kind l.text) lexemes
+spelled_so : (lexemes : List Lexeme) → map named_lexeme (words_of_lexemes lexemes) ≡ flat_map (λ l. terminals l.kind l.text) lexemes
 spelled_so [] = refl
-spelled_so (l ∷ lexemes) = map-append named_lexeme (word_of l l.kind) (words lexemes) ∙ (λ i. spelled_one l l.kind i ++ spelled_so lexemes i)
+spelled_so (l ∷ lexemes) = map-append named_lexeme (word_of l l.kind) (words_of_lexemes lexemes) ∙ (λ i. spelled_one l l.kind i ++ spelled_so lexemes i)
 
 pub module_text_of : (tree : Tree Name module_text) (bytes : List ℕ) → IsTextOf tree bytes → IsModuleText tree bytes
 module_text_of tree bytes h =
@@ -39,7 +39,7 @@ module_text_of tree bytes h =
 
 pub text_of_module : (tree : Tree Name module_text) (bytes : List ℕ) → IsModuleText tree bytes → IsTextOf tree bytes
 text_of_module tree bytes h =
-    let scanned : Scanned = record { text = bytes; tokens = tokens_from 0 h.lexemes; comments = comments_from 0 h.lexemes } in
+    let scanned : TextWithTokens = record { text = bytes; tokens = tokens_from 0 h.lexemes; comments = comments_from 0 h.lexemes } in
     let scan : IsScan scanned = record { utf8 = h.utf8; short = h.short; lexemes = h.lexemes; lexed = h.lexed; tokens = refl; comments = refl } in
     record {
       scanned = scanned;
@@ -53,5 +53,5 @@ well_typed_text text h = record { tree = h.tree; text_of = module_text_of h.tree
 pub well_typed_module : (text : List ℕ) → WellTypedText text → IsWellTypedModule (utf8 text)
 well_typed_module text h = record { tree = h.tree; text_of = text_of_module h.tree (utf8 text) h.text_of; well_typed = h.well_typed }
 
-pub one_reading : OneReading
-one_reading tree bytes = (module_text_of tree bytes, text_of_module tree bytes)
+pub readings_agree : ReadingsAgree
+readings_agree tree bytes = (module_text_of tree bytes, text_of_module tree bytes)

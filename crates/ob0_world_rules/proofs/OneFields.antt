@@ -1,14 +1,14 @@
 -- Proves that the fields of a module's text are one list, whichever table of ordinals its names were read with.
 -- Two tables of ordinals agree only at identifiers, so the proof doesn't compare the tables. It writes each field's
--- name longer by the ordinal of its record. The module with these names is the same for both tables (`AreOwners`), and
+-- name longer by the ordinal of its record. The module with these names is the same for both tables (`IsOwnerTable`), and
 -- each identifier's record is read from its name.
 use Rattle.std.proofs.Common.{◌≡◌, ◌≢◌, ◌∙◌, ℕ, suc, ◌+◌, ◌<◌, ◌≤◌, Option, Some, None, List, [], ◌∷◌, map, length, replicate, set, refl, sym, ap, subst, arith, le_refl, get_or-set_other, get_or-set_same}
 use Rattle.std.proofs.Math.ListN.{length-set}
 use Rattle.std.proofs.lemmas.List.{get_or-replicate, length-replicate}
 use Rattle.ob0_tree.specs.declared.tree.Role.TheVariants as role
-use Rattle.ob0_tree.specs.Lexeme.{Terminal, Name, Number, Mark, EndOfText, relabelled}
-use Rattle.ob0_tree.specs.Order.{Ascending, leaves}
-use Rattle.ob0_tree.specs.Parsed.{tree_of}
+use Rattle.ob0_tree.specs.Lexeme.{Terminal, Name, Number, Mark, EndOfText, mapped_terminal}
+use Rattle.ob0_tree.specs.Order.{AreAscending, leaves}
+use Rattle.ob0_tree.specs.ParsedModule.{tree_of}
 use Rattle.ob0_tree.specs.Places.{text_at, value_at}
 use Rattle.ob0_tree.specs.Tree.{Sort, Tree, mapped, spell}
 use Rattle.ob0_tree.proofs.Leaves.{ascending_bounds, leaves_ascend, leaves_spelled, lexeme_names}
@@ -16,18 +16,18 @@ use Rattle.ob0_tree.proofs.Mapped.{spell_mapped}
 use Rattle.ob0_language_names.specs.Names as written
 use Rattle.ob0_scope_table.specs.Resolution.{Resolution, ordinal_in}
 use Rattle.ob0_types.specs.CheckedModules.{IsWellTyped}
-use Rattle.ob0_language_fields.specs.Fields.{refielded}
-use Rattle.ob0_types_fields.specs.Owners.{AreOwners, of_records}
+use Rattle.ob0_language_fields.specs.Fields.{rename_fields_in_module}
+use Rattle.ob0_types_fields.specs.Owners.{IsOwnerTable, field_names_by_record}
 use Rattle.ob0_types_fields.specs.Identifiers.{field_identifiers}
-use Rattle.ob0_types_fields.specs.Owned.{HasOwners, fields_among, owned_tokens, with_fields_at}
-use Rattle.ob0_types_fields.proofs.OwnedModules.{owners_by_declaration-holds}
+use Rattle.ob0_types_fields.specs.Owned.{GivesListedOwners, fields_with_owners, owners_in_resolution, table_with_owners}
+use Rattle.ob0_types_fields.proofs.OwnedModules.{listed_owners_are_complete-holds}
 use Rattle.ob0_types_fields.proofs.OwnedTokens.{module-tokens, tokens}
 use Rattle.ob0_world_rules.proofs.OneModule.{Same, one_named_tree}
 
 -- ---- the table of a module's fields
 
 -- Writing fields into a table doesn't change its entries at smaller tokens.
-kept_below : (xs : List (ℕ × Option ℕ)) (table : List (Option ℕ)) (low high i : ℕ) → Ascending low (tokens xs) high → i < low → ordinal_in (with_fields_at table (fields_among xs)) i ≡ ordinal_in table i
+kept_below : (xs : List (ℕ × Option ℕ)) (table : List (Option ℕ)) (low high i : ℕ) → AreAscending low (tokens xs) high → i < low → ordinal_in (table_with_owners table (fields_with_owners xs)) i ≡ ordinal_in table i
 kept_below [] table low high i ascend below = refl
 kept_below ((x, None) ∷ xs) table low high i ascend below = kept_below xs table (x + 1) high i ascend.1 (omega (arith, ascend.0, below))
 kept_below ((x, Some k) ∷ xs) table low high i ascend below =
@@ -35,8 +35,8 @@ kept_below ((x, Some k) ∷ xs) table low high i ascend below =
     kept_below xs (set table x (Some k)) (x + 1) high i ascend.1 (omega (arith, ascend.0, below)) ∙ get_or-set_other table x i (Some k) None other
 
 -- Writing the fields of ascending tokens into a table that has none of them gives each token its owner.
-has_owners : (xs : List (ℕ × Option ℕ)) (table : List (Option ℕ)) (low high : ℕ) → Ascending low (tokens xs) high → high ≤ length table → ((i : ℕ) → low ≤ i → i < high → ordinal_in table i ≡ None)
-    → HasOwners (ordinal_in (with_fields_at table (fields_among xs))) xs
+has_owners : (xs : List (ℕ × Option ℕ)) (table : List (Option ℕ)) (low high : ℕ) → AreAscending low (tokens xs) high → high ≤ length table → ((i : ℕ) → low ≤ i → i < high → ordinal_in table i ≡ None)
+    → GivesListedOwners (ordinal_in (table_with_owners table (fields_with_owners xs))) xs
 has_owners [] table low high ascend within vacant = tt
 has_owners ((x, None) ∷ xs) table low high ascend within vacant =
     let last = ascending_bounds (x + 1) (tokens xs) high ascend.1 in (
@@ -53,22 +53,22 @@ has_owners ((x, Some k) ∷ xs) table low high ascend within vacant =
     )
 
 abbrev table_of : Resolution → List (Option ℕ)
-table_of r = with_fields_at (replicate (length r.module_read.source.tokens) None) (fields_among (owned_tokens r))
+table_of r = table_with_owners (replicate (length r.module_read.source.tokens) None) (fields_with_owners (owners_in_resolution r))
 
 module _ (r : Resolution) (well : IsWellTyped r) where
-  table_has : HasOwners (ordinal_in (table_of r)) (owned_tokens r)
+  table_has : GivesListedOwners (ordinal_in (table_of r)) (owners_in_resolution r)
   table_has =
       let n : ℕ = length r.module_read.source.tokens in
       let nothing : Option ℕ = None in
-      let ascend = subst (λ ts. Ascending 0 ts n) (sym (module-tokens _ (tree_of r.module_read))) (leaves_ascend r.module_read well.resolved.parsed) in
-      has_owners (owned_tokens r) (replicate n nothing) 0 n ascend (subst (λ z. n ≤ z) (sym (length-replicate n nothing)) (le_refl n)) (λ i l u. get_or-replicate n i nothing None u)
+      let ascend = subst (λ ts. AreAscending 0 ts n) (sym (module-tokens _ (tree_of r.module_read))) (leaves_ascend r.module_read well.resolved.parsed) in
+      has_owners (owners_in_resolution r) (replicate n nothing) 0 n ascend (subst (λ z. n ≤ z) (sym (length-replicate n nothing)) (le_refl n)) (λ i l u. get_or-replicate n i nothing None u)
 
-  table_owns : AreOwners r.module_read (table_of r)
-  table_owns = owners_by_declaration-holds r (table_of r) well.resolved well.well_typed table_has
+  table_owns : IsOwnerTable r.module_read (table_of r)
+  table_owns = listed_owners_are_complete-holds r (table_of r) well.resolved well.well_typed table_has
 
 -- ---- two tables of one module
 
-names_relabelled : {N M : Type 0} (f : N → M) (g : ℕ → ℕ) (xs : List (Terminal N)) → lexeme_names (map (relabelled f g) xs) ≡ map f (lexeme_names xs)
+names_relabelled : {N M : Type 0} (f : N → M) (g : ℕ → ℕ) (xs : List (Terminal N)) → lexeme_names (map (mapped_terminal f g) xs) ≡ map f (lexeme_names xs)
 names_relabelled f g [] = refl
 names_relabelled f g (Name n ∷ xs) = ap (λ z. f n ∷ z) (names_relabelled f g xs)
 names_relabelled f g (Number n ∷ xs) = names_relabelled f g xs
@@ -87,7 +87,7 @@ marked_by k x = k ∷ x
 longer : (k : ℕ) (x : List ℕ) → x ≡ k ∷ x → ⊥
 longer k x h = let long : length x ≡ suc (length x) = ap length h in omega (arith, long)
 
-one_owner : (a b : Option ℕ) (x : written.Name) → of_records marked_by a x ≡ of_records marked_by b x → a ≡ b
+one_owner : (a b : Option ℕ) (x : written.Name) → field_names_by_record marked_by a x ≡ field_names_by_record marked_by b x → a ≡ b
 one_owner None None x h = refl
 one_owner None (Some k) x h = absurd (longer k x h)
 one_owner (Some k) None x h = absurd (longer k x (sym h))
@@ -101,9 +101,9 @@ tail_is h = cc
 
 -- returns the name that a table gives a token
 abbrev writes : (ℕ → written.Name) → List (Option ℕ) → ℕ → written.Name
-writes text table i = of_records marked_by (ordinal_in table i) (text i)
+writes text table i = field_names_by_record marked_by (ordinal_in table i) (text i)
 
-same_owned : (text : ℕ → written.Name) (a b : List (Option ℕ)) (xs ys : List (ℕ × Option ℕ)) → HasOwners (ordinal_in a) xs → HasOwners (ordinal_in b) ys → tokens xs ≡ tokens ys
+same_owned : (text : ℕ → written.Name) (a b : List (Option ℕ)) (xs ys : List (ℕ × Option ℕ)) → GivesListedOwners (ordinal_in a) xs → GivesListedOwners (ordinal_in b) ys → tokens xs ≡ tokens ys
     → map (writes text a) (tokens xs) ≡ map (writes text b) (tokens ys) → xs ≡ ys
 same_owned text a b [] [] h k same wrote = refl
 same_owned text a b [] ((y, l) ∷ ys) h k same wrote = absurd (cc)
@@ -117,22 +117,22 @@ same_owned text a b ((x, o) ∷ xs) ((y, l) ∷ ys) h k same wrote =
     λ i. (token i, owner i) ∷ rest i
 
 module _ (r q : Resolution) (well : IsWellTyped r) (also : IsWellTyped q) (e : Same r.module_read q.module_read) where
-  tokens_of : tokens (owned_tokens r) ≡ leaves (tree_of r.module_read)
+  tokens_of : tokens (owners_in_resolution r) ≡ leaves (tree_of r.module_read)
   tokens_of = module-tokens _ (tree_of r.module_read)
 
-  tokens_too : tokens (owned_tokens q) ≡ leaves (tree_of q.module_read)
+  tokens_too : tokens (owners_in_resolution q) ≡ leaves (tree_of q.module_read)
   tokens_too = module-tokens _ (tree_of q.module_read)
 
   -- The module with its fields so marked is the same for both readings.
   same_writing : map (writes (text_at r.module_read.source) (table_of r)) (leaves (tree_of r.module_read)) ≡ map (writes (text_at q.module_read.source) (table_of q)) (leaves (tree_of q.module_read))
   same_writing =
       sym (leaves_mapped (writes (text_at r.module_read.source) (table_of r)) (value_at r.module_read.source) (tree_of r.module_read))
-      ∙ (ap leaves (sym (table_owns r well marked_by) ∙ (ap (refielded (of_records marked_by)) (one_named_tree e) ∙ table_owns q also marked_by))
+      ∙ (ap leaves (sym (table_owns r well marked_by) ∙ (ap (rename_fields_in_module (field_names_by_record marked_by)) (one_named_tree e) ∙ table_owns q also marked_by))
       ∙ leaves_mapped (writes (text_at q.module_read.source) (table_of q)) (value_at q.module_read.source) (tree_of q.module_read))
 
   pub one_list_of_fields : field_identifiers r ≡ field_identifiers q
   one_list_of_fields =
       let text : ℕ → written.Name = text_at r.module_read.source in
-      let there : map (writes text (table_of r)) (tokens (owned_tokens r)) ≡ map (writes text (table_of q)) (tokens (owned_tokens q)) =
+      let there : map (writes text (table_of r)) (tokens (owners_in_resolution r)) ≡ map (writes text (table_of q)) (tokens (owners_in_resolution q)) =
       ap (map (writes text (table_of r))) tokens_of ∙ (same_writing ∙ (ap (λ s. map (writes (text_at s) (table_of q)) (leaves (tree_of q.module_read))) (sym e.source) ∙ ap (map (writes text (table_of q))) (sym tokens_too))) in
-      ap fields_among (same_owned text (table_of r) (table_of q) (owned_tokens r) (owned_tokens q) (table_has r well) (table_has q also) (tokens_of ∙ (ap leaves e.tree ∙ sym tokens_too)) there)
+      ap fields_with_owners (same_owned text (table_of r) (table_of q) (owners_in_resolution r) (owners_in_resolution q) (table_has r well) (table_has q also) (tokens_of ∙ (ap leaves e.tree ∙ sym tokens_too)) there)

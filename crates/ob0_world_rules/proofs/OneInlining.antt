@@ -6,39 +6,39 @@ use Rattle.std.proofs.Common.{◌≡◌, ◌∙◌, ℕ, nat_lt, Option, Some, N
 use Rattle.std.specs.Prelude.{Ok, Err, Vec, if◌then◌else◌}
 use Rattle.std.specs.List.{filter, list_any, position_from, zip}
 use Rattle.std.specs.declared.alloc.Global.{Global}
-use Rattle.ob0_scan.specs.Scanned.{Scanned, max_text}
+use Rattle.ob0_scan.specs.TextWithTokens.{TextWithTokens, max_text}
 use Rattle.ob0_text.specs.declared.edits.Edit.{Edit}
 use Rattle.ob0_text.specs.declared.position_types.Unit.{Unit}
 use Rattle.ob0_text.specs.declared.refusals.EditRefusal.{EditRefusal}
 use Rattle.ob0_text.specs.declared.refusals.EditRefusal.TheVariants.{CommentInside, Memory, Shadowed, TooDeep, TooLong}
 use Rattle.ob0_text.specs.Units.{width_of}
 use Rattle.ob0_tree.specs.declared.tree.Role.TheVariants as role
-use Rattle.ob0_tree.specs.Parsed.{Parsed, IsParsed, tree_of, named_tree_of}
-use Rattle.ob0_tree.specs.Places.{named}
+use Rattle.ob0_tree.specs.ParsedModule.{ParsedModule, IsParsed, tree_of, named_tree_of}
+use Rattle.ob0_tree.specs.Places.{tree_with_names}
 use Rattle.ob0_tree.specs.Tree.{Tree, identifiers, module_text, nesting, occurrences}
 use Rattle.ob0_tree.proofs.Leaves.{leaves_ascend, occurrences_ascend}
 use Rattle.ob0_edits_tokens.specs.Ranges.{range_of}
-use Rattle.ob0_edits_tokens.specs.Removed.{span_over, without_text}
-use Rattle.ob0_edits_tokens.specs.Replaced.{edit_at, parts, with_text_at}
-use Rattle.ob0_language_names.specs.Inlining.{inlined, inlined_everywhere, only}
+use Rattle.ob0_edits_tokens.specs.Removed.{span_of_tokens, text_after_removal}
+use Rattle.ob0_edits_tokens.specs.Replaced.{edit_at, parts, text_after_replacement}
+use Rattle.ob0_language_names.specs.Inlining.{inlined, inlined_everywhere, single_occurrence}
 use Rattle.ob0_language_names.specs.Names.{declared, same_label}
 use Rattle.ob0_language_names.specs.Occurrences.{bindings}
-use Rattle.ob0_scope_table.specs.Resolution.{declaring_only, token_declaring}
+use Rattle.ob0_scope_table.specs.Resolution.{declaring_names, declaration_token}
 use Rattle.ob0_language_values.specs.declared.scalar.Scalar.{Scalar}
 use Rattle.ob0_language_values.specs.declared.scalar.Scalar.TheVariants as scalar
 use Rattle.ob0_language_values.specs.Scalars.{scalar_value}
 use Rattle.ob0_scope.specs.declared.naming.Named.{Named}
 use Rattle.ob0_language_types.specs.ConstantValues.{value_of_constant}
 use Rattle.ob0_inline.specs.declared.constants.NamedConstant.{NamedConstant}
-use Rattle.ob0_inline.specs.declared.uses.Use.{Use}
+use Rattle.ob0_inline.specs.declared.uses.ConstantUse.{ConstantUse}
 use Rattle.ob0_inline.specs.Declarations.{is_inside, is_semicolon}
-use Rattle.ob0_inline.specs.Everywhere.{AnswersEverywhere, IsConstantAt, any_hidden, refusal_everywhere}
-use Rattle.ob0_inline.specs.Uses.{AnswersHere, IsUseAt, is_predeclared_truth, refusal_here}
+use Rattle.ob0_inline.specs.Everywhere.{AnswersInlineEverywhere, IsConstantAt, any_use_shadowed, refusal_everywhere}
+use Rattle.ob0_inline.specs.Uses.{AnswersInlineHere, IsUseAt, is_predeclared_truth, refusal_here}
 use Rattle.ob0_inline.specs.Values.{value_factor, value_text}
 use Rattle.ob0_inline.proofs.UsesAreIdentifiers.{one_place}
 use Rattle.ob0_edits.specs.Inlinings.{InlinesIn, IsNotInlinedIn}
-use Rattle.ob0_edits.specs.declared.inlining.Inlining.{Inlining}
-use Rattle.ob0_edits.specs.declared.inlining.Inlining.TheVariants.{Here, Everywhere}
+use Rattle.ob0_edits.specs.declared.inlinings.Inlining.{Inlining}
+use Rattle.ob0_edits.specs.declared.inlinings.Inlining.TheVariants.{Here, Everywhere}
 use Rattle.ob0_edits.specs.Texts.{utf8}
 use Rattle.ob0_world_rules.specs.Edited.{replacements}
 use Rattle.ob0_world_rules.proofs.OneModule.{Same, same_module, one_named_tree, one_name, same_parts}
@@ -57,16 +57,16 @@ named_with token ordinal = record { token = token; ordinal = ordinal }
 
 -- ---- at one use
 
-abbrev refused_at : Scanned → Tree ℕ module_text → ℕ → ℕ → Scalar → Option EditRefusal
+abbrev refused_at : TextWithTokens → Tree ℕ module_text → ℕ → ℕ → Scalar → Option EditRefusal
 refused_at s t token occurrence value =
-    if nat_lt max_text (length (with_text_at s (token ∷ []) (value_text value))) then Some TooLong
-    else if nat_lt 100 (nesting (inlined (named s t) (only occurrence) (value_factor value))) then Some TooDeep
-    else if is_predeclared_truth (named s t) occurrence value then None
+    if nat_lt max_text (length (text_after_replacement s (token ∷ []) (value_text value))) then Some TooLong
+    else if nat_lt 100 (nesting (inlined (tree_with_names s t) (single_occurrence occurrence) (value_factor value))) then Some TooDeep
+    else if is_predeclared_truth (tree_with_names s t) occurrence value then None
     else Some Shadowed
 
-module _ {m n : Parsed} (e : Same m n) (parsed : IsParsed n) (offset : ℕ) (u v : Use) (at : IsUseAt m offset u) (also : IsUseAt n offset v) where
+module _ {m n : ParsedModule} (e : Same m n) (parsed : IsParsed n) (offset : ℕ) (u v : ConstantUse) (at : IsUseAt m offset u) (also : IsUseAt n offset v) where
   same_named : Some (named_with u.token u.constant) ≡ Some (named_with v.token v.constant)
-  same_named = sym at.named ∙ (one_name e offset ∙ also.named)
+  same_named = sym at.tree_with_names ∙ (one_name e offset ∙ also.tree_with_names)
 
   use_token : u.token ≡ v.token
   use_token = ap (λ (o : Option Named). elim o [ Some x ↦ x.token | None ↦ u.token ]) same_named
@@ -90,21 +90,21 @@ module _ {m n : Parsed} (e : Same m n) (parsed : IsParsed n) (offset : ℕ) (u v
   same_edit_here : (unit : Unit) (text : List ℕ) → edit_at unit text m.source.tokens (value_text u.value) u.token ≡ edit_at unit text n.source.tokens (value_text v.value) v.token
   same_edit_here unit text = λ i. edit_at unit text ((e.source i).tokens) (value_text (use_value i)) (use_token i)
 
-use_there : {m n : Parsed} → Same m n → (offset : ℕ) (u : Use) → IsUseAt m offset u → IsUseAt n offset u
+use_there : {m n : ParsedModule} → Same m n → (offset : ℕ) (u : ConstantUse) → IsUseAt m offset u → IsUseAt n offset u
 use_there e offset u at = record {
-  named = sym (one_name e offset) ∙ at.named;
+  tree_with_names = sym (one_name e offset) ∙ at.tree_with_names;
   occurs = ap (λ t. slice_get (occurrences t) u.occurrence) (sym e.tree) ∙ at.occurs;
   has_value = ap (λ t. value_of_constant t u.constant) (sym (one_named_tree e)) ∙ at.has_value;
 }
 
-module _ {m n : Parsed} (e : Same m n) (parsed : IsParsed n) (unit : Unit) (text : List ℕ) (offset : ℕ) (xs : Vec Edit Global) where
-  here_one : (ys : Vec Edit Global) → AnswersHere unit text m offset (Ok xs) → AnswersHere unit text n offset (Ok ys) → map parts xs.items ≡ map parts ys.items
+module _ {m n : ParsedModule} (e : Same m n) (parsed : IsParsed n) (unit : Unit) (text : List ℕ) (offset : ℕ) (xs : Vec Edit Global) where
+  here_one : (ys : Vec Edit Global) → AnswersInlineHere unit text m offset (Ok xs) → AnswersInlineHere unit text n offset (Ok ys) → map parts xs.items ≡ map parts ys.items
   here_one ys (inl (u, at, (free, h))) (inl (v, also, (free_too, k))) =
       h.here ∙ (ap (λ z. z ∷ []) (same_edit_here e parsed offset u v at also unit text) ∙ sym k.here)
   here_one ys (inr (bad, none)) k = absurd (cc)
   here_one ys (inl h) (inr (bad, none)) = absurd (cc)
 
-  here_or_refused : (refusal : EditRefusal) → (refusal ≡ Memory → ⊥) → AnswersHere unit text m offset (Ok xs) → AnswersHere unit text n offset (Err refusal) → ⊥
+  here_or_refused : (refusal : EditRefusal) → (refusal ≡ Memory → ⊥) → AnswersInlineHere unit text m offset (Ok xs) → AnswersInlineHere unit text n offset (Err refusal) → ⊥
   here_or_refused refusal why (inl (u, at, (free, h))) (inl (v, also, inl refused)) =
       let both : None ≡ Some refusal = sym free ∙ (same_refusal_here e parsed offset u v at also ∙ refused) in cc
   here_or_refused refusal why (inl (u, at, (free, h))) (inl (v, also, inr memory)) = why memory
@@ -113,20 +113,20 @@ module _ {m n : Parsed} (e : Same m n) (parsed : IsParsed n) (unit : Unit) (text
 
 -- ---- everywhere
 
-abbrev uses_in : Scanned → Tree ℕ module_text → ℕ → List ℕ
-uses_in s t d = map (λ u. u.0) (filter (λ u. same_label u.1 (declared d)) (zip (occurrences t) (bindings (named s t))))
+abbrev uses_in : TextWithTokens → Tree ℕ module_text → ℕ → List ℕ
+uses_in s t d = map (λ u. u.0) (filter (λ u. same_label u.1 (declared d)) (zip (occurrences t) (bindings (tree_with_names s t))))
 
-abbrev refused_everywhere : Scanned → Tree ℕ module_text → ℕ → Scalar → ℕ → ℕ → Option EditRefusal
+abbrev refused_everywhere : TextWithTokens → Tree ℕ module_text → ℕ → Scalar → ℕ → ℕ → Option EditRefusal
 refused_everywhere s t ordinal value first last =
-    if nat_lt max_text (length (without_text s first last (uses_in s t ordinal) (value_text value))) then Some TooLong
-    else if nat_lt 100 (nesting (inlined_everywhere (named s t) ordinal (value_factor value))) then Some TooDeep
-    else if any_hidden (named s t) (record { ordinal = ordinal; value = value; first = first; last = last }) then Some Shadowed
-    else if list_any (is_inside (span_over s.tokens first last)) s.comments then Some CommentInside
+    if nat_lt max_text (length (text_after_removal s first last (uses_in s t ordinal) (value_text value))) then Some TooLong
+    else if nat_lt 100 (nesting (inlined_everywhere (tree_with_names s t) ordinal (value_factor value))) then Some TooDeep
+    else if any_use_shadowed (tree_with_names s t) (record { ordinal = ordinal; value = value; first = first; last = last }) then Some Shadowed
+    else if list_any (is_inside (span_of_tokens s.tokens first last)) s.comments then Some CommentInside
     else None
 
-module _ {m n : Parsed} (e : Same m n) (offset : ℕ) (c d : NamedConstant) (at : IsConstantAt m offset c) (also : IsConstantAt n offset d) where
+module _ {m n : ParsedModule} (e : Same m n) (offset : ℕ) (c d : NamedConstant) (at : IsConstantAt m offset c) (also : IsConstantAt n offset d) where
   same_constant : Some (named_with at.token c.ordinal) ≡ Some (named_with also.token d.ordinal)
-  same_constant = sym at.named ∙ (one_name e offset ∙ also.named)
+  same_constant = sym at.tree_with_names ∙ (one_name e offset ∙ also.tree_with_names)
 
   constant_ordinal : c.ordinal ≡ d.ordinal
   constant_ordinal = ap (λ (o : Option Named). elim o [ Some x ↦ x.ordinal | None ↦ c.ordinal ]) same_constant
@@ -135,7 +135,7 @@ module _ {m n : Parsed} (e : Same m n) (offset : ℕ) (c d : NamedConstant) (at 
   constant_value = one_scalar c.value d.value (sym at.is_constant.has_value ∙ ((λ i. value_of_constant (one_named_tree e i) (constant_ordinal i)) ∙ also.is_constant.has_value))
 
   constant_first : c.first ≡ d.first
-  constant_first = some_one (sym at.is_constant.begins ∙ ((λ i. token_declaring (declaring_only (identifiers role.Declaring (e.tree i))) (constant_ordinal i)) ∙ also.is_constant.begins))
+  constant_first = some_one (sym at.is_constant.begins ∙ ((λ i. declaration_token (declaring_names (identifiers role.Declaring (e.tree i))) (constant_ordinal i)) ∙ also.is_constant.begins))
 
   constant_last : c.last ≡ d.last
   constant_last = some_one (sym at.is_constant.ends ∙ ((λ i. position_from (λ t. is_semicolon t.kind) (constant_first i) (drop (constant_first i) ((e.source i).tokens))) ∙ also.is_constant.ends))
@@ -144,25 +144,25 @@ module _ {m n : Parsed} (e : Same m n) (offset : ℕ) (c d : NamedConstant) (at 
   same_refusal_everywhere = λ i. refused_everywhere (e.source i) (e.tree i) (constant_ordinal i) (constant_value i) (constant_first i) (constant_last i)
 
   same_edits_everywhere : (unit : Unit) (text : List ℕ)
-      → (range_of (width_of unit) text (span_over m.source.tokens c.first c.last), []) ∷ map (edit_at unit text m.source.tokens (value_text c.value)) (uses_in m.source (tree_of m) c.ordinal)
-      ≡ (range_of (width_of unit) text (span_over n.source.tokens d.first d.last), []) ∷ map (edit_at unit text n.source.tokens (value_text d.value)) (uses_in n.source (tree_of n) d.ordinal)
+      → (range_of (width_of unit) text (span_of_tokens m.source.tokens c.first c.last), []) ∷ map (edit_at unit text m.source.tokens (value_text c.value)) (uses_in m.source (tree_of m) c.ordinal)
+      ≡ (range_of (width_of unit) text (span_of_tokens n.source.tokens d.first d.last), []) ∷ map (edit_at unit text n.source.tokens (value_text d.value)) (uses_in n.source (tree_of n) d.ordinal)
   same_edits_everywhere unit text = λ i.
-      (range_of (width_of unit) text (span_over ((e.source i).tokens) (constant_first i) (constant_last i)), [])
+      (range_of (width_of unit) text (span_of_tokens ((e.source i).tokens) (constant_first i) (constant_last i)), [])
       ∷ map (edit_at unit text ((e.source i).tokens) (value_text (constant_value i))) (uses_in (e.source i) (e.tree i) (constant_ordinal i))
 
-module _ {m n : Parsed} (e : Same m n) (unit : Unit) (text : List ℕ) (offset : ℕ) (xs : Vec Edit Global) where
-  everywhere_one : (ys : Vec Edit Global) → AnswersEverywhere unit text m offset (Ok xs) → AnswersEverywhere unit text n offset (Ok ys) → map parts xs.items ≡ map parts ys.items
+module _ {m n : ParsedModule} (e : Same m n) (unit : Unit) (text : List ℕ) (offset : ℕ) (xs : Vec Edit Global) where
+  everywhere_one : (ys : Vec Edit Global) → AnswersInlineEverywhere unit text m offset (Ok xs) → AnswersInlineEverywhere unit text n offset (Ok ys) → map parts xs.items ≡ map parts ys.items
   everywhere_one ys (inl (c, at, (free, h))) (inl (d, also, (free_too, k))) =
       h.everywhere ∙ (same_edits_everywhere e offset c d at also unit text ∙ sym k.everywhere)
   everywhere_one ys (inr (bad, none)) k = absurd (cc)
   everywhere_one ys (inl h) (inr (bad, none)) = absurd (cc)
 
-  everywhere_or_refused : (refusal : EditRefusal) → (refusal ≡ Memory → ⊥) → AnswersEverywhere unit text m offset (Ok xs) → AnswersEverywhere unit text n offset (Err refusal) → ⊥
+  everywhere_or_refused : (refusal : EditRefusal) → (refusal ≡ Memory → ⊥) → AnswersInlineEverywhere unit text m offset (Ok xs) → AnswersInlineEverywhere unit text n offset (Err refusal) → ⊥
   everywhere_or_refused refusal why (inl (c, at, (free, h))) (inl (d, also, inl refused)) =
       let both : None ≡ Some refusal = sym free ∙ (same_refusal_everywhere e offset c d at also ∙ refused) in cc
   everywhere_or_refused refusal why (inl (c, at, (free, h))) (inl (d, also, inr memory)) = why memory
   everywhere_or_refused refusal why (inl (c, at, (free, h))) (inr (is, none)) =
-      let nothing : value_of_constant (named_tree_of n) c.ordinal ≡ None = none (record { token = at.token; ordinal = c.ordinal }) (sym (one_name e offset) ∙ at.named) in
+      let nothing : value_of_constant (named_tree_of n) c.ordinal ≡ None = none (record { token = at.token; ordinal = c.ordinal }) (sym (one_name e offset) ∙ at.tree_with_names) in
       let some : None ≡ Some (scalar_value c.value) = sym nothing ∙ (ap (λ t. value_of_constant t c.ordinal) (sym (one_named_tree e)) ∙ at.is_constant.has_value) in
       cc
   everywhere_or_refused refusal why (inr (bad, none)) k = absurd (cc)

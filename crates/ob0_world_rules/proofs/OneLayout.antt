@@ -4,9 +4,9 @@ use Rattle.std.proofs.Common.{◌≡◌, ◌∙◌, ℕ, ◌≤◌, List, map, l
 use Rattle.std.specs.Str.{chars}
 use mathlib.Core.List.{map-map}
 use Rattle.ob0_scan.specs.Lexed.{Lexed}
-use Rattle.ob0_scan.specs.Scanned.{max_text}
-use Rattle.ob0_scan.proofs.Cuts.{one_cut}
-use Rattle.ob0_scan.proofs.Spans.{one_scan}
+use Rattle.ob0_scan.specs.TextWithTokens.{max_text}
+use Rattle.ob0_scan.proofs.Cuts.{cut_is_unique}
+use Rattle.ob0_scan.proofs.Spans.{scan_is_unique}
 use Rattle.ob0_text.specs.declared.edits.Edit.{Edit}
 use Rattle.ob0_text.specs.declared.edits.Indent.{Indent}
 use Rattle.ob0_text.specs.declared.position_types.Unit.{Unit}
@@ -14,30 +14,30 @@ use Rattle.ob0_text.specs.Units.{width_of}
 use Rattle.ob0_tree.specs.Tree.{Tree, module_text}
 use Rattle.ob0_language_names.specs.Names.{Name}
 use Rattle.ob0_layout.specs.Layout.{layout}
-use Rattle.ob0_layout.specs.Gaps.{EditText, edit_text, edit_of, changed_gaps, all_gaps}
+use Rattle.ob0_layout.specs.Gaps.{EditContent, edit_content, edit_of, changed_gaps, all_gaps}
 use Rattle.ob0_layout.specs.LineRoles.{line_roles}
 use Rattle.ob0_edits.specs.Diagnosed.{IsTextOf, IsWellTypedModule}
 use Rattle.ob0_edits.specs.Texts.{utf8}
-use Rattle.ob0_edits.specs.Layouts.{LaysOut, IsTooLongLaidOut, layout_changes, layout_of}
+use Rattle.ob0_edits.specs.Layouts.{FormatsIn, IsTooLongFormatted, layout_changes, layout_of}
 use Rattle.ob0_world_rules.specs.Edited.{Replacement, replacements}
 use Rattle.ob0_world_rules.proofs.Trees.{same_tree}
 
-abbrev said_as : EditText → Replacement
+abbrev said_as : EditContent → Replacement
 said_as s = record { range = s.range; text = chars s.text }
 
-same_said : (xs ys : List Edit) → map edit_text xs ≡ map edit_text ys → replacements xs ≡ replacements ys
-same_said xs ys e = sym (map-map said_as edit_text xs) ∙ (ap (map said_as) e ∙ map-map said_as edit_text ys)
+same_said : (xs ys : List Edit) → map edit_content xs ≡ map edit_content ys → replacements xs ≡ replacements ys
+same_said xs ys e = sym (map-map said_as edit_content xs) ∙ (ap (map said_as) e ∙ map-map said_as edit_content ys)
 
 module _ (text : List ℕ) (m n : IsWellTypedModule (utf8 text)) where
   one_source : m.text_of.scanned ≡ n.text_of.scanned
-  one_source = one_scan m.text_of.scanned n.text_of.scanned m.text_of.scan.scan n.text_of.scan.scan (m.text_of.scan.of ∙ sym n.text_of.scan.of)
+  one_source = scan_is_unique m.text_of.scanned n.text_of.scanned m.text_of.scan.scan n.text_of.scan.scan (m.text_of.scan.of ∙ sym n.text_of.scan.of)
 
   one_module : m.tree ≡ n.tree
   one_module = same_tree (utf8 text) m.tree n.tree m.text_of n.text_of
 
   one_lexing : m.text_of.scan.scan.lexemes ≡ n.text_of.scan.scan.lexemes
   one_lexing =
-      one_cut (utf8 text) m.text_of.scan.scan.lexemes n.text_of.scan.scan.lexemes
+      cut_is_unique (utf8 text) m.text_of.scan.scan.lexemes n.text_of.scan.scan.lexemes
       (subst (λ t. Lexed t m.text_of.scan.scan.lexemes) m.text_of.scan.of m.text_of.scan.scan.lexed)
       (subst (λ t. Lexed t n.text_of.scan.scan.lexemes) n.text_of.scan.of n.text_of.scan.scan.lexed)
 
@@ -48,19 +48,19 @@ module _ (text : List ℕ) (m n : IsWellTypedModule (utf8 text)) where
   one_change unit indent = λ i. map (edit_of (width_of unit) text) (changed_gaps (one_source i).text (all_gaps indent (one_source i).text (line_roles 0 (one_module i)) (one_lexing i)))
 
 -- Two formattings of a text have equal edits, by the bytes of their texts.
-pub lays_out_said : (unit : Unit) (indent : Indent) (text : List ℕ) (xs ys : List Edit) → LaysOut unit indent text xs → LaysOut unit indent text ys → map edit_text xs ≡ map edit_text ys
+pub lays_out_said : (unit : Unit) (indent : Indent) (text : List ℕ) (xs ys : List Edit) → FormatsIn unit indent text xs → FormatsIn unit indent text ys → map edit_content xs ≡ map edit_content ys
 lays_out_said unit indent text xs ys h k = h.changes ∙ (one_change text h.before k.before unit indent ∙ sym k.changes)
 
-pub lays_out_one : (unit : Unit) (indent : Indent) (text : List ℕ) (xs ys : List Edit) → LaysOut unit indent text xs → LaysOut unit indent text ys → replacements xs ≡ replacements ys
+pub lays_out_one : (unit : Unit) (indent : Indent) (text : List ℕ) (xs ys : List Edit) → FormatsIn unit indent text xs → FormatsIn unit indent text ys → replacements xs ≡ replacements ys
 lays_out_one unit indent text xs ys h k = same_said xs ys (lays_out_said unit indent text xs ys h k)
 
 -- A text that has a module is no longer than `max_text`.
 short_enough : (text : List ℕ) (tree : Tree Name module_text) → IsTextOf tree text → length text ≤ max_text
 short_enough text tree is = subst (λ t. length t ≤ max_text) is.scan.of is.module_of.short
 
-pub lays_out_or_long : (unit : Unit) (indent : Indent) (text : List ℕ) (xs : List Edit) → LaysOut unit indent text xs → IsTooLongLaidOut indent text → ⊥
+pub lays_out_or_long : (unit : Unit) (indent : Indent) (text : List ℕ) (xs : List Edit) → FormatsIn unit indent text xs → IsTooLongFormatted indent text → ⊥
 lays_out_or_long unit indent text xs h long =
     let short : length (utf8 h.after) ≤ max_text = short_enough (utf8 h.after) h.before.tree h.same_module in
-    let here : length (layout_of indent h.before) ≤ max_text = subst (λ t. length t ≤ max_text) h.laid_out short in
+    let here : length (layout_of indent h.before) ≤ max_text = subst (λ t. length t ≤ max_text) h.is_formatted_text short in
     let there : length (layout_of indent long.before) ≤ max_text = subst (λ t. length t ≤ max_text) (one_layout text h.before long.before indent) here in
     omega (arith, there, long.long)

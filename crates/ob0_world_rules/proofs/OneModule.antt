@@ -1,51 +1,51 @@
 -- Proves that a text is read as at most one module: two readings have the same tokens, and the same tree over them. So
 -- a claim about a module by these two is the same for both.
--- Two readings needn't be equal as a `Parsed`: the code's tree keeps tokens of statements that no definition reads. So
--- each definition over a `Parsed` is written once more over its tokens and its tree (`name_in`, `refused_at`,
+-- Two readings needn't be equal as a `ParsedModule`: the code's tree keeps tokens of statements that no definition reads. So
+-- each definition over a `ParsedModule` is written once more over its tokens and its tree (`name_in`, `refused_at`,
 -- `uses_in`, `tokens_in`).
 use Rattle.std.proofs.Common.{◌≡◌, ◌∙◌, ℕ, Option, List, [], ◌∷◌, map, sym, ap, arith}
 use Rattle.std.specs.Prelude.{option_and_then}
 use Rattle.std.specs.List.{find, zip}
 use Rattle.std.specs.Str.{chars}
 use mathlib.Core.List.{map-map}
-use Rattle.ob0_scan.specs.Scanned.{Scanned, IsScanOf}
-use Rattle.ob0_scan.proofs.Spans.{one_scan}
+use Rattle.ob0_scan.specs.TextWithTokens.{TextWithTokens, IsScanOf}
+use Rattle.ob0_scan.proofs.Spans.{scan_is_unique}
 use Rattle.ob0_text.specs.declared.edits.Edit.{Edit}
 use Rattle.ob0_text.specs.declared.position_types.Range.{Range}
 use Rattle.ob0_tree.specs.declared.tree.Role.TheVariants as role
 use Rattle.ob0_tree.specs.Lexeme.{EndOfText}
 use Rattle.ob0_tree.specs.Order.{leaves}
-use Rattle.ob0_tree.specs.Parsed.{Parsed, IsParsed, tree_of, named_tree_of}
-use Rattle.ob0_tree.specs.Places.{lexemes, named}
+use Rattle.ob0_tree.specs.ParsedModule.{ParsedModule, IsParsed, tree_of, named_tree_of}
+use Rattle.ob0_tree.specs.Places.{index_terminals, tree_with_names}
 use Rattle.ob0_tree.specs.Tree.{Tree, module_text, identifiers}
 use Rattle.ob0_scope_table.specs.Resolution.{span_at}
 use Rattle.ob0_language_names.specs.Scopes.{numbered}
 use Rattle.ob0_parse_descent.proofs.Unique.{same}
 use Rattle.ob0_edits_tokens.specs.Replaced.{parts}
 use Rattle.ob0_scope_table.specs.Spans.{is_on}
-use Rattle.ob0_scope.specs.NamesAtPlaces.{BoundIdentifier, name_on, named_by}
+use Rattle.ob0_scope.specs.NamesAtPlaces.{BoundIdentifier, name_on, bound_name_of}
 use Rattle.ob0_scope.specs.declared.naming.Named.{Named}
 use Rattle.ob0_world_rules.specs.Edited.{Replacement, replacements}
 
-pub record Same (m n : Parsed) : Type 0 where
+pub record Same (m n : ParsedModule) : Type 0 where
   pub source : m.source ≡ n.source
   pub tree : tree_of m ≡ tree_of n
 
-pub same_module : (text : List ℕ) (m n : Parsed) → IsScanOf text m.source → IsParsed m → IsScanOf text n.source → IsParsed n → Same m n
+pub same_module : (text : List ℕ) (m n : ParsedModule) → IsScanOf text m.source → IsParsed m → IsScanOf text n.source → IsParsed n → Same m n
 same_module text m n scan parsed other too =
-    let source : m.source ≡ n.source = one_scan m.source n.source scan.scan other.scan (scan.of ∙ sym other.of) in
-    let both = same (tree_of m) (tree_of n) (EndOfText ∷ []) (EndOfText ∷ []) (omega arith) (omega arith) (parsed.places ∙ (ap (λ (s : Scanned). lexemes s.tokens) source ∙ sym too.places)) in
+    let source : m.source ≡ n.source = scan_is_unique m.source n.source scan.scan other.scan (scan.of ∙ sym other.of) in
+    let both = same (tree_of m) (tree_of n) (EndOfText ∷ []) (EndOfText ∷ []) (omega arith) (omega arith) (parsed.places ∙ (ap (λ (s : TextWithTokens). index_terminals s.tokens) source ∙ sym too.places)) in
     record { source = source; tree = both.0 }
 
-abbrev pub identifiers_of : Scanned → Tree ℕ module_text → List BoundIdentifier
-identifiers_of s t = zip (identifiers role.Declaring t) (leaves (numbered (named s t)))
+abbrev pub identifiers_of : TextWithTokens → Tree ℕ module_text → List BoundIdentifier
+identifiers_of s t = zip (identifiers role.Declaring t) (leaves (numbered (tree_with_names s t)))
 
-abbrev name_in : Scanned → Tree ℕ module_text → ℕ → Option Named
-name_in s t offset = option_and_then named_by (find (λ x. is_on offset (span_at s x.0.1)) (identifiers_of s t))
+abbrev name_in : TextWithTokens → Tree ℕ module_text → ℕ → Option Named
+name_in s t offset = option_and_then bound_name_of (find (λ x. is_on offset (span_at s x.0.1)) (identifiers_of s t))
 
-module _ {m n : Parsed} (e : Same m n) where
+module _ {m n : ParsedModule} (e : Same m n) where
   pub one_named_tree : named_tree_of m ≡ named_tree_of n
-  one_named_tree = λ i. named (e.source i) (e.tree i)
+  one_named_tree = λ i. tree_with_names (e.source i) (e.tree i)
 
   pub one_name : (offset : ℕ) → name_on m offset ≡ name_on n offset
   one_name offset = λ i. name_in (e.source i) (e.tree i) offset

@@ -4,7 +4,7 @@ use Rattle.std.proofs.Common.{◌≡◌, ◌∙◌, ℕ, ◌<◌, ◌≤◌, Boo
 use Rattle.std.specs.Prelude.{◌⊎◌, option_and_then, option_map, slice_get}
 use Rattle.std.specs.List.{filter}
 use Rattle.ob0_scan.specs.Classes.{IsIdentifier}
-use Rattle.ob0_scan.specs.Scanned.{Scanned, max_text}
+use Rattle.ob0_scan.specs.TextWithTokens.{TextWithTokens, max_text}
 use Rattle.ob0_text.specs.declared.edits.Edit.{Edit}
 use Rattle.ob0_text.specs.declared.position_types.Position.{Position}
 use Rattle.ob0_text.specs.declared.position_types.Range.{Range}
@@ -14,35 +14,35 @@ use Rattle.ob0_text.specs.declared.refusals.EditRefusal.TheVariants as refusal
 use Rattle.ob0_text.specs.Texts.{offset_of}
 use Rattle.ob0_text.specs.Units.{width_of}
 use Rattle.ob0_tree.specs.declared.tree.Role.TheVariants as role
-use Rattle.ob0_tree.specs.Parsed.{named_tree_of}
-use Rattle.ob0_tree.specs.Places.{named, text_at}
+use Rattle.ob0_tree.specs.ParsedModule.{named_tree_of}
+use Rattle.ob0_tree.specs.Places.{tree_with_names, text_at}
 use Rattle.ob0_tree.specs.Tree.{Tree, identifiers, module_text, occurrences}
-use Rattle.ob0_edits_tokens.specs.Replaced.{edit_at, parts, with_text_at}
+use Rattle.ob0_edits_tokens.specs.Replaced.{edit_at, parts, text_after_replacement}
 use Rattle.ob0_language_names.specs.Names.{Name, same_name}
-use Rattle.ob0_language_names.specs.Occurrences.{Capture, Free, at_declaration, at_occurrence, first_captured}
+use Rattle.ob0_language_names.specs.Occurrences.{NameConflict, Free, at_declaration, at_occurrence, first_name_conflict}
 use Rattle.ob0_language_names.specs.Parts.{module_block}
-use Rattle.ob0_scope_table.specs.Resolution.{Resolution, declaring_only, span_at, token_declaring}
-use Rattle.ob0_scope.proofs.FirstCaptures.{captured_where_not_free-holds}
+use Rattle.ob0_scope_table.specs.Resolution.{Resolution, declaring_names, span_at, declaration_token}
+use Rattle.ob0_scope.proofs.FirstCaptures.{free_means_no_conflict-holds}
 use Rattle.ob0_scope.specs.Renames.{namesake}
-use Rattle.ob0_scope.specs.NamesAtPlaces.{refers}
+use Rattle.ob0_scope.specs.NamesAtPlaces.{is_bound_to}
 use Rattle.ob0_edits_tokens.specs.Ranges.{range_of}
 use Rattle.ob0_language_fields.specs.Renaming.{is_duplicate_field}
-use Rattle.ob0_types_fields.specs.Identifiers.{declared_in_block, field_identifiers, field_on, first, tokens_among}
+use Rattle.ob0_types_fields.specs.Identifiers.{declared_in_block, field_identifiers, field_at_offset, first, tokens_of_field}
 use Rattle.ob0_edits.specs.Analysed.{IsModuleIn}
 use Rattle.ob0_edits.specs.Texts.{utf8}
-use Rattle.ob0_rename.specs.Renaming.{Renaming, Target, declaration, field_of, field_tokens_to_rename, meant, meant_by, nothing, occurrence_range, other_field_range, other_range, predeclared, renaming_of, text_with, tokens_to_rename}
-use Rattle.ob0_rename.specs.Answers.{AreEdits, IsRefused, IsRefusedTo, IsRefusedToField, IsRefusedToNamed, Renames, RenamesField, WritesName}
+use Rattle.ob0_rename.specs.Renaming.{Renaming, RenameTarget, declaration, field_of, field_tokens_to_rename, renaming_target, meaning_of_name_or_field, nothing, occurrence_range, conflicting_field_range, conflicting_range, predeclared, renaming_of, text_after_renaming, tokens_to_rename}
+use Rattle.ob0_rename.specs.Answers.{AreRenameEdits, IsRenameRefusal, IsDeclarationRefusal, IsFieldRefusal, IsTargetRefusal, Renames, RenamesField, WritesName}
 use Rattle.ob0_edits.specs.Renamings.{IsRefusedIn, RenamesIn}
 use Rattle.ob0_world_rules.specs.Edited.{replacements}
 use Rattle.ob0_world_rules.proofs.OneModule.{Same, same_module, one_named_tree, one_name, identifiers_of, same_parts}
 use Rattle.ob0_world_rules.proofs.OneFields.{one_list_of_fields}
 
 -- holds if the declaration of d has this new name at its declaring token, by the tokens and the tree over them
-abbrev is_declared_in : Scanned → Tree ℕ module_text → ℕ → Name → Bool
-is_declared_in s t d new = elim (token_declaring (declaring_only (identifiers role.Declaring t)) d) [ Some token ↦ same_name (text_at s token) new | None ↦ false ]
+abbrev is_declared_in : TextWithTokens → Tree ℕ module_text → ℕ → Name → Bool
+is_declared_in s t d new = elim (declaration_token (declaring_names (identifiers role.Declaring t)) d) [ Some token ↦ same_name (text_at s token) new | None ↦ false ]
 
-abbrev tokens_in : Scanned → Tree ℕ module_text → ℕ → Name → List ℕ
-tokens_in s t d new = if is_declared_in s t d new then [] else map (λ x. x.0.1) (filter (refers true d) (identifiers_of s t))
+abbrev tokens_in : TextWithTokens → Tree ℕ module_text → ℕ → Name → List ℕ
+tokens_in s t d new = if is_declared_in s t d new then [] else map (λ x. x.0.1) (filter (is_bound_to true d) (identifiers_of s t))
 
 -- ---- the refusals, by their reasons
 
@@ -57,15 +57,15 @@ module _ (unit : Unit) (text : List ℕ) (place : Position) (new : Name) (names 
   IsBadName why = ¬ IsIdentifier new × (why ≡ refusal.BadName)
 
   abbrev IsTwice : ℕ → EditRefusal → Type 0
-  IsTwice d why = (range : Range) × (first_captured here d new ≡ Some at_declaration) × (other_range of_names d ≡ Some range) × (why ≡ refusal.Duplicate range)
+  IsTwice d why = (range : Range) × (first_name_conflict here d new ≡ Some at_declaration) × (conflicting_range of_names d ≡ Some range) × (why ≡ refusal.Duplicate range)
 
   abbrev IsCaptured : ℕ → EditRefusal → Type 0
-  IsCaptured d why = (k : ℕ) × (range : Range) × (first_captured here d new ≡ Some (at_occurrence k)) × (occurrence_range of_names k ≡ Some range) × (why ≡ refusal.Captures range)
+  IsCaptured d why = (k : ℕ) × (range : Range) × (first_name_conflict here d new ≡ Some (at_occurrence k)) × (occurrence_range of_names k ≡ Some range) × (why ≡ refusal.Captures range)
 
   abbrev IsLong : ℕ → EditRefusal → Type 0
   IsLong d why = Free here d new × (why ≡ refusal.TooLong)
 
-  declared_view : (d : ℕ) (why : EditRefusal) → IsRefusedTo of_names d why → IsBadName why ⊎ (IsIdentifier new × (IsTwice d why ⊎ (IsCaptured d why ⊎ IsLong d why)))
+  declared_view : (d : ℕ) (why : EditRefusal) → IsDeclarationRefusal of_names d why → IsBadName why ⊎ (IsIdentifier new × (IsTwice d why ⊎ (IsCaptured d why ⊎ IsLong d why)))
   declared_view d refusal.NoName h = absurd h
   declared_view d refusal.Predeclared h = absurd h
   declared_view d refusal.BadName h = inl (h, refl)
@@ -78,12 +78,12 @@ module _ (unit : Unit) (text : List ℕ) (place : Position) (new : Name) (names 
   declared_view d refusal.Memory h = absurd h
 
   abbrev IsTwiceField : ℕ → Name → EditRefusal → Type 0
-  IsTwiceField k f why = (range : Range) × (is_duplicate_field here k f new ≡ true) × (other_field_range of_names k ≡ Some range) × (why ≡ refusal.Duplicate range)
+  IsTwiceField k f why = (range : Range) × (is_duplicate_field here k f new ≡ true) × (conflicting_field_range of_names k ≡ Some range) × (why ≡ refusal.Duplicate range)
 
   abbrev IsLongField : ℕ → Name → EditRefusal → Type 0
   IsLongField k f why = (is_duplicate_field here k f new ≡ false) × (why ≡ refusal.TooLong)
 
-  field_view : (k : ℕ) (f : Name) (why : EditRefusal) → IsRefusedToField of_names k f why → IsBadName why ⊎ (IsIdentifier new × (IsTwiceField k f why ⊎ IsLongField k f why))
+  field_view : (k : ℕ) (f : Name) (why : EditRefusal) → IsFieldRefusal of_names k f why → IsBadName why ⊎ (IsIdentifier new × (IsTwiceField k f why ⊎ IsLongField k f why))
   field_view k f refusal.NoName h = absurd h
   field_view k f refusal.Predeclared h = absurd h
   field_view k f refusal.BadName h = inl (h, refl)
@@ -95,8 +95,8 @@ module _ (unit : Unit) (text : List ℕ) (place : Position) (new : Name) (names 
   field_view k f refusal.CommentInside h = absurd h
   field_view k f refusal.Memory h = absurd h
 
-  refused_view : (why : EditRefusal) → IsRefused of_names why
-      → ((meant of_names ≡ nothing) × (why ≡ refusal.NoName)) ⊎ (((meant of_names ≡ predeclared) × (why ≡ refusal.Predeclared)) ⊎ IsRefusedToNamed of_names why)
+  refused_view : (why : EditRefusal) → IsRenameRefusal of_names why
+      → ((renaming_target of_names ≡ nothing) × (why ≡ refusal.NoName)) ⊎ (((renaming_target of_names ≡ predeclared) × (why ≡ refusal.Predeclared)) ⊎ IsTargetRefusal of_names why)
   refused_view refusal.NoName h = inl (h, refl)
   refused_view refusal.Predeclared h = inr (inl (h, refl))
   refused_view refusal.BadName h = inr (inr h)
@@ -118,23 +118,23 @@ module _ (unit : Unit) (text : List ℕ) (place : Position) (new : Name) (names 
   e : Same names.module_read others.module_read
   e = same_module (utf8 text) names.module_read others.module_read read.scan read.well_typed.resolved.parsed again.scan again.well_typed.resolved.parsed
 
-  one_tree : named_tree_of names.module_read ≡ named_tree_of others.module_read
-  one_tree = one_named_tree e
+  tree_is_unique : named_tree_of names.module_read ≡ named_tree_of others.module_read
+  tree_is_unique = one_named_tree e
 
   fields : field_identifiers names ≡ field_identifiers others
   fields = one_list_of_fields names others read.well_typed again.well_typed e
 
-  one_meaning : meant r ≡ meant q
-  one_meaning = λ i. meant_by (e.source i) (one_name e (offset_of (width_of unit) text place) i) (field_on (e.source i) (offset_of (width_of unit) text place) (fields i))
+  one_meaning : renaming_target r ≡ renaming_target q
+  one_meaning = λ i. meaning_of_name_or_field (e.source i) (one_name e (offset_of (width_of unit) text place) i) (field_at_offset (e.source i) (offset_of (width_of unit) text place) (fields i))
 
   one_place_list : (d : ℕ) → tokens_to_rename names.module_read d new ≡ tokens_to_rename others.module_read d new
   one_place_list d = λ i. tokens_in (e.source i) (e.tree i) d new
 
   one_field_list : (k : ℕ) (f : Name) → field_tokens_to_rename names k f new ≡ field_tokens_to_rename others k f new
-  one_field_list k f = λ i. if same_name new f then [] else tokens_among (e.source i) k f (fields i)
+  one_field_list k f = λ i. if same_name new f then [] else tokens_of_field (e.source i) k f (fields i)
 
-  one_text : (xs ys : List ℕ) → xs ≡ ys → text_with r xs ≡ text_with q ys
-  one_text xs ys same = λ i. with_text_at (e.source i) (same i) new
+  one_text : (xs ys : List ℕ) → xs ≡ ys → text_after_renaming r xs ≡ text_after_renaming q ys
+  one_text xs ys same = λ i. text_after_replacement (e.source i) (same i) new
 
   -- Edits that write the new name at the same tokens are equal.
   one_writing : (xs ys : List ℕ) (t u : Tree Name module_text) (es fs : List Edit) → xs ≡ ys → WritesName r xs t es → WritesName q ys u fs → map parts es ≡ map parts fs
@@ -150,7 +150,7 @@ module _ (unit : Unit) (text : List ℕ) (place : Position) (new : Name) (names 
   one_field : {k l : ℕ} {f g : Name} → field_of k f ≡ field_of l g → f ≡ g
   one_field h = cc
 
-  edits_one : (es fs : List Edit) → AreEdits r es → AreEdits q fs → map parts es ≡ map parts fs
+  edits_one : (es fs : List Edit) → AreRenameEdits r es → AreRenameEdits q fs → map parts es ≡ map parts fs
   edits_one es fs (inl (c, means, h)) (inl (d, also, k)) =
       let same : c ≡ d = one_declaration (sym means ∙ (one_meaning ∙ also)) in
       one_writing _ _ _ _ es fs (one_place_list c ∙ ap (λ x. tokens_to_rename others.module_read x new) same) h.writes k.writes
@@ -162,17 +162,17 @@ module _ (unit : Unit) (text : List ℕ) (place : Position) (new : Name) (names 
 
   -- ---- edits, or a refusal
 
-  too_long : (xs ys : List ℕ) (t : Tree Name module_text) (es : List Edit) → xs ≡ ys → WritesName r xs t es → max_text < length (text_with q ys) → ⊥
+  too_long : (xs ys : List ℕ) (t : Tree Name module_text) (es : List Edit) → xs ≡ ys → WritesName r xs t es → max_text < length (text_after_renaming q ys) → ⊥
   too_long xs ys t es same h long =
-      let short : length (text_with q ys) ≤ max_text = subst (λ x. length x ≤ max_text) (one_text xs ys same) h.short in
+      let short : length (text_after_renaming q ys) ≤ max_text = subst (λ x. length x ≤ max_text) (one_text xs ys same) h.short in
       omega (arith, short, long)
 
-  not_captured : (d : ℕ) (x : Capture) → Free (named_tree_of names.module_read) d new → first_captured (named_tree_of others.module_read) d new ≡ Some x → ⊥
+  not_captured : (d : ℕ) (x : NameConflict) → Free (named_tree_of names.module_read) d new → first_name_conflict (named_tree_of others.module_read) d new ≡ Some x → ⊥
   not_captured d x free captured =
-      let none : first_captured (named_tree_of others.module_read) d new ≡ None = ap (λ t. first_captured t d new) (sym one_tree) ∙ (captured_where_not_free-holds (named_tree_of names.module_read) d new).1 free in
+      let none : first_name_conflict (named_tree_of others.module_read) d new ≡ None = ap (λ t. first_name_conflict t d new) (sym tree_is_unique) ∙ (free_means_no_conflict-holds (named_tree_of names.module_read) d new).1 free in
       let both : None ≡ Some x = sym none ∙ captured in cc
 
-  declared_refused : (d : ℕ) (es : List Edit) (why : EditRefusal) → Renames r d es → IsRefusedTo q d why → ⊥
+  declared_refused : (d : ℕ) (es : List Edit) (why : EditRefusal) → Renames r d es → IsDeclarationRefusal q d why → ⊥
   declared_refused d es refusal.NoName h bad = bad
   declared_refused d es refusal.Predeclared h bad = bad
   declared_refused d es refusal.BadName h bad = bad h.identifier
@@ -184,12 +184,12 @@ module _ (unit : Unit) (text : List ℕ) (place : Position) (new : Name) (names 
   declared_refused d es refusal.CommentInside h bad = bad
   declared_refused d es refusal.Memory h bad = bad
 
-  field_refused : (k : ℕ) (f : Name) (es : List Edit) (why : EditRefusal) → RenamesField r k f es → IsRefusedToField q k f why → ⊥
+  field_refused : (k : ℕ) (f : Name) (es : List Edit) (why : EditRefusal) → RenamesField r k f es → IsFieldRefusal q k f why → ⊥
   field_refused k f es refusal.NoName h bad = bad
   field_refused k f es refusal.Predeclared h bad = bad
   field_refused k f es refusal.BadName h bad = bad h.identifier
   field_refused k f es (refusal.Duplicate range) h bad =
-      let free : is_duplicate_field (named_tree_of others.module_read) k f new ≡ false = ap (λ t. is_duplicate_field t k f new) (sym one_tree) ∙ h.free in
+      let free : is_duplicate_field (named_tree_of others.module_read) k f new ≡ false = ap (λ t. is_duplicate_field t k f new) (sym tree_is_unique) ∙ h.free in
       let both : false ≡ true = sym free ∙ bad.1 in cc
   field_refused k f es (refusal.Captures range) h bad = bad
   field_refused k f es refusal.TooLong h bad = too_long _ _ _ es (one_field_list k f) h.writes bad.2
@@ -198,23 +198,23 @@ module _ (unit : Unit) (text : List ℕ) (place : Position) (new : Name) (names 
   field_refused k f es refusal.CommentInside h bad = bad
   field_refused k f es refusal.Memory h bad = bad
 
-  named_refused : (es : List Edit) (why : EditRefusal) → AreEdits r es → IsRefusedToNamed q why → ⊥
+  named_refused : (es : List Edit) (why : EditRefusal) → AreRenameEdits r es → IsTargetRefusal q why → ⊥
   named_refused es why (inl (c, means, h)) (inl (d, also, bad)) =
       let same : c ≡ d = one_declaration (sym means ∙ (one_meaning ∙ also)) in
-      declared_refused c es why h (subst (λ x. IsRefusedTo q x why) (sym same) bad)
+      declared_refused c es why h (subst (λ x. IsDeclarationRefusal q x why) (sym same) bad)
   named_refused es why (inl (c, means, h)) (inr (l, (g, also, bad))) = let both : declaration c ≡ field_of l g = sym means ∙ (one_meaning ∙ also) in cc
   named_refused es why (inr (l, (g, means, h))) (inl (d, also, bad)) = let both : field_of l g ≡ declaration d = sym means ∙ (one_meaning ∙ also) in cc
   named_refused es why (inr (l, (g, means, h))) (inr (l₂, (g₂, also, bad))) =
       let both : field_of l g ≡ field_of l₂ g₂ = sym means ∙ (one_meaning ∙ also) in
-      field_refused l g es why h (subst (λ x. IsRefusedToField q l x why) (sym (one_field both)) (subst (λ x. IsRefusedToField q x g₂ why) (sym (one_record both)) bad))
+      field_refused l g es why h (subst (λ x. IsFieldRefusal q l x why) (sym (one_field both)) (subst (λ x. IsFieldRefusal q x g₂ why) (sym (one_record both)) bad))
 
-  meant_other : (es : List Edit) (m : Target) → AreEdits r es → meant q ≡ m → (m ≡ nothing) ⊎ (m ≡ predeclared) → ⊥
+  meant_other : (es : List Edit) (m : RenameTarget) → AreRenameEdits r es → renaming_target q ≡ m → (m ≡ nothing) ⊎ (m ≡ predeclared) → ⊥
   meant_other es m (inl (c, means, h)) is (inl none) = let both : declaration c ≡ nothing = sym means ∙ (one_meaning ∙ (is ∙ none)) in cc
   meant_other es m (inl (c, means, h)) is (inr none) = let both : declaration c ≡ predeclared = sym means ∙ (one_meaning ∙ (is ∙ none)) in cc
   meant_other es m (inr (l, (g, means, h))) is (inl none) = let both : field_of l g ≡ nothing = sym means ∙ (one_meaning ∙ (is ∙ none)) in cc
   meant_other es m (inr (l, (g, means, h))) is (inr none) = let both : field_of l g ≡ predeclared = sym means ∙ (one_meaning ∙ (is ∙ none)) in cc
 
-  edits_or_refused : (es : List Edit) (why : EditRefusal) → AreEdits r es → IsRefused q why → ⊥
+  edits_or_refused : (es : List Edit) (why : EditRefusal) → AreRenameEdits r es → IsRenameRefusal q why → ⊥
   edits_or_refused es refusal.NoName h bad = meant_other es nothing h bad (inl refl)
   edits_or_refused es refusal.Predeclared h bad = meant_other es predeclared h bad (inr refl)
   edits_or_refused es refusal.BadName h bad = named_refused es refusal.BadName h bad
@@ -228,20 +228,20 @@ module _ (unit : Unit) (text : List ℕ) (place : Position) (new : Name) (names 
 
   -- ---- one refusal
 
-  same_other : (d : ℕ) → other_range r d ≡ other_range q d
+  same_other : (d : ℕ) → conflicting_range r d ≡ conflicting_range q d
   same_other d = λ i.
       option_map (λ token. range_of (width_of unit) text (span_at (e.source i) token))
-      (option_and_then (token_declaring (declaring_only (identifiers role.Declaring (e.tree i)))) (namesake (named (e.source i) (e.tree i)) d new))
+      (option_and_then (declaration_token (declaring_names (identifiers role.Declaring (e.tree i)))) (namesake (tree_with_names (e.source i) (e.tree i)) d new))
 
   same_occurrence : (k : ℕ) → occurrence_range r k ≡ occurrence_range q k
   same_occurrence k = λ i. option_map (λ token. range_of (width_of unit) text (span_at (e.source i) token)) (slice_get (occurrences (e.tree i)) k)
 
-  same_other_field : (k : ℕ) → other_field_range r k ≡ other_field_range q k
+  same_other_field : (k : ℕ) → conflicting_field_range r k ≡ conflicting_field_range q k
   same_other_field k = λ i.
-      option_map (λ token. range_of (width_of unit) text (span_at (e.source i) token)) (first (tokens_among (e.source i) k new (declared_in_block 0 (module_block (e.tree i)))))
+      option_map (λ token. range_of (width_of unit) text (span_at (e.source i) token)) (first (tokens_of_field (e.source i) k new (declared_in_block 0 (module_block (e.tree i)))))
 
-  same_captured : (d : ℕ) → first_captured (named_tree_of names.module_read) d new ≡ first_captured (named_tree_of others.module_read) d new
-  same_captured d = ap (λ t. first_captured t d new) one_tree
+  same_captured : (d : ℕ) → first_name_conflict (named_tree_of names.module_read) d new ≡ first_name_conflict (named_tree_of others.module_read) d new
+  same_captured d = ap (λ t. first_name_conflict t d new) tree_is_unique
 
   one_range : {x y : Range} → Some x ≡ Some y → x ≡ y
   one_range h = cc
@@ -252,10 +252,10 @@ module _ (unit : Unit) (text : List ℕ) (place : Position) (new : Name) (names 
   not_both : (k : ℕ) → Some at_declaration ≡ Some (at_occurrence k) → ⊥
   not_both k h = cc
 
-  not_free : (d : ℕ) (x : Capture) → first_captured (named_tree_of others.module_read) d new ≡ Some x → Free (named_tree_of others.module_read) d new → ⊥
-  not_free d x captured free = let both : None ≡ Some x = sym ((captured_where_not_free-holds (named_tree_of others.module_read) d new).1 free) ∙ captured in cc
+  not_free : (d : ℕ) (x : NameConflict) → first_name_conflict (named_tree_of others.module_read) d new ≡ Some x → Free (named_tree_of others.module_read) d new → ⊥
+  not_free d x captured free = let both : None ≡ Some x = sym ((free_means_no_conflict-holds (named_tree_of others.module_read) d new).1 free) ∙ captured in cc
 
-  declared_refusal : (d : ℕ) (why other : EditRefusal) → IsRefusedTo r d why → IsRefusedTo q d other → why ≡ other
+  declared_refusal : (d : ℕ) (why other : EditRefusal) → IsDeclarationRefusal r d why → IsDeclarationRefusal q d other → why ≡ other
   declared_refusal d why other h k = go (declared_view unit text place new names d why h) (declared_view unit text place new others d other k)
     where
       go : IsBadName unit text place new names why ⊎ (IsIdentifier new × (IsTwice unit text place new names d why ⊎ (IsCaptured unit text place new names d why ⊎ IsLong unit text place new names d why)))
@@ -276,11 +276,11 @@ module _ (unit : Unit) (text : List ℕ) (place : Position) (new : Name) (names 
       go (inr (good, inr (inr (free, is)))) (inr (fine, inr (inl (n, y, also, there, too)))) = absurd (not_captured d (at_occurrence n) free also)
       go (inr (good, inr (inr (free, is)))) (inr (fine, inr (inr (free_too, too)))) = is ∙ sym too
 
-  field_refusal : (k : ℕ) (f : Name) (why other : EditRefusal) → IsRefusedToField r k f why → IsRefusedToField q k f other → why ≡ other
+  field_refusal : (k : ℕ) (f : Name) (why other : EditRefusal) → IsFieldRefusal r k f why → IsFieldRefusal q k f other → why ≡ other
   field_refusal k f why other h l = go (field_view unit text place new names k f why h) (field_view unit text place new others k f other l)
     where
       same_duplicate : is_duplicate_field (named_tree_of names.module_read) k f new ≡ is_duplicate_field (named_tree_of others.module_read) k f new
-      same_duplicate = ap (λ t. is_duplicate_field t k f new) one_tree
+      same_duplicate = ap (λ t. is_duplicate_field t k f new) tree_is_unique
 
       apart : {A : Type 0} → true ≡ false → A
       apart h = absurd (cc)
@@ -295,36 +295,36 @@ module _ (unit : Unit) (text : List ℕ) (place : Position) (new : Name) (names 
       go (inr (good, inr (free, is))) (inr (fine, inl (y, also, there, too))) = apart (sym also ∙ sym same_duplicate ∙ free)
       go (inr (good, inr (free, is))) (inr (fine, inr (free_too, too))) = is ∙ sym too
 
-  named_refusal : (why other : EditRefusal) → IsRefusedToNamed r why → IsRefusedToNamed q other → why ≡ other
+  named_refusal : (why other : EditRefusal) → IsTargetRefusal r why → IsTargetRefusal q other → why ≡ other
   named_refusal why other (inl (c, means, h)) (inl (d, also, k)) =
       let same : c ≡ d = one_declaration (sym means ∙ (one_meaning ∙ also)) in
-      declared_refusal c why other h (subst (λ x. IsRefusedTo q x other) (sym same) k)
+      declared_refusal c why other h (subst (λ x. IsDeclarationRefusal q x other) (sym same) k)
   named_refusal why other (inl (c, means, h)) (inr (l, (g, also, k))) = let both : declaration c ≡ field_of l g = sym means ∙ (one_meaning ∙ also) in absurd (cc)
   named_refusal why other (inr (l, (g, means, h))) (inl (d, also, k)) = let both : field_of l g ≡ declaration d = sym means ∙ (one_meaning ∙ also) in absurd (cc)
   named_refusal why other (inr (l, (g, means, h))) (inr (l₂, (g₂, also, k))) =
       let both : field_of l g ≡ field_of l₂ g₂ = sym means ∙ (one_meaning ∙ also) in
-      field_refusal l g why other h (subst (λ x. IsRefusedToField q l x other) (sym (one_field both)) (subst (λ x. IsRefusedToField q x g₂ other) (sym (one_record both)) k))
+      field_refusal l g why other h (subst (λ x. IsFieldRefusal q l x other) (sym (one_field both)) (subst (λ x. IsFieldRefusal q x g₂ other) (sym (one_record both)) k))
 
-  unnamed : {A : Type 0} (why : EditRefusal) (m : Target) → IsRefusedToNamed q why → meant r ≡ m → (m ≡ nothing) ⊎ (m ≡ predeclared) → A
+  unnamed : {A : Type 0} (why : EditRefusal) (m : RenameTarget) → IsTargetRefusal q why → renaming_target r ≡ m → (m ≡ nothing) ⊎ (m ≡ predeclared) → A
   unnamed why m (inl (d, also, k)) is (inl none) = let both : declaration d ≡ nothing = sym also ∙ (sym one_meaning ∙ (is ∙ none)) in absurd (cc)
   unnamed why m (inl (d, also, k)) is (inr none) = let both : declaration d ≡ predeclared = sym also ∙ (sym one_meaning ∙ (is ∙ none)) in absurd (cc)
   unnamed why m (inr (l, (g, also, k))) is (inl none) = let both : field_of l g ≡ nothing = sym also ∙ (sym one_meaning ∙ (is ∙ none)) in absurd (cc)
   unnamed why m (inr (l, (g, also, k))) is (inr none) = let both : field_of l g ≡ predeclared = sym also ∙ (sym one_meaning ∙ (is ∙ none)) in absurd (cc)
 
-  unnamed_too : {A : Type 0} (why : EditRefusal) (m : Target) → IsRefusedToNamed r why → meant q ≡ m → (m ≡ nothing) ⊎ (m ≡ predeclared) → A
+  unnamed_too : {A : Type 0} (why : EditRefusal) (m : RenameTarget) → IsTargetRefusal r why → renaming_target q ≡ m → (m ≡ nothing) ⊎ (m ≡ predeclared) → A
   unnamed_too why m (inl (d, means, k)) is (inl none) = let both : declaration d ≡ nothing = sym means ∙ (one_meaning ∙ (is ∙ none)) in absurd (cc)
   unnamed_too why m (inl (d, means, k)) is (inr none) = let both : declaration d ≡ predeclared = sym means ∙ (one_meaning ∙ (is ∙ none)) in absurd (cc)
   unnamed_too why m (inr (l, (g, means, k))) is (inl none) = let both : field_of l g ≡ nothing = sym means ∙ (one_meaning ∙ (is ∙ none)) in absurd (cc)
   unnamed_too why m (inr (l, (g, means, k))) is (inr none) = let both : field_of l g ≡ predeclared = sym means ∙ (one_meaning ∙ (is ∙ none)) in absurd (cc)
 
-  one_refusal : (why other : EditRefusal) → IsRefused r why → IsRefused q other → why ≡ other
-  one_refusal why other h k = go (refused_view unit text place new names why h) (refused_view unit text place new others other k)
+  refusal_is_unique : (why other : EditRefusal) → IsRenameRefusal r why → IsRenameRefusal q other → why ≡ other
+  refusal_is_unique why other h k = go (refused_view unit text place new names why h) (refused_view unit text place new others other k)
     where
       apart : {A : Type 0} → nothing ≡ predeclared → A
       apart h = absurd (cc)
 
-      go : ((meant r ≡ nothing) × (why ≡ refusal.NoName)) ⊎ (((meant r ≡ predeclared) × (why ≡ refusal.Predeclared)) ⊎ IsRefusedToNamed r why)
-          → ((meant q ≡ nothing) × (other ≡ refusal.NoName)) ⊎ (((meant q ≡ predeclared) × (other ≡ refusal.Predeclared)) ⊎ IsRefusedToNamed q other) → why ≡ other
+      go : ((renaming_target r ≡ nothing) × (why ≡ refusal.NoName)) ⊎ (((renaming_target r ≡ predeclared) × (why ≡ refusal.Predeclared)) ⊎ IsTargetRefusal r why)
+          → ((renaming_target q ≡ nothing) × (other ≡ refusal.NoName)) ⊎ (((renaming_target q ≡ predeclared) × (other ≡ refusal.Predeclared)) ⊎ IsTargetRefusal q other) → why ≡ other
       go (inl (none, is)) (inl (nor, too)) = is ∙ sym too
       go (inl (none, is)) (inr (inl (before, too))) = apart (sym none ∙ (one_meaning ∙ before))
       go (inl (none, is)) (inr (inr b)) = unnamed other nothing b none (inl refl)
@@ -348,4 +348,4 @@ pub renames_or_refused : (unit : Unit) (text : List ℕ) (place : Position) (new
 renames_or_refused unit text place new es why h k = edits_or_refused unit text place new h.names k.names h.read k.read es why h.are_edits k.refused
 
 pub refuses_one : (unit : Unit) (text : List ℕ) (place : Position) (new : Name) (why other : EditRefusal) → IsRefusedIn unit text place new why → IsRefusedIn unit text place new other → why ≡ other
-refuses_one unit text place new why other h k = one_refusal unit text place new h.names k.names h.read k.read why other h.refused k.refused
+refuses_one unit text place new why other h k = refusal_is_unique unit text place new h.names k.names h.read k.read why other h.refused k.refused

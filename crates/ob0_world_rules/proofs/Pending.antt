@@ -5,19 +5,19 @@ use Rattle.std.proofs.Common.{◌≡◌, ◌∙◌, ℕ, List, [], ◌∷◌, �
 use Rattle.std.specs.Prelude.{fold, Option, Some, None, option_map}
 use Rattle.std.proofs.lemmas.List.{map-append}
 use Rattle.ob0_text.specs.OpenDocuments.{OpenDocuments, Opened, Changed, Lost, Closed, after_event, document_at}
-use Rattle.ob0_world_rules.specs.ClientAndServer.{Open, ToServer, notifies, requests, ToEditor, Made, ClientAndServer, after_message}
+use Rattle.ob0_world_rules.specs.ClientAndServer.{OpenDocument, MessageToServer, notifies, requests, MessageToEditor, Made, ClientAndServer, after_message}
 use Rattle.ob0_world_rules.specs.Serving.{Publishes, Replies}
 use Rattle.ob0_world_rules.specs.Happens.{ServerTakes}
-use Rattle.ob0_world_rules.specs.Mirror.{as_open}
-use Rattle.ob0_world_rules.specs.MadeInOrder.{Announced, announced_at, versions_announced, named_in, versioned_uri, AreMadeOf}
+use Rattle.ob0_world_rules.specs.Mirror.{in_step_document}
+use Rattle.ob0_world_rules.specs.PublicationsInOrder.{AnnouncedDocument, announced_if_open, versions_announced_by, versions_announced_in, versioned_uri, AreMadeForDocuments}
 
 -- ---- the documents that wait for the server
 
-abbrev pub AwaitedAt : OpenDocuments → List ℕ → List Announced → Type 0
-AwaitedAt held uri now = (o : Option Open) × (document_at held uri ≡ option_map as_open o) × (now ≡ announced_at uri o)
+abbrev pub AwaitedAt : OpenDocuments → List ℕ → List AnnouncedDocument → Type 0
+AwaitedAt held uri now = (o : Option OpenDocument) × (document_at held uri ≡ option_map in_step_document o) × (now ≡ announced_if_open uri o)
 
 -- holds if these are the documents for which the server publishes when it takes this message and has these documents
-abbrev pub Awaits : OpenDocuments → ToServer → List Announced → Type 0
+abbrev pub Awaits : OpenDocuments → MessageToServer → List AnnouncedDocument → Type 0
 Awaits held (notifies (Opened uri version text)) now = AwaitedAt (after_event held (Opened uri version text)) uri now
 Awaits held (notifies (Changed uri version how)) now = AwaitedAt (after_event held (Changed uri version how)) uri now
 Awaits held (notifies (Lost uri)) now = now ≡ []
@@ -25,40 +25,40 @@ Awaits held (notifies (Closed uri)) now = now ≡ []
 Awaits held (requests number uri ask) now = now ≡ []
 
 -- holds if these are the documents for which the server will publish when it takes the messages of this queue, in order
-abbrev pub Pending : OpenDocuments → List ToServer → List Announced → Type 0
+abbrev pub Pending : OpenDocuments → List MessageToServer → List AnnouncedDocument → Type 0
 Pending held [] waiting = waiting ≡ []
 Pending held (m ∷ queue) waiting =
-    (now : List Announced) × (later : List Announced) × (waiting ≡ now ++ later) × (Awaits held m now × (map versioned_uri now ≡ versions_announced m)) × Pending (after_message held m) queue later
+    (now : List AnnouncedDocument) × (later : List AnnouncedDocument) × (waiting ≡ now ++ later) × (Awaits held m now × (map versioned_uri now ≡ versions_announced_by m)) × Pending (after_message held m) queue later
 
-pub pending_push : (held : OpenDocuments) (queue : List ToServer) (m : ToServer) (waiting now : List Announced) → Pending held queue waiting → Awaits (fold after_message held queue) m now × (map versioned_uri now ≡ versions_announced m) → Pending held (queue ++ m ∷ []) (waiting ++ now)
+pub pending_push : (held : OpenDocuments) (queue : List MessageToServer) (m : MessageToServer) (waiting now : List AnnouncedDocument) → Pending held queue waiting → Awaits (fold after_message held queue) m now × (map versioned_uri now ≡ versions_announced_by m) → Pending held (queue ++ m ∷ []) (waiting ++ now)
 pending_push held [] m waiting now is awaits = (now, [], ap (λ ts. ts ++ now) is ∙ sym (append-nil now), awaits, refl)
 pending_push held (x ∷ queue) m waiting now (first, later, is, so, rest) awaits =
     (first, later ++ now, ap (λ ts. ts ++ now) is ∙ append_assoc first later now, so, pending_push (after_message held x) queue m later now rest awaits)
 
-pub pending_named : (held : OpenDocuments) (queue : List ToServer) (waiting : List Announced) → Pending held queue waiting → map versioned_uri waiting ≡ named_in queue
+pub pending_named : (held : OpenDocuments) (queue : List MessageToServer) (waiting : List AnnouncedDocument) → Pending held queue waiting → map versioned_uri waiting ≡ versions_announced_in queue
 pending_named held [] waiting is = ap (map versioned_uri) is
 pending_named held (m ∷ queue) waiting (now, later, is, so, rest) =
-    ap (map versioned_uri) is ∙ map-append versioned_uri now later ∙ ap (λ ns. ns ++ map versioned_uri later) so.1 ∙ ap (λ ns. versions_announced m ++ ns) (pending_named (after_message held m) queue later rest)
+    ap (map versioned_uri) is ∙ map-append versioned_uri now later ∙ ap (λ ns. ns ++ map versioned_uri later) so.1 ∙ ap (λ ns. versions_announced_by m ++ ns) (pending_named (after_message held m) queue later rest)
 
 -- ---- publications when the server takes a message
 
-pub made_append : (made more : List Made) (announced later : List Announced) → AreMadeOf made announced → AreMadeOf more later → AreMadeOf (made ++ more) (announced ++ later)
+pub made_append : (made more : List Made) (announced later : List AnnouncedDocument) → AreMadeForDocuments made announced → AreMadeForDocuments more later → AreMadeForDocuments (made ++ more) (announced ++ later)
 made_append [] more [] later h k = k
 made_append (m ∷ made) more (t ∷ announced) later h k = (h.0, made_append made more announced later h.1 k)
 made_append [] more (t ∷ announced) later h k = absurd h
 made_append (m ∷ made) more [] later h k = absurd h
 
-published : (uri : List ℕ) (o : Option Open) (said : List ToEditor) (made : List Made) → Publishes uri (option_map as_open o) said made → AreMadeOf made (announced_at uri o)
-published uri (Some d) said made (empty, right, is_said, is_made) = subst (λ ms. AreMadeOf ms (announced_at uri (Some d))) (sym is_made) ((refl, refl, refl), tt)
-published uri None said made h = subst (λ ms. AreMadeOf ms []) (sym h.1) tt
+published : (uri : List ℕ) (o : Option OpenDocument) (said : List MessageToEditor) (made : List Made) → Publishes uri (option_map in_step_document o) said made → AreMadeForDocuments made (announced_if_open uri o)
+published uri (Some d) said made (empty, right, is_said, is_made) = subst (λ ms. AreMadeForDocuments ms (announced_if_open uri (Some d))) (sym is_made) ((refl, refl, refl), tt)
+published uri None said made h = subst (λ ms. AreMadeForDocuments ms []) (sym h.1) tt
 
-awaited : (held : OpenDocuments) (uri : List ℕ) (said : List ToEditor) (made : List Made) (now : List Announced) → Publishes uri (document_at held uri) said made → AwaitedAt held uri now → AreMadeOf made now
-awaited held uri said made now may (o, at, is) = subst (AreMadeOf made) (sym is) (published uri o said made (subst (λ d. Publishes uri d said made) at may))
+awaited : (held : OpenDocuments) (uri : List ℕ) (said : List MessageToEditor) (made : List Made) (now : List AnnouncedDocument) → Publishes uri (document_at held uri) said made → AwaitedAt held uri now → AreMadeForDocuments made now
+awaited held uri said made now may (o, at, is) = subst (AreMadeForDocuments made) (sym is) (published uri o said made (subst (λ d. Publishes uri d said made) at may))
 
-none_made : (made : List Made) (now : List Announced) → made ≡ [] → now ≡ [] → AreMadeOf made now
-none_made made now no_made none_announced = subst (AreMadeOf made) (sym none_announced) (subst (λ ms. AreMadeOf ms []) (sym no_made) tt)
+none_made : (made : List Made) (now : List AnnouncedDocument) → made ≡ [] → now ≡ [] → AreMadeForDocuments made now
+none_made made now no_made none_announced = subst (AreMadeForDocuments made) (sym none_announced) (subst (λ ms. AreMadeForDocuments ms []) (sym no_made) tt)
 
-pub message_made : (held : OpenDocuments) (m : ToServer) (said : List ToEditor) (made : List Made) (now : List Announced) → Replies held m said made → Awaits held m now → AreMadeOf made now
+pub message_made : (held : OpenDocuments) (m : MessageToServer) (said : List MessageToEditor) (made : List Made) (now : List AnnouncedDocument) → Replies held m said made → Awaits held m now → AreMadeForDocuments made now
 message_made held (notifies (Opened uri version text)) said made now may awaits = awaited (after_event held (Opened uri version text)) uri said made now may awaits
 message_made held (notifies (Changed uri version how)) said made now may awaits = awaited (after_event held (Changed uri version how)) uri said made now may awaits
 message_made held (notifies (Lost uri)) said made now may awaits = none_made made now may.1 awaits
@@ -69,21 +69,21 @@ message_made held (requests number uri ask) said made now (edits, answer, is_sai
 
 -- States that after an event, which announces the documents `now`, all announced documents are the ones with
 -- publications, then the waiting ones.
-pub record Next (announced waiting now : List Announced) (new : ClientAndServer) : Type 0 where
-  pub done : List Announced
-  pub awaits : List Announced
+pub record Next (announced waiting now : List AnnouncedDocument) (new : ClientAndServer) : Type 0 where
+  pub done : List AnnouncedDocument
+  pub awaits : List AnnouncedDocument
   pub parts : (announced ++ waiting) ++ now ≡ done ++ awaits
-  pub made_of : AreMadeOf new.made done
+  pub made_of : AreMadeForDocuments new.made done
   pub pending : Pending new.held new.to_server awaits
 
-module _ (announced waiting : List Announced) where
+module _ (announced waiting : List AnnouncedDocument) where
   -- An event that announces nothing and changes neither queue nor publications leaves them so.
-  pub stays : (w : ClientAndServer) → AreMadeOf w.made announced → Pending w.held w.to_server waiting → Next announced waiting [] w
-  stays w made_of pending = record { done = announced; awaits = waiting; parts = append-nil (announced ++ waiting); made_of = made_of; pending = pending }
+  pub unchanged_result : (w : ClientAndServer) → AreMadeForDocuments w.made announced → Pending w.held w.to_server waiting → Next announced waiting [] w
+  unchanged_result w made_of pending = record { done = announced; awaits = waiting; parts = append-nil (announced ++ waiting); made_of = made_of; pending = pending }
 
-  pub serve_next : (w : ClientAndServer) (queue : List ToServer) (new : ClientAndServer) → AreMadeOf w.made announced → Pending w.held queue waiting → w.to_server ≡ queue → ServerTakes w queue new → Next announced waiting [] new
+  pub serve_next : (w : ClientAndServer) (queue : List MessageToServer) (new : ClientAndServer) → AreMadeForDocuments w.made announced → Pending w.held queue waiting → w.to_server ≡ queue → ServerTakes w queue new → Next announced waiting [] new
   serve_next w [] new made_of pending is h =
-      subst (Next announced waiting []) (sym h) (stays w made_of (subst (λ q. Pending w.held q waiting) (sym is) pending))
+      subst (Next announced waiting []) (sym h) (unchanged_result w made_of (subst (λ q. Pending w.held q waiting) (sym is) pending))
   serve_next w (m ∷ rest) new made_of (now, later, parts, awaits, following) is (said, made, may, is_new) =
       subst (Next announced waiting []) (sym is_new)
       (record {

@@ -11,19 +11,19 @@ use Rattle.std.proofs.lemmas.Option.{cond_some, same_Some, none-some}
 use Rattle.std.proofs.lemmas.List.Elements.{All-nil, All-head, All-tail, All-weaker, All-push}
 use Rattle.ob0_text.specs.declared.position_types.Unit.{Unit}
 use Rattle.ob0_text.specs.OpenDocuments.{TextChange}
-use Rattle.ob0_world_rules.specs.ClientAndServer.{Open, EditorDocuments, SentAsk, Answer, Editor, new_editor, request_numbered, open_at, Applied}
+use Rattle.ob0_world_rules.specs.ClientAndServer.{OpenDocument, EditorDocuments, SentAsk, Answer, Editor, new_editor, request_numbered, open_at, Applied}
 use Rattle.ob0_world_rules.specs.Asks.{Ask}
-use Rattle.ob0_world_rules.specs.Editing.{counted, next_version, same_version, opens, rewrites, closes, asks, if_same}
+use Rattle.ob0_world_rules.specs.EditorActs.{version_number, next_version, same_version, opening_result, rewriting_result, closing_result, asks, if_unchanged_since}
 use Rattle.ob0_world_rules.proofs.UriLaws.{get_put, get_removed, same_uri}
 
 -- states that a request was made earlier: its opening's number isn't fresh, and in that opening versions have only
 -- risen
 record Past (e : Editor) (a : SentAsk) : Type 0 where
   known : a.opening ≤ e.openings
-  risen : (d : Open) → open_at e a.uri ≡ Some d → d.opening ≡ a.opening → counted a.version ≤ counted d.version
+  risen : (d : OpenDocument) → open_at e a.uri ≡ Some d → d.opening ≡ a.opening → version_number a.version ≤ version_number d.version
 
 -- states that the document of the request is d, with the same opening and the same version
-pub record Same (e : Editor) (a : SentAsk) (d : Open) : Type 0 where
+pub record Same (e : Editor) (a : SentAsk) (d : OpenDocument) : Type 0 where
   pub at : open_at e a.uri ≡ Some d
   pub opening : d.opening ≡ a.opening
   pub version : d.version ≡ a.version
@@ -35,10 +35,10 @@ same_versions (pos n) (negsuc m) is = absurd (cc)
 same_versions (negsuc n) (pos m) is = absurd (cc)
 same_versions (negsuc n) (negsuc m) is = ap negsuc (eqb-true n m is)
 
-pub same_from : (e : Editor) (a : SentAsk) (d : Open) → option_and_then (if_same a) (open_at e a.uri) ≡ Some d → Same e a d
+pub same_from : (e : Editor) (a : SentAsk) (d : OpenDocument) → option_and_then (if_unchanged_since a) (open_at e a.uri) ≡ Some d → Same e a d
 same_from e a d h = go (open_at e a.uri) refl h
   where
-    go : (o : Option Open) → open_at e a.uri ≡ o → option_and_then (if_same a) o ≡ Some d → Same e a d
+    go : (o : Option OpenDocument) → open_at e a.uri ≡ o → option_and_then (if_unchanged_since a) o ≡ Some d → Same e a d
     go None is h = absurd (none-some d h)
     go (Some x) is h =
         let both : (x.opening == a.opening && same_version x.version a.version ≡ true) × (x ≡ d) = cond_some _ x d h in
@@ -52,12 +52,12 @@ same_from e a d h = go (open_at e a.uri) refl h
 -- states that in the later editor an earlier request has the same document only if it had it before
 record Later (e e' : Editor) : Type 0 where
   past : (a : SentAsk) → Past e a → Past e' a
-  same : (a : SentAsk) (d : Open) → Past e a → Same e' a d → Same e a d
+  same : (a : SentAsk) (d : OpenDocument) → Past e a → Same e' a d → Same e a d
 
 -- ---- each change of the editor
 
 -- A document found after an insertion is the inserted one, or was found before.
-pub found : (docs : EditorDocuments) (uri q : List ℕ) (new d : Open) (P : Type 0) → map_of.get (map_of.insert docs uri new) q ≡ Some d
+pub found : (docs : EditorDocuments) (uri q : List ℕ) (new d : OpenDocument) (P : Type 0) → map_of.get (map_of.insert docs uri new) q ≡ Some d
     → (q ≡ uri → new ≡ d → P) → (map_of.get docs q ≡ Some d → P) → P
 found docs uri q new d P h this other = go (bytes_eq q uri) refl (sym (get_put docs uri new q) ∙ h)
   where
@@ -66,7 +66,7 @@ found docs uri q new d P h this other = go (bytes_eq q uri) refl (sym (get_put d
     go false is h = other h
 
 -- A document found after a removal was found before.
-pub left : (docs : EditorDocuments) (uri q : List ℕ) (d : Open) → map_of.get (map_of.remove docs uri) q ≡ Some d → map_of.get docs q ≡ Some d
+pub left : (docs : EditorDocuments) (uri q : List ℕ) (d : OpenDocument) → map_of.get (map_of.remove docs uri) q ≡ Some d → map_of.get docs q ≡ Some d
 left docs uri q d h = go (bytes_eq q uri) (sym (get_removed docs uri q) ∙ h)
   where
     go : (b : Bool) → cond b None (map_of.get docs q) ≡ Some d → map_of.get docs q ≡ Some d
@@ -82,41 +82,41 @@ later_documents e list kept =
     }
 
 -- Opening a document doesn't give an earlier request its document back, since the opening number is fresh.
-later_open : (e : Editor) (uri : List ℕ) (new : Open) → new.opening ≡ e.openings + 1 → Later e (record e { documents = map_of.insert e.documents uri new; openings = e.openings + 1 })
+later_open : (e : Editor) (uri : List ℕ) (new : OpenDocument) → new.opening ≡ e.openings + 1 → Later e (record e { documents = map_of.insert e.documents uri new; openings = e.openings + 1 })
 later_open e uri new fresh =
     record {
       past = λ a past. record {
         known = let known : a.opening ≤ e.openings = past.known in omega arith;
-        risen = λ d at opening. found e.documents uri a.uri new d (counted a.version ≤ counted d.version) at (λ same is. absurd (not_fresh a past d is opening)) (λ was. past.risen d was opening);
+        risen = λ d at opening. found e.documents uri a.uri new d (version_number a.version ≤ version_number d.version) at (λ same is. absurd (not_fresh a past d is opening)) (λ was. past.risen d was opening);
       };
       same = λ a d past same. found e.documents uri a.uri new d (Same e a d) same.at (λ at is. absurd (not_fresh a past d is same.opening)) (λ was. record { at = was; opening = same.opening; version = same.version });
     }
   where
-    not_fresh : (a : SentAsk) → Past e a → (d : Open) → new ≡ d → d.opening ≡ a.opening → ⊥
+    not_fresh : (a : SentAsk) → Past e a → (d : OpenDocument) → new ≡ d → d.opening ≡ a.opening → ⊥
     not_fresh a past d is opening =
         let known : a.opening ≤ e.openings = past.known in
         let equal : e.openings + 1 ≡ a.opening = sym fresh ∙ ap (λ y. y.opening) is ∙ opening in
         omega arith
 
 -- Revising a document doesn't give an earlier request its document back, since the version rises.
-later_revise : (e : Editor) (uri : List ℕ) (d new : Open) → new.opening ≡ d.opening → counted d.version < counted new.version → open_at e uri ≡ Some d → Later e (record e { documents = map_of.insert e.documents uri new })
+later_revise : (e : Editor) (uri : List ℕ) (d new : OpenDocument) → new.opening ≡ d.opening → version_number d.version < version_number new.version → open_at e uri ≡ Some d → Later e (record e { documents = map_of.insert e.documents uri new })
 later_revise e uri d new same_opening rises was_open =
     record {
       past = λ a past. record {
         known = past.known;
-        risen = λ x at opening. found e.documents uri a.uri new x (counted a.version ≤ counted x.version) at
-            (λ same is. let old : counted a.version ≤ counted d.version = risen_before a past x same is opening in
-            let version : counted new.version ≡ counted x.version = ap (λ y. counted y.version) is in omega arith)
+        risen = λ x at opening. found e.documents uri a.uri new x (version_number a.version ≤ version_number x.version) at
+            (λ same is. let old : version_number a.version ≤ version_number d.version = risen_before a past x same is opening in
+            let version : version_number new.version ≡ version_number x.version = ap (λ y. version_number y.version) is in omega arith)
             (λ was. past.risen x was opening);
       };
       same = λ a x past same. found e.documents uri a.uri new x (Same e a x) same.at
-          (λ at is. let old : counted a.version ≤ counted d.version = risen_before a past x at is same.opening in
-          let version : counted new.version ≡ counted x.version = ap (λ y. counted y.version) is in
-          let equal : counted x.version ≡ counted a.version = ap counted same.version in absurd (omega arith))
+          (λ at is. let old : version_number a.version ≤ version_number d.version = risen_before a past x at is same.opening in
+          let version : version_number new.version ≡ version_number x.version = ap (λ y. version_number y.version) is in
+          let equal : version_number x.version ≡ version_number a.version = ap version_number same.version in absurd (omega arith))
           (λ was. record { at = was; opening = same.opening; version = same.version });
     }
   where
-    risen_before : (a : SentAsk) → Past e a → (x : Open) → a.uri ≡ uri → new ≡ x → x.opening ≡ a.opening → counted a.version ≤ counted d.version
+    risen_before : (a : SentAsk) → Past e a → (x : OpenDocument) → a.uri ≡ uri → new ≡ x → x.opening ≡ a.opening → version_number a.version ≤ version_number d.version
     risen_before a past x same is opening = past.risen d (ap (open_at e) same ∙ was_open) (sym same_opening ∙ ap (λ y. y.opening) is ∙ opening)
 
 later_close : (e : Editor) (uri : List ℕ) → Later e (record e { documents = map_of.remove e.documents uri })
@@ -131,10 +131,10 @@ later_close e uri =
 -- states that an earlier request's document has the text that was asked about, if it has the same opening and version
 record IsKnown (e : Editor) (a : SentAsk) : Type 0 where
   past : Past e a
-  same_text : (d : Open) → Same e a d → d.text ≡ a.text
+  same_text : (d : OpenDocument) → Same e a d → d.text ≡ a.text
 
 pub record Knows (e : Editor) : Type 0 where
-  openings : (uri : List ℕ) (d : Open) → open_at e uri ≡ Some d → d.opening ≤ e.openings
+  openings : (uri : List ℕ) (d : OpenDocument) → open_at e uri ≡ Some d → d.opening ≤ e.openings
   asks : All (IsKnown e) e.requested
 
 later_asks : (e e' : Editor) → Later e e' → (list : List SentAsk) → All (IsKnown e) list → All (IsKnown e') list
@@ -147,7 +147,7 @@ known_numbered e (x ∷ list) zero a all h = subst (IsKnown e) (same_Some x a h)
 known_numbered e (x ∷ list) (suc k) a all h = known_numbered e list k a (All-tail (IsKnown e) x list all) h
 
 -- A document with the opening and the version of request k has the text of that request.
-pub same_text : (e : Editor) (k : ℕ) (a : SentAsk) (d : Open) → Knows e → request_numbered e.requested k ≡ Some a → Same e a d → d.text ≡ a.text
+pub same_text : (e : Editor) (k : ℕ) (a : SentAsk) (d : OpenDocument) → Knows e → request_numbered e.requested k ≡ Some a → Same e a d → d.text ≡ a.text
 same_text e zero a d knows h same = absurd (none-some a h)
 same_text e (suc k) a d knows h same = (known_numbered e e.requested k a knows.asks h).same_text d same
 
@@ -157,34 +157,34 @@ knows_first unit = record { openings = λ uri d at. absurd (none-some d (sym (ma
 pub knows_other : (e : Editor) (list : List Answer) → Knows e → Knows (record e { answers = list })
 knows_other e list knows = record { openings = knows.openings; asks = later_asks e (record e { answers = list }) (later_documents e e.requested list) e.requested knows.asks }
 
-pub knows_open : (e : Editor) (uri text : List ℕ) → Knows e → Knows (opens e uri text).editor
+pub knows_open : (e : Editor) (uri text : List ℕ) → Knows e → Knows (opening_result e uri text).editor
 knows_open e uri text knows =
-    let d : Open = record { version = pos 1; text = text; opening = e.openings + 1 } in
+    let d : OpenDocument = record { version = pos 1; text = text; opening = e.openings + 1 } in
     record {
       openings = λ q x at. found e.documents uri q d x (x.opening ≤ e.openings + 1) at
           (λ same is. subst (λ y. y.opening ≤ e.openings + 1) is (omega arith))
           (λ was. let known : x.opening ≤ e.openings = knows.openings q x was in omega arith);
-      asks = later_asks e (opens e uri text).editor (later_open e uri d refl) e.requested knows.asks;
+      asks = later_asks e (opening_result e uri text).editor (later_open e uri d refl) e.requested knows.asks;
     }
 
-pub knows_rewrite : (e : Editor) (uri : List ℕ) (d : Open) (text : List ℕ) (how : List TextChange) (applied : List Applied) → open_at e uri ≡ Some d → Knows e → Knows (rewrites e uri d text how applied).editor
+pub knows_rewrite : (e : Editor) (uri : List ℕ) (d : OpenDocument) (text : List ℕ) (how : List TextChange) (applied : List Applied) → open_at e uri ≡ Some d → Knows e → Knows (rewriting_result e uri d text how applied).editor
 knows_rewrite e uri d text how applied was_open knows =
-    let new : Open = record d { version = next_version d.version; text = text } in
+    let new : OpenDocument = record d { version = next_version d.version; text = text } in
     record {
       openings = λ q x at. found e.documents uri q new x (x.opening ≤ e.openings) at
           (λ same is. subst (λ y. y.opening ≤ e.openings) is (knows.openings uri d was_open))
           (λ was. knows.openings q x was);
-      asks = later_asks e (rewrites e uri d text how applied).editor (later_revise e uri d new refl (omega arith) was_open) e.requested knows.asks;
+      asks = later_asks e (rewriting_result e uri d text how applied).editor (later_revise e uri d new refl (omega arith) was_open) e.requested knows.asks;
     }
 
-pub knows_close : (e : Editor) (uri : List ℕ) → Knows e → Knows (closes e uri).editor
+pub knows_close : (e : Editor) (uri : List ℕ) → Knows e → Knows (closing_result e uri).editor
 knows_close e uri knows =
     record {
       openings = λ q x at. knows.openings q x (left e.documents uri q x at);
-      asks = later_asks e (closes e uri).editor (later_close e uri) e.requested knows.asks;
+      asks = later_asks e (closing_result e uri).editor (later_close e uri) e.requested knows.asks;
     }
 
-pub knows_ask : (e : Editor) (uri : List ℕ) (ask : Ask) (d : Open) → open_at e uri ≡ Some d → Knows e → Knows (asks e uri ask d).editor
+pub knows_ask : (e : Editor) (uri : List ℕ) (ask : Ask) (d : OpenDocument) → open_at e uri ≡ Some d → Knows e → Knows (asks e uri ask d).editor
 knows_ask e uri ask d was_open knows =
     let a : SentAsk = record { ask = ask; uri = uri; text = d.text; opening = d.opening; version = d.version } in
     let new : Editor = (asks e uri ask d).editor in
@@ -194,7 +194,7 @@ knows_ask e uri ask d was_open knows =
           (record {
             past = record {
               known = knows.openings uri d was_open;
-              risen = λ x at opening. subst (λ y. counted d.version ≤ counted y.version) (same_Some d x (sym was_open ∙ at)) (omega arith);
+              risen = λ x at opening. subst (λ y. version_number d.version ≤ version_number y.version) (same_Some d x (sym was_open ∙ at)) (omega arith);
             };
             same_text = λ x same. ap (λ y. y.text) (same_Some x d (sym same.at ∙ was_open));
           });

@@ -18,6 +18,6 @@ pub data Ask : Type 0 where
 
 -- Returns the indent that the server uses. A count of spaces outside the allowed range is replaced
 -- by the nearest allowed one (`level_spaces`).
-abbrev pub indent_read : Indent → Indent
-indent_read Tab = Tab
-indent_read (Spaces n) = Spaces (level_spaces n)
+abbrev pub clamped_indent : Indent → Indent
+clamped_indent Tab = Tab
+clamped_indent (Spaces n) = Spaces (level_spaces n)

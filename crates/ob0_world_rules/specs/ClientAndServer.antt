@@ -5,21 +5,21 @@ use Rattle.std.specs.Ordering.{nat_cmp}
 use Rattle.std.specs.Cmp.Lexicographic.{slice_cmp}
 use Rattle.std.specs.FinMap as map_of
 use Rattle.ob0_text.specs.declared.position_types.Unit.{Unit}
-use Rattle.ob0_text.specs.OpenDocuments.{OpenDocuments, DocumentEvent, after_event, none_open}
+use Rattle.ob0_text.specs.OpenDocuments.{OpenDocuments, DocumentEvent, after_event, no_open_documents}
 use Rattle.ob0_world_rules.specs.Edited.{Replacement}
 use Rattle.ob0_world_rules.specs.Asks.{Ask}
 
 -- ---- the editor
 
 -- a document that is open in the editor: its version, its text, and the number of its opening
-pub record Open : Type 0 where
+pub record OpenDocument : Type 0 where
   pub version : ℤ
   pub text : List ℕ
   pub opening : ℕ
 
 -- the open documents, by the bytes of their uris
 abbrev pub EditorDocuments : Type 0
-EditorDocuments = map_of.FinMap (slice_cmp nat_cmp) Open
+EditorDocuments = map_of.FinMap (slice_cmp nat_cmp) OpenDocument
 
 -- a request that was sent: the ask, and the document's uri, text, opening and version at that time
 pub record SentAsk : Type 0 where
@@ -56,24 +56,24 @@ request_numbered requested zero = None
 request_numbered requested (suc k) = slice_get requested k
 
 -- returns the open document with this uri
-abbrev pub open_at : Editor → List ℕ → Option Open
+abbrev pub open_at : Editor → List ℕ → Option OpenDocument
 open_at e uri = map_of.get e.documents uri
 
 -- ---- the queues
 
 -- a message to the server
-pub data ToServer : Type 0 where
-  notifies : DocumentEvent → ToServer
+pub data MessageToServer : Type 0 where
+  notifies : DocumentEvent → MessageToServer
   -- the request's number, the uri and the ask
-  requests : ℕ → List ℕ → Ask → ToServer
+  requests : ℕ → List ℕ → Ask → MessageToServer
 
 -- a message to the editor
-pub data ToEditor : Type 0 where
+pub data MessageToEditor : Type 0 where
   -- The uri, the version, and whether the list of diagnostics is empty. A close publishes a list
   -- without a version.
-  publishes : List ℕ → Option ℤ → Bool → ToEditor
+  publishes : List ℕ → Option ℤ → Bool → MessageToEditor
   -- the request's number and the edits; a refusal has no edits
-  answers : ℕ → List Replacement → ToEditor
+  answers : ℕ → List Replacement → MessageToEditor
 
 -- ---- results
 
@@ -96,10 +96,10 @@ pub record Made : Type 0 where
 -- a client and a server: the editor, the server's documents, the two queues, and the results so far
 pub record ClientAndServer : Type 0 where
   pub editor : Editor
-  pub to_server : List ToServer
+  pub to_server : List MessageToServer
   -- the documents that are open in the server
   pub held : OpenDocuments
-  pub to_editor : List ToEditor
+  pub to_editor : List MessageToEditor
   pub applied : List Applied
   pub made : List Made
 
@@ -109,13 +109,13 @@ start unit =
     record {
       editor = new_editor unit;
       to_server = [];
-      held = none_open unit;
+      held = no_open_documents unit;
       to_editor = [];
       applied = [];
       made = [];
     }
 
 -- returns the server's documents after the server has taken a message
-abbrev pub after_message : OpenDocuments → ToServer → OpenDocuments
+abbrev pub after_message : OpenDocuments → MessageToServer → OpenDocuments
 after_message held (notifies note) = after_event held note
 after_message held (requests number uri ask) = held

@@ -28,20 +28,20 @@ edited unit text edits =
     patched_by_cuts text (map (λ e. cut_at (width_of unit) text e.range e.text) edits)
 
 -- returns the change that replaces the whole text by this text
-abbrev pub whole_text : List ℕ → TextChange
-whole_text text = record { range = None; text = text }
+abbrev pub whole_text_change : List ℕ → TextChange
+whole_text_change text = record { range = None; text = text }
 
 -- Returns the text after these changes, each made in the result of the one before. None means that
 -- the text isn't known: a change of a range leaves it unknown, a change of the whole text makes it
 -- known.
-abbrev pub after_changes : Unit → Option (List ℕ) → List TextChange → Option (List ℕ)
-after_changes unit text changes = fold (changed_text unit) text changes
+abbrev pub text_after_changes : Unit → Option (List ℕ) → List TextChange → Option (List ℕ)
+text_after_changes unit text changes = fold (changed_text unit) text changes
 
 -- ---- the law
 
 -- states that making edits of the code as replacements (`edited`) gives the same text as patching
 -- with them (`patched`)
-abbrev pub EditsArePatched : Type 0
-EditsArePatched =
+abbrev pub EditedEqualsPatched : Type 0
+EditedEqualsPatched =
     (unit : Unit) (text : List ℕ) (edits : List Edit)
     → edited unit text (replacements edits) ≡ patched (width_of unit) text edits

@@ -2,15 +2,15 @@
 -- Rule: docs/PROMISES.md, Client and server.
 use Rattle.std.specs.Prelude.{◌≡◌, List, [], ◌∷◌, ◌++◌, map, Option, Some, None}
 use Rattle.ob0_text.specs.declared.position_types.Unit.{Unit}
-use Rattle.ob0_text.specs.OpenDocuments.{OpenDocuments, none_open}
-use Rattle.ob0_world_rules.specs.ClientAndServer.{Editor, new_editor, ToServer, notifies, requests, ToEditor, Applied, Made, ClientAndServer, start, after_message}
-use Rattle.ob0_world_rules.specs.Editing.{Done, reads}
+use Rattle.ob0_text.specs.OpenDocuments.{OpenDocuments, no_open_documents}
+use Rattle.ob0_world_rules.specs.ClientAndServer.{Editor, new_editor, MessageToServer, notifies, requests, MessageToEditor, Applied, Made, ClientAndServer, start, after_message}
+use Rattle.ob0_world_rules.specs.EditorActs.{ActResult, reads}
 use Rattle.ob0_world_rules.specs.Serving.{Replies}
 use Rattle.ob0_world_rules.specs.Happens.{Event, Course}
 use Rattle.ob0_world_rules.specs.Headline.{Holds, AreUpToDate}
 use Rattle.ob0_world_rules.specs.Mirror.{Mirrors}
-use Rattle.ob0_world_rules.specs.MadeInOrder.{Announced, AreMadeOf, named_in, versioned_uri}
-use Rattle.ob0_world_rules.specs.Editors.{Move, May}
+use Rattle.ob0_world_rules.specs.PublicationsInOrder.{AnnouncedDocument, AreMadeForDocuments, versions_announced_in, versioned_uri}
+use Rattle.ob0_world_rules.specs.Editors.{Move, IsAllowedMove}
 
 -- ---- an editor and the server
 
@@ -18,22 +18,22 @@ use Rattle.ob0_world_rules.specs.Editors.{Move, May}
 -- that change nothing, such as a hover, their answers, and notifications that the server ignores.
 pub record EditorAndServer : Type 0 where
   pub editor : Editor
-  pub to_server : List (Option ToServer)
+  pub to_server : List (Option MessageToServer)
   -- the documents that are open in the server
   pub held : OpenDocuments
-  pub to_editor : List (Option ToEditor)
+  pub to_editor : List (Option MessageToEditor)
   -- the documents that the editor has announced to the server so far
-  pub announced : List Announced
+  pub announced : List AnnouncedDocument
   pub applied : List Applied
   pub made : List Made
 
 -- returns the state before the first turn, in which editor and server count positions in this unit
-abbrev pub nothing_yet : Unit → EditorAndServer
-nothing_yet unit =
+abbrev pub initial_editor_and_server : Unit → EditorAndServer
+initial_editor_and_server unit =
     record {
       editor = new_editor unit;
       to_server = [];
-      held = none_open unit;
+      held = no_open_documents unit;
       to_editor = [];
       announced = [];
       applied = [];
@@ -41,27 +41,27 @@ nothing_yet unit =
     }
 
 -- returns the messages of a queue without those outside the model (`None`)
-abbrev pub without_others : {A : Type 0} → List (Option A) → List A
-without_others [] = []
-without_others (None ∷ queue) = without_others queue
-without_others (Some message ∷ queue) = message ∷ without_others queue
+abbrev pub modeled_messages : {A : Type 0} → List (Option A) → List A
+modeled_messages [] = []
+modeled_messages (None ∷ queue) = modeled_messages queue
+modeled_messages (Some message ∷ queue) = message ∷ modeled_messages queue
 
 -- returns the notifications of a queue, which open, change or close documents, and leaves out the
 -- requests
-abbrev pub notes_among : List ToServer → List ToServer
-notes_among [] = []
-notes_among (notifies note ∷ queue) = notifies note ∷ notes_among queue
-notes_among (requests k uri ask ∷ queue) = notes_among queue
+abbrev pub notifications_among : List MessageToServer → List MessageToServer
+notifications_among [] = []
+notifications_among (notifies note ∷ queue) = notifies note ∷ notifications_among queue
+notifications_among (requests k uri ask ∷ queue) = notifications_among queue
 
 -- returns the state as a `ClientAndServer`, without the messages outside the model and the
 -- announced documents
-abbrev pub as_model : EditorAndServer → ClientAndServer
-as_model w =
+abbrev pub model_state_of : EditorAndServer → ClientAndServer
+model_state_of w =
     record {
       editor = w.editor;
-      to_server = without_others w.to_server;
+      to_server = modeled_messages w.to_server;
       held = w.held;
-      to_editor = without_others w.to_editor;
+      to_editor = modeled_messages w.to_editor;
       applied = w.applied;
       made = w.made;
     }
@@ -80,7 +80,7 @@ pub data Turn : Type 0 where
   editor_takes : Turn
 
 -- returns the state after a move of the editor, by which these documents are announced
-abbrev pub after_move : EditorAndServer → Done → List Announced → EditorAndServer
+abbrev pub after_move : EditorAndServer → ActResult → List AnnouncedDocument → EditorAndServer
 after_move w done announced =
     record w {
       editor = done.editor;
@@ -91,14 +91,14 @@ after_move w done announced =
 
 -- Holds if the server takes the first message that waits for it, and sends its replies. If that
 -- message is outside the model, no document changes, and all replies are outside the model.
-abbrev pub TakesNext : EditorAndServer → List (Option ToServer) → EditorAndServer → Type 0
-TakesNext w [] new = new ≡ w
-TakesNext w (None ∷ rest) new =
-    (said : List (Option ToEditor))
-    × (without_others said ≡ [])
+abbrev pub ServerTakesNext : EditorAndServer → List (Option MessageToServer) → EditorAndServer → Type 0
+ServerTakesNext w [] new = new ≡ w
+ServerTakesNext w (None ∷ rest) new =
+    (said : List (Option MessageToEditor))
+    × (modeled_messages said ≡ [])
     × (new ≡ record w { to_server = rest; to_editor = w.to_editor ++ said })
-TakesNext w (Some message ∷ rest) new =
-    (said : List ToEditor)
+ServerTakesNext w (Some message ∷ rest) new =
+    (said : List MessageToEditor)
     × (made : List Made)
     × Replies w.held message said made
     × (new
@@ -110,28 +110,28 @@ TakesNext w (Some message ∷ rest) new =
     })
 
 -- returns the state after the editor has taken the first message that waits for it, if there is one
-abbrev pub after_one : EditorAndServer → List (Option ToEditor) → EditorAndServer
-after_one w [] = w
-after_one w (None ∷ rest) = record w { to_editor = rest }
-after_one w (Some message ∷ rest) =
+abbrev pub after_editor_takes_next : EditorAndServer → List (Option MessageToEditor) → EditorAndServer
+after_editor_takes_next w [] = w
+after_editor_takes_next w (None ∷ rest) = record w { to_editor = rest }
+after_editor_takes_next w (Some message ∷ rest) =
     record w { editor = reads w.editor message; to_editor = rest }
 
 -- holds if this turn can lead from `w` to `new`
 abbrev pub MayHappen : EditorAndServer → Turn → EditorAndServer → Type 0
 MayHappen w (editor_does move) new =
-    (done : Done)
-    × (announced : List Announced)
-    × May w.editor move done announced
+    (done : ActResult)
+    × (announced : List AnnouncedDocument)
+    × IsAllowedMove w.editor move done announced
     × (new ≡ after_move w done announced)
 MayHappen w editor_says new = new ≡ record w { to_server = w.to_server ++ None ∷ [] }
-MayHappen w server_takes new = TakesNext w w.to_server new
-MayHappen w editor_takes new = new ≡ after_one w w.to_editor
+MayHappen w server_takes new = ServerTakesNext w w.to_server new
+MayHappen w editor_takes new = new ≡ after_editor_takes_next w w.to_editor
 
 -- holds if these turns, one after another, can lead from `w` to `new`
-abbrev pub MayLead : EditorAndServer → List Turn → EditorAndServer → Type 0
-MayLead w [] new = new ≡ w
-MayLead w (turn ∷ turns) new =
-    (between : EditorAndServer) × MayHappen w turn between × MayLead between turns new
+abbrev pub MayLeadTo : EditorAndServer → List Turn → EditorAndServer → Type 0
+MayLeadTo w [] new = new ≡ w
+MayLeadTo w (turn ∷ turns) new =
+    (between : EditorAndServer) × MayHappen w turn between × MayLeadTo between turns new
 
 -- ---- the laws
 
@@ -140,34 +140,34 @@ pub record HoldsWithEditor (w : EditorAndServer) : Type 0 where
   -- Each applied edit keeps the run. Each list of diagnostics is empty exactly when its text is a
   -- well-typed module. If no message of the model waits for the server, the latest diagnostics are
   -- of the present text.
-  pub holds : Holds (as_model w)
+  pub holds : Holds (model_state_of w)
   -- if no notification waits for the server, the latest diagnostics are of the present text, even
   -- if asks and messages outside the model still wait
-  pub latest : notes_among (without_others w.to_server) ≡ [] → AreUpToDate w.editor w.made
+  pub latest : notifications_among (modeled_messages w.to_server) ≡ [] → AreUpToDate w.editor w.made
   -- the server will have the editor's documents once it has taken the messages that wait for it
-  pub mirrors : Mirrors (as_model w)
+  pub mirrors : Mirrors (model_state_of w)
   -- The publications are for the first documents that the editor announced, one for each, in order.
   -- The messages that still wait for the server announce the other documents.
-  pub published : List Announced
-  pub waiting : List Announced
+  pub published : List AnnouncedDocument
+  pub waiting : List AnnouncedDocument
   pub all : w.announced ≡ published ++ waiting
-  pub made_of : AreMadeOf w.made published
-  pub still_wait : map versioned_uri waiting ≡ named_in (without_others w.to_server)
+  pub made_of : AreMadeForDocuments w.made published
+  pub still_wait : map versioned_uri waiting ≡ versions_announced_in (modeled_messages w.to_server)
 
 -- states that the guarantees hold with every editor that keeps ob0's rules, in every interleaving
-abbrev pub WithEveryEditor : Type 0
-WithEveryEditor =
+abbrev pub HoldsForEveryEditor : Type 0
+HoldsForEveryEditor =
     (unit : Unit) (turns : List Turn) (w : EditorAndServer)
-    → MayLead (nothing_yet unit) turns w
+    → MayLeadTo (initial_editor_and_server unit) turns w
     → HoldsWithEditor w
 
 -- States that the model's editor keeps ob0's rules: for each state to which a list of its events
 -- leads, some turns lead to the same state.
-abbrev pub TheModelIsOne : Type 0
-TheModelIsOne =
+abbrev pub ModelEditorKeepsRules : Type 0
+ModelEditorKeepsRules =
     (unit : Unit) (events : List Event) (end : ClientAndServer)
     → Course (start unit) events end
     → (turns : List Turn)
     × (w : EditorAndServer)
-    × MayLead (nothing_yet unit) turns w
-    × (as_model w ≡ end)
+    × MayLeadTo (initial_editor_and_server unit) turns w
+    × (model_state_of w ≡ end)

@@ -1,8 +1,8 @@
 -- Defines the events of a client and a server, and their results.
 -- Rule: LSP 3.17: a model of client and server.
 use Rattle.std.specs.Prelude.{◌≡◌, List, [], ◌∷◌, ◌++◌}
-use Rattle.ob0_world_rules.specs.ClientAndServer.{ToServer, ToEditor, Made, ClientAndServer, after_message}
-use Rattle.ob0_world_rules.specs.Editing.{Act, Done, done_by, reads}
+use Rattle.ob0_world_rules.specs.ClientAndServer.{MessageToServer, MessageToEditor, Made, ClientAndServer, after_message}
+use Rattle.ob0_world_rules.specs.EditorActs.{Act, ActResult, act_result, reads}
 use Rattle.ob0_world_rules.specs.Serving.{Replies}
 
 -- an event: the editor acts, or the server or the editor takes a message
@@ -15,7 +15,7 @@ pub data Event : Type 0 where
   take_message : Event
 
 -- returns the state after an act of the editor
-abbrev pub after_act : ClientAndServer → Done → ClientAndServer
+abbrev pub after_act : ClientAndServer → ActResult → ClientAndServer
 after_act w done =
     record w {
       editor = done.editor;
@@ -25,10 +25,10 @@ after_act w done =
 
 -- Holds if the server takes the first message that waits for it, and sends its replies. If none
 -- waits, nothing changes.
-abbrev pub ServerTakes : ClientAndServer → List ToServer → ClientAndServer → Type 0
+abbrev pub ServerTakes : ClientAndServer → List MessageToServer → ClientAndServer → Type 0
 ServerTakes w [] new = new ≡ w
 ServerTakes w (message ∷ rest) new =
-    (said : List ToEditor)
+    (said : List MessageToEditor)
     × (made : List Made)
     × Replies w.held message said made
     × (new
@@ -40,16 +40,16 @@ ServerTakes w (message ∷ rest) new =
     })
 
 -- returns the state after the editor has taken the first message that waits for it, if there is one
-abbrev pub after_taking : ClientAndServer → List ToEditor → ClientAndServer
-after_taking w [] = w
-after_taking w (message ∷ rest) =
+abbrev pub after_editor_takes : ClientAndServer → List MessageToEditor → ClientAndServer
+after_editor_takes w [] = w
+after_editor_takes w (message ∷ rest) =
     record w { editor = reads w.editor message; to_editor = rest }
 
 -- holds if this event leads from `w` to `new`
 abbrev pub Happens : ClientAndServer → Event → ClientAndServer → Type 0
-Happens w (does act) new = new ≡ after_act w (done_by w.editor act)
+Happens w (does act) new = new ≡ after_act w (act_result w.editor act)
 Happens w serve new = ServerTakes w w.to_server new
-Happens w take_message new = new ≡ after_taking w w.to_editor
+Happens w take_message new = new ≡ after_editor_takes w w.to_editor
 
 -- holds if these events, one after another, lead from `w` to `new`
 abbrev pub Course : ClientAndServer → List Event → ClientAndServer → Type 0

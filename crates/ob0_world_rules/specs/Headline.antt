@@ -4,10 +4,10 @@ use Rattle.std.specs.Prelude.{◌≡◌, ℕ, List, [], All, Option, Some, None,
 use Rattle.std.specs.Str.{bytes_eq}
 use Rattle.ob0_text.specs.declared.position_types.Unit.{Unit}
 use Rattle.ob0_world_rules.specs.Language.{WellTypedText, SameRun}
-use Rattle.ob0_world_rules.specs.Answers.{IsEmptyIfCorrect}
-use Rattle.ob0_world_rules.specs.ClientAndServer.{Open, Editor, open_at, Applied, Made, ClientAndServer, start}
+use Rattle.ob0_world_rules.specs.Answers.{IsEmptyIfWellTyped}
+use Rattle.ob0_world_rules.specs.ClientAndServer.{OpenDocument, Editor, open_at, Applied, Made, ClientAndServer, start}
 use Rattle.ob0_world_rules.specs.Happens.{Event, Course}
-use Rattle.ob0_world_rules.specs.MadeInOrder.{AreMadeInOrder}
+use Rattle.ob0_world_rules.specs.PublicationsInOrder.{AreMadeInOrder}
 
 -- ---- an applied edit
 
@@ -22,8 +22,8 @@ pub record KeepsTheRun (a : Applied) : Type 0 where
 
 -- holds if the published list is empty exactly when the text that it was made for is a well-typed
 -- module
-abbrev pub IsRight : Made → Type 0
-IsRight m = IsEmptyIfCorrect m.text m.empty
+abbrev pub IsCorrectPublication : Made → Type 0
+IsCorrectPublication m = IsEmptyIfWellTyped m.text m.empty
 
 -- returns the last publication with a version for a uri
 abbrev pub last_publication : List ℕ → List Made → Option Made
@@ -34,7 +34,7 @@ last_publication uri made =
 -- and text.
 abbrev pub AreUpToDate : Editor → List Made → Type 0
 AreUpToDate e made =
-    (uri : List ℕ) (d : Open)
+    (uri : List ℕ) (d : OpenDocument)
     → open_at e uri ≡ Some d
     → MatchOption (last_publication uri made) ⊥
     (λ m. (m.version ≡ d.version) × (m.text ≡ d.text))
@@ -46,7 +46,7 @@ pub record Holds (w : ClientAndServer) : Type 0 where
   -- each applied edit keeps the run
   pub applied : All KeepsTheRun w.applied
   -- each published list is empty exactly when the text that it was made for is a well-typed module
-  pub made : All IsRight w.made
+  pub made : All IsCorrectPublication w.made
   -- If no message waits for the server, the latest diagnostics of each open document were made for
   -- its present text.
   pub latest_made : w.to_server ≡ [] → AreUpToDate w.editor w.made
@@ -63,4 +63,4 @@ pub record Headline (unit : Unit) (events : List Event) (applied : List Applied)
   pub made_are : made ≡ end.made
   pub holds : Holds end
   -- the n-th publication was made for the n-th document that the editor announced
-  pub made_for : AreMadeInOrder unit events made
+  pub publication_in_message : AreMadeInOrder unit events made

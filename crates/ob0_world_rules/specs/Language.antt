@@ -6,13 +6,13 @@ use Rattle.std.specs.Str.{IsUtf8}
 use Rattle.ob0_scan.specs.declared.lexeme.LexemeKind.{LexemeKind}
 use Rattle.ob0_scan.specs.declared.lexeme.LexemeKind.TheVariants as lexeme
 use Rattle.ob0_scan.specs.Lexed.{Lexeme, Lexed}
-use Rattle.ob0_scan.specs.Scanned.{max_text}
-use Rattle.ob0_tree.specs.Lexeme.{Terminal, kind_lexeme}
+use Rattle.ob0_scan.specs.TextWithTokens.{max_text}
+use Rattle.ob0_tree.specs.Lexeme.{Terminal, terminal_of_kind}
 use Rattle.ob0_tree.specs.Module.{max_nesting}
 use Rattle.ob0_tree.specs.Tree.{Tree, module_text, spell, nesting}
 use Rattle.ob0_language_names.specs.Names.{Name}
 use Rattle.ob0_language_types.specs.WellTyped.{WellTyped}
-use Rattle.ob0_language_runs.specs.EditLaws.{SameRuns}
+use Rattle.ob0_language_runs.specs.EditLaws.{HaveSameRuns}
 use Rattle.ob0_edits.specs.Texts.{utf8}
 
 -- returns the terminals that a tree has for a lexeme: one for a token, none for white space or a
@@ -20,7 +20,7 @@ use Rattle.ob0_edits.specs.Texts.{utf8}
 abbrev pub terminals : LexemeKind → List ℕ → List (Terminal Name)
 terminals lexeme.Space text = []
 terminals lexeme.Comment text = []
-terminals (lexeme.Token kind) text = kind_lexeme text kind ∷ []
+terminals (lexeme.Token kind) text = terminal_of_kind text kind ∷ []
 
 -- states that these bytes are the text of a module with this tree
 pub record IsModuleText (tree : Tree Name module_text) (bytes : List ℕ) : Type 0 where
@@ -46,4 +46,4 @@ SameRun a b =
     (before after : Tree Name module_text)
     → IsModuleText before (utf8 a)
     → IsModuleText after (utf8 b)
-    → SameRuns before after
+    → HaveSameRuns before after

@@ -9,9 +9,9 @@ use Rattle.ob0_edits.specs.Diagnosed.{IsTextOf}
 use Rattle.ob0_world_rules.specs.Language.{IsModuleText, WellTypedText, SameRun}
 use Rattle.ob0_world_rules.specs.Edited.{Replacement, replacements, edited}
 use Rattle.ob0_world_rules.specs.Asks.{Ask}
-use Rattle.ob0_world_rules.specs.Answers.{GivesEdits, AnswersFor}
+use Rattle.ob0_world_rules.specs.Answers.{GivesEdits, IsAnswerForText}
 use Rattle.ob0_world_rules.specs.ClientAndServer.{ClientAndServer, start}
-use Rattle.ob0_world_rules.specs.Editing.{open_document, change_document, close_document, ask_about, apply, discard}
+use Rattle.ob0_world_rules.specs.EditorActs.{open_document, change_document, close_document, ask_about, apply, discard}
 use Rattle.ob0_world_rules.specs.Happens.{Event, does, serve, take_message, Course, Happens}
 use Rattle.ob0_world_rules.specs.Headline.{Holds}
 use Rattle.ob0_world_rules.specs.Mirror.{Mirrors}
@@ -20,8 +20,8 @@ use Rattle.ob0_world_rules.specs.Mirror.{Mirrors}
 
 -- States that a text has a given tree by its lexemes (`IsModuleText`) exactly if it has that tree
 -- by the parser's tokens (`IsTextOf`).
-abbrev pub OneReading : Type 0
-OneReading =
+abbrev pub ReadingsAgree : Type 0
+ReadingsAgree =
     (tree : Tree Name module_text) (bytes : List ℕ)
     → IsTextOf tree bytes ↔ IsModuleText tree bytes
 
@@ -44,18 +44,18 @@ EditsKeepTheRun =
     → EditsPreserveRun unit text (replacements edits)
 
 -- states that two answers to the same ask about the same text are equal
-abbrev pub AnswersAreOne : Type 0
-AnswersAreOne =
+abbrev pub AnswersAreUnique : Type 0
+AnswersAreUnique =
     (unit : Unit) (text : List ℕ) (ask : Ask) (given other : List Replacement)
-    → AnswersFor unit text ask given
-    → AnswersFor unit text ask other
+    → IsAnswerForText unit text ask given
+    → IsAnswerForText unit text ask other
     → given ≡ other
 
 -- ---- events
 
 -- states that an event leads from a state to at most one state
-abbrev pub OneStep : Type 0
-OneStep =
+abbrev pub StepIsDetermined : Type 0
+StepIsDetermined =
     (w : ClientAndServer) (event : Event) (new other : ClientAndServer)
     → Happens w event new
     → Happens w event other
@@ -63,8 +63,8 @@ OneStep =
 
 -- States that a list of events leads from a state to at most one state. The states have documents,
 -- queues, applied edits and publications.
-abbrev pub OneCourse : Type 0
-OneCourse =
+abbrev pub CourseIsDetermined : Type 0
+CourseIsDetermined =
     (w : ClientAndServer) (events : List Event) (end other : ClientAndServer)
     → Course w events end
     → Course w events other
@@ -74,7 +74,7 @@ OneCourse =
 abbrev pub HasAnswers : Ask → Type 0
 HasAnswers ask =
     (unit : Unit) (text : List ℕ)
-    → ¬ ((given : List Replacement) → ¬ AnswersFor unit text ask given)
+    → ¬ ((given : List Replacement) → ¬ IsAnswerForText unit text ask given)
 
 -- holds if the event isn't an ask, or is an ask that has answers
 abbrev pub IsAnswerable : Event → Type 0
@@ -89,18 +89,18 @@ IsAnswerable take_message = ⊤
 
 -- States that a list of events has a course if its asks have answers. The formula is a double
 -- negation. So a law about every course is about at least one.
-abbrev pub ACourseFits : Type 0
-ACourseFits =
+abbrev pub CourseExists : Type 0
+CourseExists =
     (unit : Unit) (events : List Event)
     → All IsAnswerable events
     → ¬ ((end : ClientAndServer) → ¬ Course (start unit) events end)
 
 -- states that `Holds` is true in each state to which a list of events leads
-abbrev pub InEveryInterleaving : Type 0
-InEveryInterleaving =
+abbrev pub HoldsInEveryInterleaving : Type 0
+HoldsInEveryInterleaving =
     (u : Unit) (events : List Event) (w : ClientAndServer) → Course (start u) events w → Holds w
 
 -- states that the server has the editor's documents once it has taken all messages that wait for it
-abbrev pub ServerMirrors : Type 0
-ServerMirrors =
+abbrev pub ServerMirrorsEditor : Type 0
+ServerMirrorsEditor =
     (u : Unit) (events : List Event) (w : ClientAndServer) → Course (start u) events w → Mirrors w

@@ -4,11 +4,11 @@ pub mod Serving
 pub mod Happens
 pub mod Headline
 pub mod Laws
-pub mod MadeInOrder
+pub mod PublicationsInOrder
 pub mod Edited
 pub mod Asks
 pub mod ClientAndServer
-pub mod Editing
+pub mod EditorActs
 pub mod Mirror
 pub mod Editors
 pub mod EveryEditor

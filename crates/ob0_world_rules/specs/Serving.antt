@@ -3,15 +3,15 @@
 use Rattle.std.specs.Prelude.{◌≡◌, ℕ, List, [], ◌∷◌, Bool, true, Option, Some, None, is_some, if◌then◌else◌}
 use Rattle.ob0_text.specs.OpenDocuments.{OpenDocuments, Document, InStep, OutOfStep, DocumentEvent, Opened, Changed, Lost, Closed, document_at, after_event}
 use Rattle.ob0_world_rules.specs.Edited.{Replacement}
-use Rattle.ob0_world_rules.specs.Answers.{IsAnswer, IsEmptyIfCorrect}
-use Rattle.ob0_world_rules.specs.ClientAndServer.{ToServer, notifies, requests, ToEditor, publishes, answers, Made}
+use Rattle.ob0_world_rules.specs.Answers.{IsAnswer, IsEmptyIfWellTyped}
+use Rattle.ob0_world_rules.specs.ClientAndServer.{MessageToServer, notifies, requests, MessageToEditor, publishes, answers, Made}
 
 -- Holds if the server sends diagnostics, with the version, for a document in step, and sends
 -- nothing for any other document. `made` has the same publication with the text for which it was
 -- made.
-abbrev pub Publishes : List ℕ → Option Document → List ToEditor → List Made → Type 0
+abbrev pub Publishes : List ℕ → Option Document → List MessageToEditor → List Made → Type 0
 Publishes uri (Some (InStep version text)) sent made =
-    (empty : Bool) × IsEmptyIfCorrect text empty × (sent ≡ publishes uri (Some version) empty ∷ [])
+    (empty : Bool) × IsEmptyIfWellTyped text empty × (sent ≡ publishes uri (Some version) empty ∷ [])
     × (made ≡ record { uri = uri; version = version; text = text; empty = empty } ∷ [])
 Publishes uri (Some OutOfStep) sent made = (sent ≡ []) × (made ≡ [])
 Publishes uri None sent made = (sent ≡ []) × (made ≡ [])
@@ -21,7 +21,7 @@ Publishes uri None sent made = (sent ≡ []) × (made ≡ [])
 -- notification. If an open document is closed, its diagnostics are cleared.
 abbrev pub RepliesToNotification : OpenDocuments
     → DocumentEvent
-    → List ToEditor
+    → List MessageToEditor
     → List Made
     → Type 0
 RepliesToNotification held (Opened uri version text) sent made =
@@ -35,7 +35,7 @@ RepliesToNotification held (Closed uri) sent made =
 
 -- holds if the server replies to a message with these messages, and `made` are the publications
 -- with a version among them
-abbrev pub Replies : OpenDocuments → ToServer → List ToEditor → List Made → Type 0
+abbrev pub Replies : OpenDocuments → MessageToServer → List MessageToEditor → List Made → Type 0
 Replies held (notifies note) sent made = RepliesToNotification held note sent made
 Replies held (requests number uri ask) sent made =
     (edits : List Replacement)

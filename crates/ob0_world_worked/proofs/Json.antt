@@ -7,16 +7,16 @@ use Rattle.json.specs.Print.{escape}
 use Rattle.serde_json.specs.Data.{Data, null, boolean, number, string, array, object, unsigned, Members, no_members, member, depth}
 use Rattle.serde_json.specs.View.{items_of}
 use Rattle.serde_json.specs.Written.{compact_text}
-use Rattle.ob0_rpc.specs.Appending.{AppendsMembers, AreReadBack, IsReadBack, listed}
+use Rattle.ob0_rpc.specs.Appending.{AppendsMembers, AllReadBack, ReadsBack, comma_separated_texts}
 use Rattle.ob0_rpc.specs.Messages.{ReadsContent}
 use Rattle.ob0_rpc.specs.Writing.{Writes}
 use Rattle.ob0_rpc.proofs.Appending.{are_names, array_of, count_written, object_of, rebuilt, text_written, written}
 use Rattle.ob0_world_worked.proofs.WorkedTexts.{is_ascii_text, utf8_so}
 
-pub text_read : {s : List ℕ} → is_ascii_text s ≡ true → IsReadBack (string s)
+pub text_read : {s : List ℕ} → is_ascii_text s ≡ true → ReadsBack (string s)
 text_read {s} h = (text_written s [] (34 ∷ []) (34 ∷ escape s) ((34 ∷ escape s) ++ 34 ∷ []) (utf8_so s h) refl refl refl).reads
 
-pub count_read : (n : ℕ) → nat_lt n 1000 ≡ true → is_ascii_text (decimal n) ≡ true → IsReadBack (number (unsigned n))
+pub count_read : (n : ℕ) → nat_lt n 1000 ≡ true → is_ascii_text (decimal n) ≡ true → ReadsBack (number (unsigned n))
 count_read n small h = (count_written n [] (decimal n) (let low = ltb-true n 1000 small in omega (arith, low)) (utf8_so (decimal n) h) refl).reads
 
 pub zero_text : decimal 0 ≡ 48 ∷ []
@@ -31,18 +31,18 @@ pub two_text : decimal 2 ≡ 50 ∷ []
 unfolding digits
 two_text = refl
 
-pub null_read : IsReadBack null
+pub null_read : ReadsBack null
 null_read = record { reads = refl; numbers = tt; utf8 = utf8_so (compact_text null) refl }
 
-pub truth_read : IsReadBack (boolean true)
+pub truth_read : ReadsBack (boolean true)
 truth_read = record { reads = refl; numbers = tt; utf8 = utf8_so (compact_text (boolean true)) refl }
 
-pub empty_read : IsReadBack (object no_members)
+pub empty_read : ReadsBack (object no_members)
 empty_read = record { reads = refl; numbers = tt; utf8 = utf8_so (compact_text (object no_members)) refl }
 
 abbrev pub AllRead : Members → Type 0
 AllRead no_members = ⊤
-AllRead (member k d ms) = IsReadBack d × AllRead ms
+AllRead (member k d ms) = ReadsBack d × AllRead ms
 
 appended : (before : ℕ) (ms : Members) (old : List ℕ) → AllRead ms → (new : List ℕ) × AppendsMembers before ms old new
 appended before no_members old h = (old ++ 125 ∷ [], refl)
@@ -51,11 +51,11 @@ appended before (member k d ms) old h =
     let rest = appended 44 ms mid h.1 in
     (rest.0, (mid, record { text = refl; reads = h.0 }, rest.1))
 
-pub object_read : {k : List ℕ} {d : Data} {ms : Members} → are_names (member k d ms) ≡ true → rebuilt (member k d ms) no_members ≡ member k d ms → AllRead (member k d ms) → IsReadBack (object (member k d ms))
+pub object_read : {k : List ℕ} {d : Data} {ms : Members} → are_names (member k d ms) ≡ true → rebuilt (member k d ms) no_members ≡ member k d ms → AllRead (member k d ms) → ReadsBack (object (member k d ms))
 object_read {k} {d} {ms} names order h = let all = appended 123 (member k d ms) [] h in (object_of k d ms [] all.0 names order all.1).reads
 
-pub array_read : (ds : List Data) → AreReadBack ds → IsReadBack (array (items_of ds))
-array_read ds h = (array_of ds [] (91 ∷ []) ((91 ∷ []) ++ listed false ds) (((91 ∷ []) ++ listed false ds) ++ 93 ∷ []) refl (record { text = refl; reads = h }) refl).reads
+pub array_read : (ds : List Data) → AllReadBack ds → ReadsBack (array (items_of ds))
+array_read ds h = (array_of ds [] (91 ∷ []) ((91 ∷ []) ++ comma_separated_texts false ds) (((91 ∷ []) ++ comma_separated_texts false ds) ++ 93 ∷ []) refl (record { text = refl; reads = h }) refl).reads
 
 -- ---- contents
 
@@ -65,9 +65,9 @@ content_of d = compact_text d
 pub depth_so : (d : Data) → nat_lt (depth d) 128 ≡ true → depth d ≤ 127
 depth_so d h = let low = ltb-true (depth d) 128 h in omega (arith, low)
 
-pub written_so : (d : Data) → IsReadBack d → nat_lt (depth d) 128 ≡ true → Writes d (content_of d)
+pub written_so : (d : Data) → ReadsBack d → nat_lt (depth d) 128 ≡ true → Writes d (content_of d)
 unfolding content_of
 written_so d r shallow = written d [] (compact_text d) refl (record { text = refl; reads = r }) (depth_so d shallow)
 
-pub reads_so : (d : Data) → IsReadBack d → nat_lt (depth d) 128 ≡ true → ReadsContent (content_of d) (Some d)
+pub reads_so : (d : Data) → ReadsBack d → nat_lt (depth d) 128 ≡ true → ReadsContent (content_of d) (Some d)
 reads_so d r shallow = (written_so d r shallow).reads

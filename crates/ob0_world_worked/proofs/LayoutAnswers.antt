@@ -5,17 +5,17 @@ use Rattle.std.specs.Str.{IsUtf8, chars}
 use Rattle.std.proofs.lemmas.Bool.{ltb-false, ltb-true}
 use Rattle.std.proofs.lemmas.Str.{chars_from_encodes, encodes-chars}
 use Rattle.ob0_scan.specs.Lexed.{Lexed, Lexeme}
-use Rattle.ob0_scan.specs.Scanned.{IsScan, Scanned, comments_from, max_text, tokens_from}
+use Rattle.ob0_scan.specs.TextWithTokens.{IsScan, TextWithTokens, comments_from, max_text, tokens_from}
 use Rattle.ob0_text.specs.declared.edits.Edit.{Edit}
 use Rattle.ob0_text.specs.declared.edits.Indent.{Indent}
 use Rattle.ob0_text.specs.declared.position_types.Unit.{Unit}
 use Rattle.ob0_tree.specs.Module.{ModuleOf}
 use Rattle.ob0_tree.specs.Tree.{Tree, module_text}
-use Rattle.ob0_layout.specs.Layout.{laid_out, layout}
+use Rattle.ob0_layout.specs.Layout.{formatted_lexemes, layout}
 use Rattle.ob0_edits.specs.Diagnosed.{IsTextOf, IsWellTypedModule}
 use Rattle.ob0_edits.specs.Texts.{utf8}
-use Rattle.ob0_edits.specs.Layouts.{LaysOut, layout_of}
-use Rattle.ob0_world_rules.specs.Asks.{format, indent_read}
+use Rattle.ob0_edits.specs.Layouts.{FormatsIn, layout_of}
+use Rattle.ob0_world_rules.specs.Asks.{format, clamped_indent}
 use Rattle.ob0_world_rules.specs.Edited.{replacements}
 use Rattle.ob0_world_rules.specs.Language.{WellTypedText}
 use Rattle.ob0_world_rules.specs.Laws.{HasAnswers}
@@ -24,16 +24,16 @@ use Rattle.ob0_world_worked.proofs.LayoutEdits.{layout_edits, layout_patches}
 
 abbrev pub ModuleStays : Type 0
 ModuleStays =
-    (indent : Indent) (s : Scanned) (scan : IsScan s) (tree : Tree (List ℕ) module_text) → ModuleOf s tree
-    → (t : Scanned) → IsScan t → t.text ≡ layout indent tree scan.lexemes → ModuleOf t tree
+    (indent : Indent) (s : TextWithTokens) (scan : IsScan s) (tree : Tree (List ℕ) module_text) → ModuleOf s tree
+    → (t : TextWithTokens) → IsScan t → t.text ≡ layout indent tree scan.lexemes → ModuleOf t tree
 
 abbrev pub LexemesStay : Type 0
-LexemesStay = (indent : Indent) (s : Scanned) (scan : IsScan s) (tree : Tree (List ℕ) module_text) → ModuleOf s tree → Lexed (layout indent tree scan.lexemes) (laid_out indent tree scan.lexemes)
+LexemesStay = (indent : Indent) (s : TextWithTokens) (scan : IsScan s) (tree : Tree (List ℕ) module_text) → ModuleOf s tree → Lexed (layout indent tree scan.lexemes) (formatted_lexemes indent tree scan.lexemes)
 
 abbrev pub LayoutIsUtf8 : Type 0
-LayoutIsUtf8 = (indent : Indent) (s : Scanned) (scan : IsScan s) (tree : Tree (List ℕ) module_text) → IsUtf8 (layout indent tree scan.lexemes)
+LayoutIsUtf8 = (indent : Indent) (s : TextWithTokens) (scan : IsScan s) (tree : Tree (List ℕ) module_text) → IsUtf8 (layout indent tree scan.lexemes)
 
-module _ (stays : ModuleStays) (lexed : LexemesStay) (good : LayoutIsUtf8) (unit : Unit) (indent : Indent) (text : List ℕ) (m : IsWellTypedModule (utf8 text)) where
+module _ (unchanged_result : ModuleStays) (lexed : LexemesStay) (good : LayoutIsUtf8) (unit : Unit) (indent : Indent) (text : List ℕ) (m : IsWellTypedModule (utf8 text)) where
   held : text ≡ chars m.text_of.scanned.text
   held = chars_from_encodes text m.text_of.scanned.text m.text_of.scan.scan.utf8 (sym m.text_of.scan.of)
 
@@ -42,13 +42,13 @@ module _ (stays : ModuleStays) (lexed : LexemesStay) (good : LayoutIsUtf8) (unit
       let laid : List ℕ = layout_of indent m in
       let s = m.text_of.scanned in
       let scan = m.text_of.scan.scan in
-      let lexemes : List Lexeme = laid_out indent m.tree scan.lexemes in
-      let t : Scanned = record { text = laid; tokens = tokens_from 0 lexemes; comments = comments_from 0 lexemes } in
+      let lexemes : List Lexeme = formatted_lexemes indent m.tree scan.lexemes in
+      let t : TextWithTokens = record { text = laid; tokens = tokens_from 0 lexemes; comments = comments_from 0 lexemes } in
       let u = good indent s scan m.tree in
       let read : IsScan t = record { utf8 = u; short = short; lexemes = lexemes; lexed = lexed indent s scan m.tree m.text_of.module_of; tokens = refl; comments = refl } in
-      record { scanned = t; scan = record { of = sym (encodes-chars laid u); scan = read }; module_of = stays indent s scan m.tree m.text_of.module_of t read refl }
+      record { scanned = t; scan = record { of = sym (encodes-chars laid u); scan = read }; module_of = unchanged_result indent s scan m.tree m.text_of.module_of t read refl }
 
-  pub lays_out : length (layout_of indent m) ≤ 1048576 → (edits : List Edit) × LaysOut unit indent text edits
+  pub lays_out : length (layout_of indent m) ≤ 1048576 → (edits : List Edit) × FormatsIn unit indent text edits
   lays_out short =
       let s = m.text_of.scanned in
       let scan = m.text_of.scan.scan in
@@ -59,21 +59,21 @@ module _ (stays : ModuleStays) (lexed : LexemesStay) (good : LayoutIsUtf8) (unit
           changes = made.1;
           after = chars (layout_of indent m);
           made = layout_patches unit indent text s scan m.tree held made.0 made.1;
-          laid_out = encodes-chars (layout_of indent m) (good indent s scan m.tree);
+          formatted_lexemes = encodes-chars (layout_of indent m) (good indent s scan m.tree);
           same_module = stays_module short;
           runs = record { old = m; new = record { tree = m.tree; text_of = stays_module short; well_typed = m.well_typed }; same = λ input c t. refl };
         },
       )
 
 pub formatting_has_answers : ModuleStays → LexemesStay → LayoutIsUtf8 → (indent : Indent) → HasAnswers (format indent)
-formatting_has_answers stays lexed good indent unit text none = none [] (inr (inr unfit, refl))
+formatting_has_answers unchanged_result lexed good indent unit text none = none [] (inr (inr unfit, refl))
   where
-    go : (m : IsWellTypedModule (utf8 text)) (b : Bool) → nat_lt max_text (length (layout_of (indent_read indent) m)) ≡ b → ⊥
-    go m true long = none [] (inr (inl (record { before = m; long = ltb-true max_text (length (layout_of (indent_read indent) m)) long }), refl))
+    go : (m : IsWellTypedModule (utf8 text)) (b : Bool) → nat_lt max_text (length (layout_of (clamped_indent indent) m)) ≡ b → ⊥
+    go m true long = none [] (inr (inl (record { before = m; long = ltb-true max_text (length (layout_of (clamped_indent indent) m)) long }), refl))
     go m false fits =
-        let low = ltb-false max_text (length (layout_of (indent_read indent) m)) fits in
-        let made = lays_out stays lexed good unit (indent_read indent) text m low in
+        let low = ltb-false max_text (length (layout_of (clamped_indent indent) m)) fits in
+        let made = lays_out unchanged_result lexed good unit (clamped_indent indent) text m low in
         none (replacements made.0) (inl (made.0, made.1, refl))
 
     unfit : WellTypedText text → ⊥
-    unfit h = let m = well_typed_module text h in go m (nat_lt max_text (length (layout_of (indent_read indent) m))) refl
+    unfit h = let m = well_typed_module text h in go m (nat_lt max_text (length (layout_of (clamped_indent indent) m))) refl

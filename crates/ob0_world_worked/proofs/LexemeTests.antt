@@ -6,17 +6,17 @@ use Rattle.std.proofs.lemmas.Bool.{and_parts, ltb-true}
 use Rattle.std.proofs.lemmas.Slice.Eq.{bytes_eq-Decides}
 use Rattle.std.proofs.lemmas.List.Sums.{AllPass-from_list_all}
 use Rattle.std.specs.Char.{is_ascii_alphabetic, is_ascii_alphanumeric, is_ascii_digit}
-use Rattle.ob0_scan.specs.declared.lexeme.Reserved.{Reserved}
-use Rattle.ob0_scan.specs.declared.lexeme.Reserved.TheVariants as reserved
+use Rattle.ob0_scan.specs.declared.lexeme.ReservedWord.{ReservedWord}
+use Rattle.ob0_scan.specs.declared.lexeme.ReservedWord.TheVariants as reserved
 use Rattle.ob0_scan.specs.declared.lexeme.TokenKind.TheVariants as token
 use Rattle.ob0_scan.specs.declared.lexeme.LexemeKind.{LexemeKind}
 use Rattle.ob0_scan.specs.declared.lexeme.LexemeKind.TheVariants as lexeme
-use Rattle.ob0_scan.specs.Classes.{Belongs, IsIdentifier, decimal_value, is_space, reserved_text, symbol_text}
-use Rattle.ob0_scan.specs.Ends.{AreApart, continues}
+use Rattle.ob0_scan.specs.Classes.{IsLexemeOfKind, IsIdentifier, decimal_value, is_space, reserved_text, symbol_text}
+use Rattle.ob0_scan.specs.Ends.{EachEndsBeforeNext, continues_lexeme}
 use Rattle.ob0_scan.specs.Lexed.{Lexed, Lexeme, joined}
-use Rattle.ob0_scan.proofs.Borders.{lexed_by_next_bytes}
+use Rattle.ob0_scan.proofs.Borders.{cut_depends_on_next_bytes}
 
-abbrev pub all_reserved : List Reserved
+abbrev pub all_reserved : List ReservedWord
 all_reserved =
     reserved.Module ∷ reserved.Begin ∷ reserved.End ∷ reserved.Const ∷ reserved.Type ∷ reserved.Var ∷ reserved.Procedure ∷ reserved.If ∷ reserved.Then ∷ reserved.Elsif ∷ reserved.Else
     ∷ reserved.While ∷ reserved.Do ∷ reserved.Array ∷ reserved.Of ∷ reserved.Record ∷ reserved.Div ∷ reserved.Mod ∷ reserved.Or ∷ reserved.Repeat ∷ reserved.Until ∷ []
@@ -27,7 +27,7 @@ is_reserved text = list_any (λ word. bytes_eq text (reserved_text word)) all_re
 abbrev pub is_name : List ℕ → Bool
 is_name text = is_ascii_alphabetic (slice_index text 0) && (list_all is_ascii_alphanumeric text && not (is_reserved text))
 
-among : (word : Reserved) → list_any (λ w. bytes_eq (reserved_text word) (reserved_text w)) all_reserved ≡ true
+among : (word : ReservedWord) → list_any (λ w. bytes_eq (reserved_text word) (reserved_text w)) all_reserved ≡ true
 among reserved.Module = refl
 among reserved.Begin = refl
 among reserved.End = refl
@@ -50,7 +50,7 @@ among reserved.Or = refl
 among reserved.Repeat = refl
 among reserved.Until = refl
 
-not_reserved : (text : List ℕ) → not (is_reserved text) ≡ true → (word : Reserved) → text ≡ reserved_text word → ⊥
+not_reserved : (text : List ℕ) → not (is_reserved text) ≡ true → (word : ReservedWord) → text ≡ reserved_text word → ⊥
 not_reserved text free word is = go (is_reserved text) refl free
   where
     always : is_reserved text ≡ true
@@ -70,18 +70,18 @@ abbrev pub belongs_test : LexemeKind → List ℕ → Bool
 belongs_test lexeme.Space text = nat_lt 0 (length text) && list_all is_space text
 belongs_test lexeme.Comment text = false
 belongs_test (lexeme.Token token.Identifier) text = is_name text
-belongs_test (lexeme.Token (token.Reserved word)) text = bytes_eq text (reserved_text word)
+belongs_test (lexeme.Token (token.ReservedWord word)) text = bytes_eq text (reserved_text word)
 belongs_test (lexeme.Token (token.Integer value)) text =
     (nat_lt 0 (length text) && list_all is_ascii_digit text) && ((value == decimal_value text) && nat_lt value 2147483648)
 belongs_test (lexeme.Token (token.Symbol s)) text = bytes_eq text (symbol_text s)
 
-belongs_so : (kind : LexemeKind) (text : List ℕ) → belongs_test kind text ≡ true → Belongs kind text
+belongs_so : (kind : LexemeKind) (text : List ℕ) → belongs_test kind text ≡ true → IsLexemeOfKind kind text
 belongs_so lexeme.Space text h =
     let a = and_parts (nat_lt 0 (length text)) (list_all is_space text) h in
     record { nonempty = ltb-true 0 (length text) a.0; all = AllPass-from_list_all is_space text a.1 }
 belongs_so lexeme.Comment text h = absurd (cc)
 belongs_so (lexeme.Token token.Identifier) text h = identifier_of text h
-belongs_so (lexeme.Token (token.Reserved word)) text h = (bytes_eq-Decides text (reserved_text word)).0 h
+belongs_so (lexeme.Token (token.ReservedWord word)) text h = (bytes_eq-Decides text (reserved_text word)).0 h
 belongs_so (lexeme.Token (token.Integer value)) text h =
     let a = and_parts (nat_lt 0 (length text) && list_all is_ascii_digit text) ((value == decimal_value text) && nat_lt value 2147483648) h in
     let b = and_parts (nat_lt 0 (length text)) (list_all is_ascii_digit text) a.0 in
@@ -93,20 +93,20 @@ belongs_so (lexeme.Token (token.Integer value)) text h =
     }
 belongs_so (lexeme.Token (token.Symbol s)) text h = (bytes_eq-Decides text (symbol_text s)).0 h
 
-abbrev pub are_apart : List Lexeme → Bool
-are_apart [] = true
-are_apart (l ∷ lexemes) = (belongs_test l.kind l.text && not (continues l.kind (slice_index (joined lexemes) 0))) && are_apart lexemes
+abbrev pub are_disjoint : List Lexeme → Bool
+are_disjoint [] = true
+are_disjoint (l ∷ lexemes) = (belongs_test l.kind l.text && not (continues_lexeme l.kind (slice_index (joined lexemes) 0))) && are_disjoint lexemes
 
-apart_so : (lexemes : List Lexeme) → are_apart lexemes ≡ true → AreApart lexemes
+apart_so : (lexemes : List Lexeme) → are_disjoint lexemes ≡ true → EachEndsBeforeNext lexemes
 apart_so [] h = tt
 apart_so (l ∷ lexemes) h =
-    let a = and_parts (belongs_test l.kind l.text && not (continues l.kind (slice_index (joined lexemes) 0))) (are_apart lexemes) h in
-    let b = and_parts (belongs_test l.kind l.text) (not (continues l.kind (slice_index (joined lexemes) 0))) a.0 in
-    (record { belongs = belongs_so l.kind l.text b.0; ends = off (continues l.kind (slice_index (joined lexemes) 0)) b.1 }, apart_so lexemes a.1)
+    let a = and_parts (belongs_test l.kind l.text && not (continues_lexeme l.kind (slice_index (joined lexemes) 0))) (are_disjoint lexemes) h in
+    let b = and_parts (belongs_test l.kind l.text) (not (continues_lexeme l.kind (slice_index (joined lexemes) 0))) a.0 in
+    (record { belongs = belongs_so l.kind l.text b.0; ends = off (continues_lexeme l.kind (slice_index (joined lexemes) 0)) b.1 }, apart_so lexemes a.1)
   where
     off : (v : Bool) → not v ≡ true → v ≡ false
     off true e = absurd (cc)
     off false e = refl
 
-pub lexed_so : (text : List ℕ) (lexemes : List Lexeme) → joined lexemes ≡ text → are_apart lexemes ≡ true → Lexed text lexemes
-lexed_so text lexemes whole apart = (lexed_by_next_bytes text lexemes).1 (whole, apart_so lexemes apart)
+pub lexed_so : (text : List ℕ) (lexemes : List Lexeme) → joined lexemes ≡ text → are_disjoint lexemes ≡ true → Lexed text lexemes
+lexed_so text lexemes whole apart = (cut_depends_on_next_bytes text lexemes).1 (whole, apart_so lexemes apart)

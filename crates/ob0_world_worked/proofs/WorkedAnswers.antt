@@ -3,19 +3,19 @@ use Rattle.std.proofs.Common.{◌≡◌, ◌∙◌, ◌≤◌, ℕ, pos, List, [
 use Rattle.std.specs.Prelude.{codes}
 use Rattle.std.specs.declared.alloc.Global.{Global}
 use Rattle.std.specs.Str.{chars}
-use Rattle.ob0_scan.specs.Scanned.{IsScanOf}
+use Rattle.ob0_scan.specs.TextWithTokens.{IsScanOf}
 use Rattle.ob0_text.specs.declared.edits.Edit.{Edit}
 use Rattle.ob0_text.specs.declared.position_types.Unit.TheVariants.{Utf16}
 use Rattle.ob0_text.specs.declared.refusals.EditRefusal.TheVariants.{Captures}
 use Rattle.ob0_text.specs.Units.{width_of}
 use Rattle.ob0_tree.specs.Tree.{Tree, module_text, nesting}
-use Rattle.ob0_tree.specs.Parsed.{named_tree_of}
+use Rattle.ob0_tree.specs.ParsedModule.{named_tree_of}
 use Rattle.ob0_language_names.specs.Names.{Name}
 use Rattle.ob0_language_names.specs.Scopes.{renamed}
 use Rattle.ob0_language_types.specs.WellTyped.{WellTyped}
 use Rattle.ob0_language_types.specs.ConstantValues.{value_of_constant}
-use Rattle.ob0_language_types.specs.EditLaws.{ConstantsAreAlone, IsScalar}
-use Rattle.ob0_language_runs.specs.EditLaws.{FreeKeepsModules, InliningEverywhereKeepsModules, InliningKeepsModules, SameRuns}
+use Rattle.ob0_language_types.specs.EditLaws.{ConstantUsesAreFactors, IsScalar}
+use Rattle.ob0_language_runs.specs.EditLaws.{FreeRenamingKeepsTypingAndRuns, InliningEverywhereKeepsTypingAndRuns, InliningKeepsTypingAndRuns, HaveSameRuns}
 use Rattle.ob0_language_values.specs.declared.scalar.Scalar.{Scalar}
 use Rattle.ob0_language_values.specs.declared.scalar.Scalar.TheVariants as scalar
 use Rattle.ob0_language_values.specs.Scalars.{scalar_value}
@@ -25,29 +25,29 @@ use Rattle.ob0_analysis.specs.Diagnosed.{IsTextOf}
 use Rattle.ob0_analysis.specs.Texts.{utf8}
 use Rattle.ob0_analysis.proofs.Scanning.{is_module, utf8_of}
 use Rattle.ob0_edits_tokens.specs.Ranges.{range_of}
-use Rattle.ob0_edits_tokens.specs.Removed.{span_over, without_text}
-use Rattle.ob0_edits_tokens.specs.Replaced.{edit_at, parts, with_text_at}
-use Rattle.ob0_rename.specs.Answers.{IsRefused, Renames}
-use Rattle.ob0_rename.specs.Renaming.{NamesDeclaration, Renaming, meant_at, renaming_of}
-use Rattle.ob0_inline.specs.declared.uses.Use.{Use}
+use Rattle.ob0_edits_tokens.specs.Removed.{span_of_tokens, text_after_removal}
+use Rattle.ob0_edits_tokens.specs.Replaced.{edit_at, parts, text_after_replacement}
+use Rattle.ob0_rename.specs.Answers.{IsRenameRefusal, Renames}
+use Rattle.ob0_rename.specs.Renaming.{TargetsDeclaration, Renaming, identifier_meaning_at, renaming_of}
+use Rattle.ob0_inline.specs.declared.uses.ConstantUse.{ConstantUse}
 use Rattle.ob0_inline.specs.declared.constants.NamedConstant.{NamedConstant}
-use Rattle.ob0_inline.specs.Everywhere.{IsConstant, IsConstantAt, inlined_all}
+use Rattle.ob0_inline.specs.Everywhere.{IsConstant, IsConstantAt, tree_inlined_everywhere}
 use Rattle.ob0_inline.specs.Inlined.{LeavesModule}
-use Rattle.ob0_inline.specs.Uses.{IsUse, IsUseAt, inlined_here}
+use Rattle.ob0_inline.specs.Uses.{IsUse, IsUseAt, tree_inlined_here}
 use Rattle.ob0_inline.specs.Values.{value_text}
 use Rattle.ob0_inline.proofs.AtUses as at_uses
 use Rattle.ob0_inline.proofs.AtConstants as at_constants
-use Rattle.ob0_edits.specs.declared.inlining.Inlining.{Inlining}
-use Rattle.ob0_edits.specs.declared.inlining.Inlining.TheVariants.{Here, Everywhere}
-use Rattle.ob0_edits.specs.Inlinings.{Inlines, InlinesIn}
+use Rattle.ob0_edits.specs.declared.inlinings.Inlining.{Inlining}
+use Rattle.ob0_edits.specs.declared.inlinings.Inlining.TheVariants.{Here, Everywhere}
+use Rattle.ob0_edits.specs.Inlinings.{IsInlineResult, InlinesIn}
 use Rattle.ob0_edits.specs.Renamings.{IsRefusedIn, RenamesIn}
 use Rattle.ob0_edits.proofs.Renamings.{new_name_found}
 use Rattle.ob0_world_rules.specs.Asks.{Ask, rename, inline_here, inline_all}
-use Rattle.ob0_world_rules.specs.Answers.{AnswersFor}
+use Rattle.ob0_world_rules.specs.Answers.{IsAnswerForText}
 use Rattle.ob0_world_rules.specs.Edited.{Replacement}
-use Rattle.ob0_world_rules.specs.Laws.{AnswersAreOne}
+use Rattle.ob0_world_rules.specs.Laws.{AnswersAreUnique}
 use Rattle.ob0_world_worked.specs.WorkedText.{at, worked_text}
-use Rattle.ob0_world_worked.specs.WorkedAnswers.{ACapture, ARename, AnInlining, AnInliningEverywhere, IsAnsweredBy, on_line, replaces}
+use Rattle.ob0_world_worked.specs.WorkedAnswers.{CaptureIsRefused, RenameIsAnswered, InliningIsAnswered, InliningEverywhereIsAnswered, IsAnsweredBy, range_on_line, replacement_on_line}
 use Rattle.ob0_world_worked.proofs.WorkedValues.{vec_of}
 use Rattle.ob0_world_worked.proofs.LexemeTests.{identifier_of}
 use Rattle.ob0_world_worked.proofs.WorkedTexts.{bytes_so, chars_so, inlined_lexemes, inlined_scan, renamed_lexemes, renamed_scan, scanned_of, utf8_so, without_lexemes, without_scan, worked_lexemes, worked_scan}
@@ -71,8 +71,8 @@ worked_bytes = sym (bytes_so worked_text refl)
 pub worked_in_bytes : IsModuleIn (utf8 worked_text) worked_names
 worked_in_bytes = subst (λ (t : List ℕ). IsModuleIn t worked_names) worked_bytes worked_in
 
-answered_by : AnswersAreOne → (ask : Ask) (edits : List Replacement) → AnswersFor Utf16 worked_text ask edits → IsAnsweredBy ask edits
-answered_by one ask edits exists given = (λ h. one Utf16 worked_text ask given edits h exists, λ e. subst (AnswersFor Utf16 worked_text ask) (sym e) exists)
+answered_by : AnswersAreUnique → (ask : Ask) (edits : List Replacement) → IsAnswerForText Utf16 worked_text ask edits → IsAnsweredBy ask edits
+answered_by one ask edits exists given = (λ h. one Utf16 worked_text ask given edits h exists, λ e. subst (IsAnswerForText Utf16 worked_text ask) (sym e) exists)
 
 y_is : codes "y" ≡ chars (codes "y")
 y_is = sym (chars_so (codes "y") refl)
@@ -88,10 +88,10 @@ nothing_is = sym (chars_so [] refl)
 renaming : List ℕ → Renaming
 renaming new = renaming_of Utf16 worked_text worked_names (at 4 2) new
 
-names_x : (new : List ℕ) → NamesDeclaration (renaming_of Utf16 worked_text worked_names (at 4 2) new) 8
-names_x new = ap (meant_at worked_names) x_is_at ∙ refl
+names_x : (new : List ℕ) → TargetsDeclaration (renaming_of Utf16 worked_text worked_names (at 4 2) new) 8
+names_x new = ap (identifier_meaning_at worked_names) x_is_at ∙ refl
 
-renames_x : FreeKeepsModules → Renames (renaming_of Utf16 worked_text worked_names (at 4 2) (codes "y")) 8 renames
+renames_x : FreeRenamingKeepsTypingAndRuns → Renames (renaming_of Utf16 worked_text worked_names (at 4 2) (codes "y")) 8 renames
 renames_x keeps =
     let kept = keeps (named_tree_of worked_module) 8 (codes "y") (refl, refl) worked_fits in
     record {
@@ -109,28 +109,28 @@ renames_x keeps =
       };
     }
 
-pub renames_in : FreeKeepsModules → RenamesIn Utf16 worked_text (at 4 2) (codes "y") renames
+pub renames_in : FreeRenamingKeepsTypingAndRuns → RenamesIn Utf16 worked_text (at 4 2) (codes "y") renames
 renames_in keeps =
     new_name_found Utf16 worked_text worked_text (at 4 2) (codes "y") (Some (Ok (vec_of renames (omega (arith))))) (utf8_so worked_text refl) (chars_so worked_text refl)
     (worked_names, worked_in, inl (8, names_x (codes "y"), renames_x keeps))
 
-pub a_rename : FreeKeepsModules → AnswersAreOne → ARename
-a_rename keeps one =
-    answered_by one (rename (at 4 2) (codes "y")) (replaces 4 2 3 (codes "y") ∷ replaces 6 2 3 (codes "y") ∷ replaces 7 8 9 (codes "y") ∷ [])
-    (inl (renames, renames_in keeps, ap (λ t. replaces 4 2 3 t ∷ replaces 6 2 3 t ∷ replaces 7 8 9 t ∷ []) y_is))
+pub rename_is_answered : FreeRenamingKeepsTypingAndRuns → AnswersAreUnique → RenameIsAnswered
+rename_is_answered keeps one =
+    answered_by one (rename (at 4 2) (codes "y")) (replacement_on_line 4 2 3 (codes "y") ∷ replacement_on_line 6 2 3 (codes "y") ∷ replacement_on_line 7 8 9 (codes "y") ∷ [])
+    (inl (renames, renames_in keeps, ap (λ t. replacement_on_line 4 2 3 t ∷ replacement_on_line 6 2 3 t ∷ replacement_on_line 7 8 9 t ∷ []) y_is))
 
-refused : IsRefused (renaming_of Utf16 worked_text worked_names (at 4 2) (codes "Write")) (Captures (on_line 7 2 7))
+refused : IsRenameRefusal (renaming_of Utf16 worked_text worked_names (at 4 2) (codes "Write")) (Captures (range_on_line 7 2 7))
 refused = inl (8, names_x (codes "Write"), (identifier_of (codes "Write") refl, (3, refl, ap Some write_is_at)))
 
-pub refused_in : IsRefusedIn Utf16 worked_text (at 4 2) (codes "Write") (Captures (on_line 7 2 7))
+pub refused_in : IsRefusedIn Utf16 worked_text (at 4 2) (codes "Write") (Captures (range_on_line 7 2 7))
 refused_in =
-    new_name_found Utf16 worked_text worked_text (at 4 2) (codes "Write") (Some (Err (Captures (on_line 7 2 7)))) (utf8_so worked_text refl) (chars_so worked_text refl)
+    new_name_found Utf16 worked_text worked_text (at 4 2) (codes "Write") (Some (Err (Captures (range_on_line 7 2 7)))) (utf8_so worked_text refl) (chars_so worked_text refl)
     (worked_names, worked_in, refused)
 
-pub a_capture : AnswersAreOne → ACapture
-a_capture one = record {
+pub capture_is_refused : AnswersAreUnique → CaptureIsRefused
+capture_is_refused one = record {
   refused = refused_in;
-  no_edits = answered_by one (rename (at 4 2) (codes "Write")) [] (inr (inl (Captures (on_line 7 2 7), refused_in), refl));
+  no_edits = answered_by one (rename (at 4 2) (codes "Write")) [] (inr (inl (Captures (range_on_line 7 2 7), refused_in), refl));
 }
 
 -- ---- inlining
@@ -148,7 +148,7 @@ has_two = refl
 two_fits : IsScalar (scalar_value (scalar.Number (pos 2)))
 two_fits = refl
 
-abbrev the_use : Use
+abbrev the_use : ConstantUse
 the_use = record { token = 16; occurrence = 2; constant = 7; value = scalar.Number (pos 2) }
 
 use_at : IsUseAt worked_module 56 the_use
@@ -158,8 +158,8 @@ use_so : IsUse worked_module the_use
 use_so = record { occurs = refl; bound = refl; has_value = has_two }
 
 -- edits that leave the text of a module with the same runs
-inlines_in : (how : Inlining) (offset : ℕ) (edits : Vec Edit Global) (t : Tree Name module_text) → LeavesModule Utf16 worked_text edits.items t → WellTyped t → SameRuns t (named_tree_of worked_module)
-    → Inlines how Utf16 worked_text worked_module offset (Some edits) → InlinesIn how Utf16 worked_text offset edits
+inlines_in : (how : Inlining) (offset : ℕ) (edits : Vec Edit Global) (t : Tree Name module_text) → LeavesModule Utf16 worked_text edits.items t → WellTyped t → HaveSameRuns t (named_tree_of worked_module)
+    → IsInlineResult how Utf16 worked_text worked_module offset (Some edits) → InlinesIn how Utf16 worked_text offset edits
 inlines_in how offset edits t leaves well same inlines =
     let after : List ℕ = chars leaves.after.text in
     let text_of : IsTextOf t (utf8 after) =
@@ -182,27 +182,27 @@ here_made = record {
       after = scanned_of inlined_lexemes;
       scan = inlined_scan;
       made = inlines_leave;
-      module_of = record { spelled = refl; short = inlined_scan.short; shallow = let n : nesting (inlined_here worked_module the_use) ≡ 0 = refl in omega (arith, n) };
+      module_of = record { spelled = refl; short = inlined_scan.short; shallow = let n : nesting (tree_inlined_here worked_module the_use) ≡ 0 = refl in omega (arith, n) };
     };
-    short = subst (λ (t : List ℕ). length (with_text_at (scanned_of worked_lexemes) (16 ∷ []) t) ≤ 1048576) text_of_two (omega (arith, inlined_length));
+    short = subst (λ (t : List ℕ). length (text_after_replacement (scanned_of worked_lexemes) (16 ∷ []) t) ≤ 1048576) text_of_two (omega (arith, inlined_length));
   };
 }
 
 one_edit : Vec Edit Global
 one_edit = vec_of (puts_two ∷ []) (omega (arith))
 
-pub inlines_here_in : ConstantsAreAlone → InliningKeepsModules → InlinesIn Here Utf16 worked_text 56 (vec_of (puts_two ∷ []) (omega (arith)))
+pub inlines_here_in : ConstantUsesAreFactors → InliningKeepsTypingAndRuns → InlinesIn Here Utf16 worked_text 56 (vec_of (puts_two ∷ []) (omega (arith)))
 inlines_here_in alone keeps =
     let answer = at_uses.answer_ok worked_names worked_well the_use use_so alone two_fits keeps Utf16 worked_text (puts_two ∷ []) here_made refl in
-    inlines_in Here 56 (vec_of (puts_two ∷ []) (omega (arith))) (inlined_here worked_module the_use) answer.1.leaves answer.1.well_typed answer.1.same_runs (inl (the_use, use_at, answer))
+    inlines_in Here 56 (vec_of (puts_two ∷ []) (omega (arith))) (tree_inlined_here worked_module the_use) answer.1.leaves answer.1.well_typed answer.1.same_runs (inl (the_use, use_at, answer))
 
-pub an_inlining : ConstantsAreAlone → InliningKeepsModules → AnswersAreOne → AnInlining
-an_inlining alone keeps one =
-    answered_by one (inline_here (at 6 7)) (replaces 6 7 8 (codes "2") ∷ [])
+pub inlining_is_answered : ConstantUsesAreFactors → InliningKeepsTypingAndRuns → AnswersAreUnique → InliningIsAnswered
+inlining_is_answered alone keeps one =
+    answered_by one (inline_here (at 6 7)) (replacement_on_line 6 7 8 (codes "2") ∷ [])
     (inl (
       puts_two ∷ [],
       (vec_of (puts_two ∷ []) (omega (arith)), subst (λ n. InlinesIn Here Utf16 worked_text n (vec_of (puts_two ∷ []) (omega (arith)))) (sym n_is_at) (inlines_here_in alone keeps), refl),
-      ap (λ t. replaces 6 7 8 t ∷ []) two_is,
+      ap (λ t. replacement_on_line 6 7 8 t ∷ []) two_is,
     ))
 
 abbrev the_constant : NamedConstant
@@ -217,30 +217,30 @@ constant_at = record { token = 16; named = refl; is_constant = constant_so }
 everywhere_made : at_constants.Made worked_names the_constant Utf16 worked_text (takes_out ∷ puts_two ∷ [])
 everywhere_made = record {
   edits_are =
-      subst (λ (t : List ℕ). map parts (takes_out ∷ puts_two ∷ []) ≡ (range_of (width_of Utf16) worked_text (span_over (scanned_of worked_lexemes).tokens 4 7), []) ∷ edit_at Utf16 worked_text (scanned_of worked_lexemes).tokens t 16 ∷ []) text_of_two
+      subst (λ (t : List ℕ). map parts (takes_out ∷ puts_two ∷ []) ≡ (range_of (width_of Utf16) worked_text (span_of_tokens (scanned_of worked_lexemes).tokens 4 7), []) ∷ edit_at Utf16 worked_text (scanned_of worked_lexemes).tokens t 16 ∷ []) text_of_two
       (λ i. declaration_parts i ∷ inlines_parts i ∷ []);
   make_text = record {
     leaves = λ alone. record {
       after = scanned_of without_lexemes;
       scan = without_scan;
       made = everywhere_leave;
-      module_of = record { spelled = refl; short = without_scan.short; shallow = let n : nesting (inlined_all worked_module the_constant) ≡ 0 = refl in omega (arith, n) };
+      module_of = record { spelled = refl; short = without_scan.short; shallow = let n : nesting (tree_inlined_everywhere worked_module the_constant) ≡ 0 = refl in omega (arith, n) };
     };
-    short = subst (λ (t : List ℕ). length (without_text (scanned_of worked_lexemes) 4 7 (16 ∷ []) t) ≤ 1048576) text_of_two (omega (arith, without_length));
+    short = subst (λ (t : List ℕ). length (text_after_removal (scanned_of worked_lexemes) 4 7 (16 ∷ []) t) ≤ 1048576) text_of_two (omega (arith, without_length));
   };
 }
 
-pub inlines_everywhere_in : ConstantsAreAlone → InliningEverywhereKeepsModules → InlinesIn Everywhere Utf16 worked_text 56 (vec_of (takes_out ∷ puts_two ∷ []) (omega (arith)))
+pub inlines_everywhere_in : ConstantUsesAreFactors → InliningEverywhereKeepsTypingAndRuns → InlinesIn Everywhere Utf16 worked_text 56 (vec_of (takes_out ∷ puts_two ∷ []) (omega (arith)))
 inlines_everywhere_in alone keeps =
     let answer = at_constants.answer_made worked_names worked_well the_constant constant_so alone two_fits keeps Utf16 worked_text (takes_out ∷ puts_two ∷ []) everywhere_made refl refl in
-    inlines_in Everywhere 56 (vec_of (takes_out ∷ puts_two ∷ []) (omega (arith))) (inlined_all worked_module the_constant) answer.1.leaves answer.1.well_typed answer.1.same_runs
+    inlines_in Everywhere 56 (vec_of (takes_out ∷ puts_two ∷ []) (omega (arith))) (tree_inlined_everywhere worked_module the_constant) answer.1.leaves answer.1.well_typed answer.1.same_runs
     (inl (the_constant, constant_at, answer))
 
-pub an_inlining_everywhere : ConstantsAreAlone → InliningEverywhereKeepsModules → AnswersAreOne → AnInliningEverywhere
-an_inlining_everywhere alone keeps one =
-    answered_by one (inline_all (at 6 7)) (replaces 2 2 8 [] ∷ replaces 6 7 8 (codes "2") ∷ [])
+pub inlining_everywhere_is_answered : ConstantUsesAreFactors → InliningEverywhereKeepsTypingAndRuns → AnswersAreUnique → InliningEverywhereIsAnswered
+inlining_everywhere_is_answered alone keeps one =
+    answered_by one (inline_all (at 6 7)) (replacement_on_line 2 2 8 [] ∷ replacement_on_line 6 7 8 (codes "2") ∷ [])
     (inl (
       takes_out ∷ puts_two ∷ [],
       (vec_of (takes_out ∷ puts_two ∷ []) (omega (arith)), subst (λ n. InlinesIn Everywhere Utf16 worked_text n (vec_of (takes_out ∷ puts_two ∷ []) (omega (arith)))) (sym n_is_at) (inlines_everywhere_in alone keeps), refl),
-      λ i. replaces 2 2 8 (nothing_is i) ∷ replaces 6 7 8 (two_is i) ∷ [],
+      λ i. replacement_on_line 2 2 8 (nothing_is i) ∷ replacement_on_line 6 7 8 (two_is i) ∷ [],
     ))

@@ -11,8 +11,8 @@ use Rattle.ob0_text.specs.Texts.{before, body_at, ends_line, fitting, lines, off
 use Rattle.ob0_text.specs.Texts as texts
 use Rattle.ob0_text.specs.Patches.{all_apart, cut_at, in_text_order, patched, patched_by_cuts, pieced, place}
 use Rattle.ob0_edits_tokens.specs.Ranges.{range_of}
-use Rattle.ob0_edits_tokens.specs.Removed.{span_over, without_text}
-use Rattle.ob0_edits_tokens.specs.Replaced.{edit_at, parts, with_text_at}
+use Rattle.ob0_edits_tokens.specs.Removed.{span_of_tokens, text_after_removal}
+use Rattle.ob0_edits_tokens.specs.Replaced.{edit_at, parts, text_after_replacement}
 use Rattle.ob0_scope_table.specs.Resolution.{span_at}
 use Rattle.ob0_world_worked.specs.WorkedText.{at, worked_text}
 use Rattle.ob0_world_worked.proofs.WorkedValues.{string_of}
@@ -70,7 +70,7 @@ everywhere_made = refl
 pub everywhere_leave : patched (width_of Utf16) worked_text (takes_out ∷ puts_two ∷ []) ≡ Some (chars (joined without_lexemes))
 everywhere_leave = everywhere_made ∙ ap Some (sym (chars_so (joined without_lexemes) refl))
 
-pub declaration_parts : parts takes_out ≡ (range_of (width_of Utf16) worked_text (span_over (scanned_of worked_lexemes).tokens 4 7), [])
+pub declaration_parts : parts takes_out ≡ (range_of (width_of Utf16) worked_text (span_of_tokens (scanned_of worked_lexemes).tokens 4 7), [])
 unfolding position_of position_in lines ends_line starts_with_lf fitting
 declaration_parts = refl
 
@@ -78,15 +78,15 @@ pub write_is_at : range_of (width_of Utf16) worked_text (span_at (scanned_of wor
 unfolding position_of position_in lines ends_line starts_with_lf fitting
 write_is_at = refl
 
-pub renamed_length : length (with_text_at (scanned_of worked_lexemes) (9 ∷ 14 ∷ 20 ∷ []) (codes "y")) ≡ 77
+pub renamed_length : length (text_after_replacement (scanned_of worked_lexemes) (9 ∷ 14 ∷ 20 ∷ []) (codes "y")) ≡ 77
 unfolding pieced
 renamed_length = refl
 
-pub inlined_length : length (with_text_at (scanned_of worked_lexemes) (16 ∷ []) (codes "2")) ≡ 77
+pub inlined_length : length (text_after_replacement (scanned_of worked_lexemes) (16 ∷ []) (codes "2")) ≡ 77
 unfolding pieced
 inlined_length = refl
 
-pub without_length : length (without_text (scanned_of worked_lexemes) 4 7 (16 ∷ []) (codes "2")) ≡ 71
+pub without_length : length (text_after_removal (scanned_of worked_lexemes) 4 7 (16 ∷ []) (codes "2")) ≡ 71
 unfolding pieced
 without_length = refl
 

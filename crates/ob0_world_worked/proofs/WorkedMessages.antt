@@ -7,18 +7,18 @@ use Rattle.serde_json.specs.Data.{Data, array, null, number, object, string, uns
 use Rattle.serde_json.specs.View.{items_of}
 use Rattle.ob0_text.specs.declared.position_types.Unit.TheVariants.{Utf16}
 use Rattle.ob0_text.specs.declared.edits.Edit.{Edit}
-use Rattle.ob0_rpc.specs.Appending.{IsReadBack}
+use Rattle.ob0_rpc.specs.Appending.{ReadsBack}
 use Rattle.ob0_rpc.specs.Shapes.{edit_value, position_value, range_value, result_message}
 use Rattle.ob0_rpc.proofs.Appending.{position_read, range_read}
 use Rattle.ob0_session_json.specs.Shapes.{capabilities, publication}
-use Rattle.ob0_session_answers.specs.Actions.{RequestedActions, action_of, actions_value}
+use Rattle.ob0_session_answers.specs.Actions.{RequestedActions, action_of, actions_array}
 use Rattle.ob0_session_server.specs.Answers.{Sends}
-use Rattle.ob0_world_editor.specs.Beginning.{actions_taken, client_for, initialize_message, versions_taken}
+use Rattle.ob0_world_editor.specs.InitializeRequest.{text_document_capabilities, client_for, initialize_message, workspace_capabilities}
 use Rattle.ob0_world_worked.specs.WorkedText.{at}
 use Rattle.ob0_world_editor.specs.Shapes.{change_object}
-use Rattle.ob0_edits.specs.declared.inlining.Inlining.TheVariants.{Here, Everywhere}
-use Rattle.ob0_world_worked.specs.WorkedAnswers.{on_line}
-use Rattle.ob0_world_worked.specs.WorkedExchange.{asks_actions, asks_hover, only_inlining, says_change, says_initialized, says_open, uri}
+use Rattle.ob0_edits.specs.declared.inlinings.Inlining.TheVariants.{Here, Everywhere}
+use Rattle.ob0_world_worked.specs.WorkedAnswers.{range_on_line}
+use Rattle.ob0_world_worked.specs.WorkedExchange.{actions_request, hover_request, inlining_context, change_notification, initialized_notification, open_notification, uri}
 use Rattle.ob0_world_worked.proofs.WorkedValues.{vec_of}
 use Rattle.ob0_world_worked.proofs.WorkedTexts.{is_ascii_text}
 use Rattle.ob0_world_worked.proofs.WorkedEdits.{puts_two, takes_out}
@@ -52,33 +52,33 @@ abbrev pub everywhere_edits : Vec Edit Global
 everywhere_edits = vec_of (takes_out ∷ puts_two ∷ []) (omega (arith))
 
 abbrev pub two_actions : Data
-two_actions = result_message (number (unsigned 2)) (actions_value requested_actions (Some here_edits) (Some everywhere_edits))
+two_actions = result_message (number (unsigned 2)) (actions_array requested_actions (Some here_edits) (Some everywhere_edits))
 
-document_read : IsReadBack (object (member (codes "uri") (string uri) no_members))
+document_read : ReadsBack (object (member (codes "uri") (string uri) no_members))
 document_read = object_read refl refl (text_read refl, tt)
 
-versioned_read : (n : ℕ) → IsReadBack (number (unsigned n)) → IsReadBack (object (member (codes "uri") (string uri) (member (codes "version") (number (unsigned n)) no_members)))
+versioned_read : (n : ℕ) → ReadsBack (number (unsigned n)) → ReadsBack (object (member (codes "uri") (string uri) (member (codes "version") (number (unsigned n)) no_members)))
 versioned_read n r = object_read refl refl (text_read refl, (r, tt))
 
-zero_read : IsReadBack (number (unsigned 0))
+zero_read : ReadsBack (number (unsigned 0))
 zero_read = count_read 0 refl (ap is_ascii_text zero_text)
 
-one_read : IsReadBack (number (unsigned 1))
+one_read : ReadsBack (number (unsigned 1))
 one_read = count_read 1 refl (ap is_ascii_text one_text)
 
-two_read : IsReadBack (number (unsigned 2))
+two_read : ReadsBack (number (unsigned 2))
 two_read = count_read 2 refl (ap is_ascii_text two_text)
 
-place_read : (line character : ℕ) → nat_lt line 1000 ≡ true → nat_lt character 1000 ≡ true → IsReadBack (position_value (at line character))
+place_read : (line character : ℕ) → nat_lt line 1000 ≡ true → nat_lt character 1000 ≡ true → ReadsBack (position_value (at line character))
 place_read line character l c = position_read (at line character) (below character c) (below line l)
   where
     below : (n : ℕ) → nat_lt n 1000 ≡ true → n < 2 ^ 64
     below n h = let low = ltb-true n 1000 h in omega (arith, low)
 
-part_read : (line from to : ℕ) → nat_lt line 1000 ≡ true → nat_lt from 1000 ≡ true → nat_lt to 1000 ≡ true → IsReadBack (range_value (at line from) (at line to))
+part_read : (line from to : ℕ) → nat_lt line 1000 ≡ true → nat_lt from 1000 ≡ true → nat_lt to 1000 ≡ true → ReadsBack (range_value (at line from) (at line to))
 part_read line from to l f t = range_read (at line from) (at line to) (place_read line from l f) (place_read line to l t)
 
-capabilities_taken : IsReadBack (object (member (codes "textDocument") actions_taken (member (codes "workspace") versions_taken no_members)))
+capabilities_taken : ReadsBack (object (member (codes "textDocument") text_document_capabilities (member (codes "workspace") workspace_capabilities no_members)))
 capabilities_taken =
     object_read refl refl (
       object_read refl refl (object_read refl refl (empty_read, tt), tt),
@@ -88,17 +88,17 @@ capabilities_taken =
       ),
     )
 
-message_taken : IsReadBack (object (member (codes "id") (string (codes "initialize")) (member (codes "jsonrpc") (string (codes "2.0")) (member (codes "method") (string (codes "initialize")) (member (codes "params")
-    (object (member (codes "capabilities") (object (member (codes "textDocument") actions_taken (member (codes "workspace") versions_taken no_members))) no_members)) no_members)))))
+message_taken : ReadsBack (object (member (codes "id") (string (codes "initialize")) (member (codes "jsonrpc") (string (codes "2.0")) (member (codes "method") (string (codes "initialize")) (member (codes "params")
+    (object (member (codes "capabilities") (object (member (codes "textDocument") text_document_capabilities (member (codes "workspace") workspace_capabilities no_members))) no_members)) no_members)))))
 message_taken = object_read refl refl (text_read refl, (text_read refl, (text_read refl, (object_read refl refl (capabilities_taken, tt), tt))))
 
-pub initialize_read : IsReadBack (initialize_message Utf16)
+pub initialize_read : ReadsBack (initialize_message Utf16)
 initialize_read = message_taken
 
-pub initialized_read : IsReadBack says_initialized
+pub initialized_read : ReadsBack initialized_notification
 initialized_read = object_read refl refl (text_read refl, (text_read refl, (empty_read, tt)))
 
-pub open_read : IsReadBack says_open
+pub open_read : ReadsBack open_notification
 open_read =
     object_read refl refl (
       text_read refl,
@@ -111,14 +111,14 @@ open_read =
       ),
     )
 
-pub hover_read : IsReadBack asks_hover
+pub hover_read : ReadsBack hover_request
 hover_read =
     object_read refl refl (one_read, (text_read refl, (text_read refl, (object_read refl refl (place_read 0 0 refl refl, (document_read, tt)), tt))))
 
-only_read : IsReadBack only_inlining
+only_read : ReadsBack inlining_context
 only_read = object_read refl refl (array_read [] tt, (array_read (string (codes "refactor.inline") ∷ []) (text_read refl, tt), tt))
 
-pub actions_read : IsReadBack asks_actions
+pub actions_read : ReadsBack actions_request
 actions_read =
     object_read refl refl (
       two_read,
@@ -134,7 +134,7 @@ actions_read =
       ),
     )
 
-pub change_read : IsReadBack says_change
+pub change_read : ReadsBack change_notification
 change_read =
     object_read refl refl (
       text_read refl,
@@ -142,7 +142,7 @@ change_read =
         text_read refl,
         (
           object_read refl refl (
-            array_read (change_object (Some (on_line 6 7 8)) (codes "2") ∷ change_object (Some (on_line 2 2 8)) [] ∷ []) (object_read refl refl (part_read 6 7 8 refl refl refl, (text_read refl, tt)), (object_read refl refl (part_read 2 2 8 refl refl refl, (text_read refl, tt)), tt)),
+            array_read (change_object (Some (range_on_line 6 7 8)) (codes "2") ∷ change_object (Some (range_on_line 2 2 8)) [] ∷ []) (object_read refl refl (part_read 6 7 8 refl refl refl, (text_read refl, tt)), (object_read refl refl (part_read 2 2 8 refl refl refl, (text_read refl, tt)), tt)),
             (
               versioned_read 1 one_read,
               tt,
@@ -153,7 +153,7 @@ change_read =
       ),
     )
 
-pub capabilities_read : IsReadBack initialized_with
+pub capabilities_read : ReadsBack initialized_with
 capabilities_read =
     object_read refl refl (
       text_read refl,
@@ -190,7 +190,7 @@ capabilities_read =
       ),
     )
 
-pub none_read : IsReadBack shows_none
+pub none_read : ReadsBack shows_none
 none_read =
     object_read refl refl (
       text_read refl,
@@ -203,17 +203,17 @@ none_read =
       ),
     )
 
-pub no_hover_read : IsReadBack no_hover
+pub no_hover_read : ReadsBack no_hover
 no_hover_read = object_read refl refl (one_read, (text_read refl, (null_read, tt)))
 
-two_put : IsReadBack (edit_value puts_two)
+two_put : ReadsBack (edit_value puts_two)
 two_put = object_read refl refl (text_read refl, (part_read 6 7 8 refl refl refl, tt))
 
-taken_out : IsReadBack (edit_value takes_out)
+taken_out : ReadsBack (edit_value takes_out)
 taken_out = object_read refl refl (text_read refl, (part_read 2 2 8 refl refl refl, tt))
 
-action_read : (es : List Data) (title : List ℕ) → IsReadBack (array (items_of es)) → IsReadBack (string title)
-    → IsReadBack (object (member (codes "edit") (object (member (codes "documentChanges")
+action_read : (es : List Data) (title : List ℕ) → ReadsBack (array (items_of es)) → ReadsBack (string title)
+    → ReadsBack (object (member (codes "edit") (object (member (codes "documentChanges")
     (array (item (object (member (codes "edits") (array (items_of es)) (member (codes "textDocument") (object (member (codes "uri") (string uri) (member (codes "version") (number (unsigned 0)) no_members))) no_members))) no_items)) no_members))
     (member (codes "kind") (string (codes "refactor.inline")) (member (codes "title") (string title) no_members))))
 action_read es title r t =
@@ -226,7 +226,7 @@ action_read es title r t =
       (text_read refl, (t, tt)),
     )
 
-pub two_actions_read : IsReadBack two_actions
+pub two_actions_read : ReadsBack two_actions
 two_actions_read =
     object_read refl refl (
       two_read,
@@ -245,5 +245,5 @@ two_actions_read =
       ),
     )
 
-pub sends : (d : Data) → IsReadBack d → nat_lt (depth d) 128 ≡ true → Sends d (content_of d ∷ [])
+pub sends : (d : Data) → ReadsBack d → nat_lt (depth d) 128 ≡ true → Sends d (content_of d ∷ [])
 sends d r shallow = (content_of d, refl, written_so d r shallow)

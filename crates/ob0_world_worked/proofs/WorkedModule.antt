@@ -7,12 +7,12 @@ use Rattle.ob0_tree.specs.declared.tree.Factor.{Designator', Integer, end_of-Sel
 use Rattle.ob0_tree.specs.declared.tree.Statement.{Statement, Assign, Call}
 use Rattle.ob0_tree.specs.declared.tree.WrittenType.{Named}
 use Rattle.ob0_tree.specs.declared.tree.Constant.{Constant}
-use Rattle.ob0_tree.specs.declared.tree.Variables.{Variables}
+use Rattle.ob0_tree.specs.declared.tree.VariableDeclaration.{VariableDeclaration}
 use Rattle.ob0_tree.specs.declared.tree.Block.{Block, Block', end_of-Procedure}
-use Rattle.ob0_tree.specs.Parsed.{IsParsed, Parsed, named_tree_of}
+use Rattle.ob0_tree.specs.ParsedModule.{IsParsed, ParsedModule, named_tree_of}
 use Rattle.ob0_tree.specs.Module.{ModuleOf}
 use Rattle.ob0_tree.specs.Tree.{nesting}
-use Rattle.ob0_scope_table.specs.Resolution.{AreFaultsOf, IsResolution, NamesAlone, Resolution, is_identifier_of}
+use Rattle.ob0_scope_table.specs.Resolution.{AreFaultsOf, IsResolution, OnlyNamesHaveOrdinals, Resolution, is_identifier_token}
 use Rattle.ob0_language_types.specs.WellTyped.{WellTyped}
 use Rattle.ob0_world_worked.proofs.WorkedValues.{boxed, none_of, one_of, two_of}
 use Rattle.ob0_world_worked.proofs.WorkedTexts.{scanned_of, worked_lexemes, worked_short}
@@ -25,7 +25,7 @@ used token = Factor (Designator' token none_of end_of-Selector)
 abbrev pub n_is_two : Constant
 n_is_two = record { name = 4; value = Factor (Integer 6) }
 
-abbrev pub x_is : Variables
+abbrev pub x_is : VariableDeclaration
 x_is = record { names = record { first = 9; more = none_of }; written = Named 11 }
 
 abbrev pub sets_x : Statement
@@ -37,7 +37,7 @@ writes_x = Call (record { procedure = 18; arguments = Some (one_of (used 20)) })
 abbrev pub worked_block : Block
 worked_block = Block' (Some (one_of n_is_two)) None (Some (one_of x_is)) none_of end_of-Procedure (Some (two_of sets_x writes_x))
 
-abbrev pub worked_module : Parsed
+abbrev pub worked_module : ParsedModule
 worked_module = record { source = scanned_of worked_lexemes; name = 1; block = worked_block; closing = 23 }
 
 worked_module_of : ModuleOf (scanned_of worked_lexemes) (named_tree_of worked_module)
@@ -75,10 +75,10 @@ elsewhere p k (Some o ∷ xs) h (suc i) e =
 worked_faults : AreFaultsOf worked_module []
 worked_faults = record { by_kind = refl; declared_twice = refl; undeclared = refl }
 
-worked_alone : NamesAlone worked_module worked_ordinals
+worked_alone : OnlyNamesHaveOrdinals worked_module worked_ordinals
 worked_alone token e =
     let same : token ≡ 0 + token = omega (arith) in
-    elsewhere (is_identifier_of worked_module) 0 worked_ordinals refl token (subst (λ n. is_identifier_of worked_module n ≡ false) same e)
+    elsewhere (is_identifier_token worked_module) 0 worked_ordinals refl token (subst (λ n. is_identifier_token worked_module n ≡ false) same e)
 
 pub worked_resolved : IsResolution worked_names
 worked_resolved =

@@ -5,17 +5,17 @@ use Rattle.std.specs.List.{list_all}
 use Rattle.std.specs.Str.{IsAscii, IsUtf8, chars}
 use Rattle.std.proofs.lemmas.Bool.{and_parts, ltb-true}
 use Rattle.std.proofs.lemmas.Str.{IsUtf8-from_ascii, chars-IsAscii, encodes-chars}
-use Rattle.ob0_scan.specs.declared.lexeme.Reserved.{Reserved}
-use Rattle.ob0_scan.specs.declared.lexeme.Reserved.TheVariants as reserved
+use Rattle.ob0_scan.specs.declared.lexeme.ReservedWord.{ReservedWord}
+use Rattle.ob0_scan.specs.declared.lexeme.ReservedWord.TheVariants as reserved
 use Rattle.ob0_scan.specs.declared.lexeme.Symbol.{Symbol}
 use Rattle.ob0_scan.specs.declared.lexeme.Symbol.TheVariants as symbol
 use Rattle.ob0_scan.specs.declared.lexeme.TokenKind.TheVariants as token
 use Rattle.ob0_scan.specs.declared.lexeme.LexemeKind.TheVariants as lexeme
 use Rattle.ob0_scan.specs.Classes.{reserved_text, symbol_text}
 use Rattle.ob0_scan.specs.Lexed.{Lexeme, joined}
-use Rattle.ob0_scan.specs.Scanned.{Scanned, IsScan, comments_from, tokens_from}
+use Rattle.ob0_scan.specs.TextWithTokens.{TextWithTokens, IsScan, comments_from, tokens_from}
 use Rattle.ob0_world_worked.specs.WorkedText.{worked_text}
-use Rattle.ob0_world_worked.proofs.LexemeTests.{are_apart, lexed_so}
+use Rattle.ob0_world_worked.proofs.LexemeTests.{are_disjoint, lexed_so}
 
 -- ---- ASCII
 
@@ -38,8 +38,8 @@ bytes_so bytes h = sym (ap encode_utf8_all (chars_so bytes h)) ∙ encodes-chars
 
 -- ---- lexemes
 
-abbrev pub word : Reserved → Lexeme
-word w = record { kind = lexeme.Token (token.Reserved w); text = reserved_text w }
+abbrev pub word : ReservedWord → Lexeme
+word w = record { kind = lexeme.Token (token.ReservedWord w); text = reserved_text w }
 
 abbrev pub mark : Symbol → Lexeme
 mark s = record { kind = lexeme.Token (token.Symbol s); text = symbol_text s }
@@ -89,10 +89,10 @@ without_lexemes = lexemes_with (white (10 ∷ 32 ∷ 32 ∷ 10 ∷ []) ∷ []) (
 
 -- ---- scans
 
-abbrev pub scanned_of : List Lexeme → Scanned
+abbrev pub scanned_of : List Lexeme → TextWithTokens
 scanned_of ls = record { text = joined ls; tokens = tokens_from 0 ls; comments = comments_from 0 ls }
 
-pub scan_so : (ls : List Lexeme) → is_ascii_text (joined ls) ≡ true → length (joined ls) ≤ 1048576 → are_apart ls ≡ true → IsScan (scanned_of ls)
+pub scan_so : (ls : List Lexeme) → is_ascii_text (joined ls) ≡ true → length (joined ls) ≤ 1048576 → are_disjoint ls ≡ true → IsScan (scanned_of ls)
 scan_so ls ascii short apart =
     record { utf8 = utf8_so (joined ls) ascii; short = short; lexemes = ls; lexed = lexed_so (joined ls) ls refl apart; tokens = refl; comments = refl }
 

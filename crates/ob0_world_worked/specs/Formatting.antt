@@ -6,7 +6,7 @@ use Rattle.ob0_text.specs.declared.edits.Indent.{Indent}
 use Rattle.ob0_text.specs.declared.position_types.Unit.{Unit}
 use Rattle.ob0_world_rules.specs.Asks.{Ask, rename, inline_here, inline_all, format}
 use Rattle.ob0_world_rules.specs.ClientAndServer.{ClientAndServer, start}
-use Rattle.ob0_world_rules.specs.Editing.{open_document, change_document, close_document, ask_about, apply, discard}
+use Rattle.ob0_world_rules.specs.EditorActs.{open_document, change_document, close_document, ask_about, apply, discard}
 use Rattle.ob0_world_rules.specs.Happens.{Event, does, serve, take_message, Course}
 use Rattle.ob0_world_rules.specs.Laws.{HasAnswers}
 
@@ -15,27 +15,27 @@ abbrev pub FormattingHasAnswers : Type 0
 FormattingHasAnswers = (indent : Indent) → HasAnswers (format indent)
 
 -- holds if the ask has answers; always holds for a formatting
-abbrev pub IsSupposedToHaveAnswers : Ask → Type 0
-IsSupposedToHaveAnswers (rename position name) = HasAnswers (rename position name)
-IsSupposedToHaveAnswers (inline_here position) = HasAnswers (inline_here position)
-IsSupposedToHaveAnswers (inline_all position) = HasAnswers (inline_all position)
-IsSupposedToHaveAnswers (format indent) = ⊤
+abbrev pub HasAnswersUnlessFormatting : Ask → Type 0
+HasAnswersUnlessFormatting (rename position name) = HasAnswers (rename position name)
+HasAnswersUnlessFormatting (inline_here position) = HasAnswers (inline_here position)
+HasAnswersUnlessFormatting (inline_all position) = HasAnswers (inline_all position)
+HasAnswersUnlessFormatting (format indent) = ⊤
 
 -- holds if the event isn't a rename or an inlining, or if its ask has answers
-abbrev pub IsSupposed : Event → Type 0
-IsSupposed (does (open_document uri text)) = ⊤
-IsSupposed (does (change_document uri how)) = ⊤
-IsSupposed (does (close_document uri)) = ⊤
-IsSupposed (does (ask_about uri ask)) = IsSupposedToHaveAnswers ask
-IsSupposed (does (apply k)) = ⊤
-IsSupposed (does (discard k)) = ⊤
-IsSupposed serve = ⊤
-IsSupposed take_message = ⊤
+abbrev pub IsAnswerableUnlessFormatting : Event → Type 0
+IsAnswerableUnlessFormatting (does (open_document uri text)) = ⊤
+IsAnswerableUnlessFormatting (does (change_document uri how)) = ⊤
+IsAnswerableUnlessFormatting (does (close_document uri)) = ⊤
+IsAnswerableUnlessFormatting (does (ask_about uri ask)) = HasAnswersUnlessFormatting ask
+IsAnswerableUnlessFormatting (does (apply k)) = ⊤
+IsAnswerableUnlessFormatting (does (discard k)) = ⊤
+IsAnswerableUnlessFormatting serve = ⊤
+IsAnswerableUnlessFormatting take_message = ⊤
 
 -- States that a list of events has a course if its renames and inlinings have answers. The formula
 -- is a double negation.
-abbrev pub ACourseFitsFormatting : Type 0
-ACourseFitsFormatting =
+abbrev pub CourseExistsWithFormatting : Type 0
+CourseExistsWithFormatting =
     (unit : Unit) (events : List Event)
-    → All IsSupposed events
+    → All IsAnswerableUnlessFormatting events
     → ¬ ((end : ClientAndServer) → ¬ Course (start unit) events end)

@@ -6,14 +6,14 @@ use Rattle.serde_json.specs.Written.{compact_text}
 use Rattle.ob0_text.specs.declared.position_types.Unit.TheVariants.{Utf16}
 use Rattle.ob0_text.specs.OpenDocuments.{TextChange}
 use Rattle.ob0_rpc.specs.Shapes.{notification_message, position_value, range_value}
-use Rattle.ob0_world_editor.specs.Beginning.{initialize_message}
+use Rattle.ob0_world_editor.specs.InitializeRequest.{initialize_message}
 use Rattle.ob0_world_editor.specs.Shapes.{change_object, change_params, document_value, open_params, request_message}
 use Rattle.ob0_world_rules.specs.Asks.{inline_all}
 use Rattle.ob0_world_rules.specs.Editors.{Revision, to_apply, to_ask, to_open}
 use Rattle.ob0_world_rules.specs.EveryEditor.{Turn, editor_does, editor_says, editor_takes, server_takes}
-use Rattle.ob0_world.specs.Exchanges.{BeginsExchange, Exchange, ExchangeLeads}
+use Rattle.ob0_world.specs.Exchanges.{BeginsExchange, Exchange, ExchangeCourse}
 use Rattle.ob0_world_worked.specs.WorkedText.{at, line, worked_text}
-use Rattle.ob0_world_worked.specs.WorkedAnswers.{on_line}
+use Rattle.ob0_world_worked.specs.WorkedAnswers.{range_on_line}
 
 abbrev pub uri : List ℕ
 uri = codes "file:///m.mod"
@@ -34,15 +34,15 @@ inlined_text =
 -- the edits of the inlining as changes of ranges, with the later range first
 abbrev pub changes : List TextChange
 changes =
-    record { range = Some (on_line 6 7 8); text = codes "2" }
-    ∷ record { range = Some (on_line 2 2 8); text = [] }
+    record { range = Some (range_on_line 6 7 8); text = codes "2" }
+    ∷ record { range = Some (range_on_line 2 2 8); text = [] }
     ∷ []
 
-abbrev pub revision : Revision
-revision = record { version = pos 1; text = inlined_text; how = changes }
+abbrev pub worked_revision : Revision
+worked_revision = record { version = pos 1; text = inlined_text; how = changes }
 
-abbrev pub turns : List Turn
-turns =
+abbrev pub worked_turns : List Turn
+worked_turns =
     -- `initialized`
     editor_says
     ∷ server_takes
@@ -60,43 +60,43 @@ turns =
     ∷ editor_takes
     ∷ editor_takes
     -- the answer is applied by two changes in one notification
-    ∷ editor_does (to_apply 1 (revision ∷ []))
+    ∷ editor_does (to_apply 1 (worked_revision ∷ []))
     ∷ []
 
 -- ---- the editor's messages
 
-abbrev pub says_initialized : Data
-says_initialized = notification_message (codes "initialized") (object no_members)
+abbrev pub initialized_notification : Data
+initialized_notification = notification_message (codes "initialized") (object no_members)
 
-abbrev pub says_open : Data
-says_open = notification_message (codes "textDocument/didOpen") (open_params uri 0 worked_text)
+abbrev pub open_notification : Data
+open_notification = notification_message (codes "textDocument/didOpen") (open_params uri 0 worked_text)
 
 abbrev pub hover_params : Data
 hover_params =
     object (member (codes "position") (position_value (at 0 0))
     (member (codes "textDocument") (document_value uri) no_members))
 
-abbrev pub asks_hover : Data
-asks_hover = request_message 1 (codes "textDocument/hover") hover_params
+abbrev pub hover_request : Data
+hover_request = request_message 1 (codes "textDocument/hover") hover_params
 
-abbrev pub only_inlining : Data
-only_inlining =
+abbrev pub inlining_context : Data
+inlining_context =
     object (member (codes "diagnostics") (array no_items)
     (member (codes "only") (array (item (string (codes "refactor.inline")) no_items)) no_members))
 
 abbrev pub actions_params : Data
 actions_params =
-    object (member (codes "context") only_inlining (member (codes "range") (range_value (at 6 7) (at 6 8))
+    object (member (codes "context") inlining_context (member (codes "range") (range_value (at 6 7) (at 6 8))
     (member (codes "textDocument") (document_value uri) no_members)))
 
-abbrev pub asks_actions : Data
-asks_actions = request_message 2 (codes "textDocument/codeAction") actions_params
+abbrev pub actions_request : Data
+actions_request = request_message 2 (codes "textDocument/codeAction") actions_params
 
-abbrev pub says_change : Data
-says_change =
+abbrev pub change_notification : Data
+change_notification =
     notification_message (codes "textDocument/didChange") (change_params uri 1
-    (change_object (Some (on_line 6 7 8)) (codes "2")
-    ∷ change_object (Some (on_line 2 2 8)) []
+    (change_object (Some (range_on_line 6 7 8)) (codes "2")
+    ∷ change_object (Some (range_on_line 2 2 8)) []
     ∷ []))
 
 -- ---- the law
@@ -104,12 +104,12 @@ says_change =
 -- States that these turns lead from the beginning to an exchange in which the session has taken
 -- five messages. The notification of the change waits for the session, and the editor has applied
 -- one edit.
-pub record AWorkedExchange : Type 0 where
+pub record WorkedExchangeExists : Type 0 where
   pub first : Exchange
   pub last : Exchange
   pub begins : BeginsExchange Utf16 first
-  pub leads : ExchangeLeads first turns last
+  pub leads : ExchangeCourse first worked_turns last
   pub taken : last.wire.taken
-      ≡ map compact_text (initialize_message Utf16 ∷ says_initialized ∷ says_open ∷ asks_hover ∷ asks_actions ∷ [])
-  pub waits : last.wire.to_server ≡ compact_text says_change ∷ []
+      ≡ map compact_text (initialize_message Utf16 ∷ initialized_notification ∷ open_notification ∷ hover_request ∷ actions_request ∷ [])
+  pub waits : last.wire.to_server ≡ compact_text change_notification ∷ []
   pub applied : last.applied ≡ record { uri = uri; before = worked_text; after = inlined_text } ∷ []

@@ -1,76 +1,79 @@
 //! Proves laws about one text (`worked_text`): its worked answers and a worked exchange. Also
 //! proves that formatting has answers.
-ghost use Rattle.ob0_world_worked.specs.Formatting.{ACourseFitsFormatting, FormattingHasAnswers};
-ghost use Rattle.ob0_world_worked.specs.WorkedExchange.{AWorkedExchange};
-ghost use Rattle.ob0_world_worked.specs.WorkedAnswers.{ACapture, ARename, AnInlining, AnInliningEverywhere};
+ghost use Rattle.ob0_world_worked.specs.Formatting.{CourseExistsWithFormatting, FormattingHasAnswers};
+ghost use Rattle.ob0_world_worked.specs.WorkedExchange.{WorkedExchangeExists};
+ghost use Rattle.ob0_world_worked.specs.WorkedAnswers.{CaptureIsRefused, RenameIsAnswered, InliningIsAnswered, InliningEverywhereIsAnswered};
 
 use ob0_language_runs::laws::{
-    free_keeps_modules, inlining_everywhere_keeps_modules, inlining_keeps_modules,
+    free_renaming_keeps_typing_and_runs, inlining_everywhere_keeps_typing_and_runs,
+    inlining_keeps_typing_and_runs,
 };
-use ob0_language_types::laws::constants_are_alone;
-use ob0_layout::laws::{gaps_make_the_layout, lexemes_stay, module_stays};
-use ob0_world_rules::laws::{a_course_fits, answers_are_one};
+use ob0_language_types::laws::constant_uses_are_factors;
+use ob0_layout::laws::{
+    formatting_keeps_lexemes, formatting_keeps_module, gaps_give_formatted_text,
+};
+use ob0_world_rules::laws::{answers_are_unique, course_exists};
 
 /// Proves that renaming variable x of the worked text to y is answered by three edits, and by no
 /// others.
-pub fn a_rename()
-    ensures { ARename }
+pub fn rename_is_answered()
+    ensures { RenameIsAnswered }
 {
-    free_keeps_modules();
-    answers_are_one();
+    free_renaming_keeps_typing_and_runs();
+    answers_are_unique();
 }
 
 /// Proves that renaming x to Write is refused, because it would capture a call of Write. The
 /// refusal has the range of the call, and the answer has no edits.
-pub fn a_capture()
-    ensures { ACapture }
+pub fn capture_is_refused()
+    ensures { CaptureIsRefused }
 {
-    answers_are_one();
+    answers_are_unique();
 }
 
 /// Proves that inlining constant n of the worked text at its use is answered by one edit, and by no
 /// other.
-pub fn an_inlining()
-    ensures { AnInlining }
+pub fn inlining_is_answered()
+    ensures { InliningIsAnswered }
 {
-    constants_are_alone();
-    inlining_keeps_modules();
-    answers_are_one();
+    constant_uses_are_factors();
+    inlining_keeps_typing_and_runs();
+    answers_are_unique();
 }
 
 /// Proves that inlining constant n everywhere is answered by two edits, and by no others.
-pub fn an_inlining_everywhere()
-    ensures { AnInliningEverywhere }
+pub fn inlining_everywhere_is_answered()
+    ensures { InliningEverywhereIsAnswered }
 {
-    constants_are_alone();
-    inlining_everywhere_keeps_modules();
-    answers_are_one();
+    constant_uses_are_factors();
+    inlining_everywhere_keeps_typing_and_runs();
+    answers_are_unique();
 }
 
 /// Proves that a request for formatting has an answer for each text.
 pub fn formatting_has_answers()
     ensures { FormattingHasAnswers }
 {
-    module_stays();
-    lexemes_stay();
-    gaps_make_the_layout();
+    formatting_keeps_module();
+    formatting_keeps_lexemes();
+    gaps_give_formatted_text();
 }
 
 /// Proves that a list of events has a course if its renames and inlinings have answers.
-pub fn a_course_fits_formatting()
-    ensures { ACourseFitsFormatting }
+pub fn course_exists_with_formatting()
+    ensures { CourseExistsWithFormatting }
 {
     formatting_has_answers();
-    a_course_fits();
+    course_exists();
 }
 
 /// Proves that the worked exchange exists. An editor initializes a session and opens a document
 /// with version 0. It sends a hover and a request for the code actions of one kind in a range. It
 /// applies the answer by two changes in one notification.
-pub fn a_worked_exchange()
-    ensures { AWorkedExchange }
+pub fn worked_exchange_exists()
+    ensures { WorkedExchangeExists }
 {
-    constants_are_alone();
-    inlining_keeps_modules();
-    inlining_everywhere_keeps_modules();
+    constant_uses_are_factors();
+    inlining_keeps_typing_and_runs();
+    inlining_everywhere_keeps_typing_and_runs();
 }

@@ -6,18 +6,25 @@ ghost use Rattle.ob0_tree.specs.View.{block_of, body_of, constant_of, constants_
 ghost use Rattle.ob0_types_check.specs.DeclarationFaults.{constant_declared, reported_body, reported_constants, reported_section, reported_sections, reported_types, reported_variables, type_declared, variables_declared};
 ghost use Rattle.ob0_types_check.specs.Known.{a_variable};
 ghost use Rattle.ob0_types_check.specs.Operations.{ReportsAfter};
-ghost use Rattle.ob0_types_check.specs.SoFar.{define_all};
-ghost use Rattle.ob0_types_check.specs.SomeBodies.{block_with, body_if, procedure_with, procedures_with, walked_in, wants};
-ghost use Rattle.ob0_types_check.specs.SupposedFacts.{heading_in, so_far_in};
+ghost use Rattle.ob0_types_check.specs.KnownDeclarations.{define_all};
+ghost use Rattle.ob0_types_check.specs.SomeBodies.{reported_block_with, report_body_if, reported_procedure_with, reported_procedures_with, walked_in, includes_body};
+ghost use Rattle.ob0_types_check.specs.CheckerFacts.{heading_in, declarations_in_state};
 
-use crate::reporting::supposed::{Meaning, Supposed};
-use crate::reporting::{Reporter, Wanted};
-use ob0_tree::{Block, Constant, Names, Procedure, Section, Statement, TypeDeclaration, Variables};
-use ob0_types_table::{Formal, TypeId};
+use crate::reporting::checker_state::{CheckerState, Meaning};
+use crate::reporting::{BodiesToWalk, Reporter};
+use ob0_tree::{
+    Block, Constant, Names, ParameterSection, Procedure, Statement, TypeDeclaration,
+    VariableDeclaration,
+};
+use ob0_types_table::{FormalParameter, TypeId};
 use std::alloc::AllocError;
 
 /// Appends the same formal parameter once for each of these names.
-fn add_formals(names: &Names, formal: Formal, formals: &mut Vec<Formal>) -> Result<(), AllocError>
+fn add_formals(
+    names: &Names,
+    formal: FormalParameter,
+    formals: &mut Vec<FormalParameter>,
+) -> Result<(), AllocError>
     ensures { OnOk result (formals.new.items
         ≡ formals.old.items ++ map (λ name. formal) (names.now.first ∷ names.now.more.items)) }
 {
@@ -28,11 +35,11 @@ fn add_formals(names: &Names, formal: Formal, formals: &mut Vec<Formal>) -> Resu
     Ok(())
 }
 
-impl<'t> Supposed<'t> {
+impl<'t> CheckerState<'t> {
     /// Records these names as variables of this type.
     fn define_all(&mut self, names: &Names, of: TypeId)
-        ensures { so_far_in self.new
-            ≡ define_all (so_far_in self.old) (a_variable of)
+        ensures { declarations_in_state self.new
+            ≡ define_all (declarations_in_state self.old) (a_variable of)
             (names.now.first ∷ names.now.more.items) }
     {
         self.define(names.first, Meaning::Variable(of));
@@ -47,38 +54,38 @@ impl<'t> Reporter<'t> {
     /// wanted. `own` is the token of the block's closing name. Appends the closing name of each walked body with a
     /// fault to `faulty`.
     #[cycle(blocks)]
-    pub(crate) fn block(
+    pub(crate) fn report_block(
         &mut self,
         faulty: &mut Vec<usize>,
-        wanted: &Wanted<'_>,
+        wanted: &BodiesToWalk<'_>,
         b: &Block,
         own: usize,
     ) -> Result<(), AllocError>
         ensures { OnOk result (ReportsAfter self.old.faults.items self.new.faults.items
-            (walked_in self.new.supposed faulty.new.items) (block_with (wants wanted.now) own
-            (walked_in self.old.supposed faulty.old.items) (block_of b.now))) }
+            (walked_in self.new.checker_state faulty.new.items) (reported_block_with (includes_body wanted.now) own
+            (walked_in self.old.checker_state faulty.old.items) (block_of b.now))) }
     {
-        self.constants_of(&b.constants)?;
-        self.types_of(&b.types)?;
-        self.variables_of(&b.variables)?;
-        self.procedures(faulty, wanted, &b.procedures)?;
-        self.body_if(faulty, wanted.wants(own), own, &b.body)
+        self.report_constant_section(&b.constants)?;
+        self.report_type_section(&b.types)?;
+        self.report_variable_section(&b.variables)?;
+        self.report_procedures(faulty, wanted, &b.procedures)?;
+        self.report_body_if(faulty, wanted.includes_body(own), own, &b.body)
     }
 
     #[cycle(blocks)]
-    fn procedures(
+    fn report_procedures(
         &mut self,
         faulty: &mut Vec<usize>,
-        wanted: &Wanted<'_>,
+        wanted: &BodiesToWalk<'_>,
         procedures: &Vec<Procedure>,
     ) -> Result<(), AllocError>
         ensures { OnOk result (ReportsAfter self.old.faults.items self.new.faults.items
-            (walked_in self.new.supposed faulty.new.items) (procedures_with (wants wanted.now)
-            (walked_in self.old.supposed faulty.old.items)
+            (walked_in self.new.checker_state faulty.new.items) (reported_procedures_with (includes_body wanted.now)
+            (walked_in self.old.checker_state faulty.old.items)
             (items_of procedure_of procedures.now.items))) }
     {
         for p in procedures {
-            self.procedure(faulty, wanted, p)?;
+            self.report_procedure(faulty, wanted, p)?;
         }
         Ok(())
     }
@@ -86,24 +93,25 @@ impl<'t> Reporter<'t> {
     /// Reports the faults of a procedure. The procedure's name is declared after the heading, so its own body can call
     /// the procedure.
     #[cycle(blocks)]
-    fn procedure(
+    fn report_procedure(
         &mut self,
         faulty: &mut Vec<usize>,
-        wanted: &Wanted<'_>,
+        wanted: &BodiesToWalk<'_>,
         p: &Procedure,
     ) -> Result<(), AllocError>
         ensures { OnOk result (ReportsAfter self.old.faults.items self.new.faults.items
-            (walked_in self.new.supposed faulty.new.items) (procedure_with (wants wanted.now)
-            (walked_in self.old.supposed faulty.old.items) (procedure_of p.now))) }
+            (walked_in self.new.checker_state faulty.new.items) (reported_procedure_with (includes_body wanted.now)
+            (walked_in self.old.checker_state faulty.old.items) (procedure_of p.now))) }
     {
-        let formals = self.heading(&p.formals)?;
-        self.supposed.define(p.name, Meaning::Procedure(formals));
-        self.block(faulty, wanted, &p.block, p.closing)
+        let formals = self.report_heading(&p.formals)?;
+        self.checker_state
+            .define(p.name, Meaning::Procedure(formals));
+        self.report_block(faulty, wanted, &p.block, p.closing)
     }
 
     /// If `wanted` is true, reports the faults of a body. If the body has a fault, also appends
     /// `own`, the closing name of the body's block, to `faulty`.
-    fn body_if(
+    fn report_body_if(
         &mut self,
         faulty: &mut Vec<usize>,
         wanted: bool,
@@ -111,14 +119,14 @@ impl<'t> Reporter<'t> {
         statements: &Option<Vec<Statement>>,
     ) -> Result<(), AllocError>
         ensures { OnOk result (ReportsAfter self.old.faults.items self.new.faults.items
-            (walked_in self.new.supposed faulty.new.items) (body_if wanted own
-            (walked_in self.old.supposed faulty.old.items) (body_of statements.now))) }
+            (walked_in self.new.checker_state faulty.new.items) (report_body_if wanted own
+            (walked_in self.old.checker_state faulty.old.items) (body_of statements.now))) }
     {
         if !wanted {
             return Ok(());
         }
         let before = self.faults.len();
-        self.body(statements)?;
+        self.report_body_statements(statements)?;
         if self.faults.len() > before {
             faulty.push(own)?;
         }
@@ -126,172 +134,189 @@ impl<'t> Reporter<'t> {
     }
 
     /// Reports the faults of a body's statements. A missing body has none.
-    fn body(&mut self, body: &Option<Vec<Statement>>) -> Result<(), AllocError>
+    fn report_body_statements(&mut self, body: &Option<Vec<Statement>>) -> Result<(), AllocError>
         ensures { OnOk result (ReportsAfter self.old.faults.items self.new.faults.items
-            (so_far_in self.new.supposed)
-            (reported_body (so_far_in self.old.supposed) (body_of body.now))) }
+            (declarations_in_state self.new.checker_state)
+            (reported_body (declarations_in_state self.old.checker_state) (body_of body.now))) }
     {
         match body {
             None => Ok(()),
-            Some(statements) => self.supposed.sequence(&mut self.faults, statements),
+            Some(statements) => self
+                .checker_state
+                .report_sequence(&mut self.faults, statements),
         }
     }
 
     /// Reports the faults of a procedure's heading, declares its parameters as variables, and returns them.
-    fn heading(&mut self, sections: &Option<Vec<Section>>) -> Result<Vec<Formal>, AllocError>
+    fn report_heading(
+        &mut self,
+        sections: &Option<Vec<ParameterSection>>,
+    ) -> Result<Vec<FormalParameter>, AllocError>
         ensures { IfOk result (λ formals. ReportsAfter self.old.faults.items self.new.faults.items
-            (heading_in self.new.supposed formals.items) (reported_sections
-            (record { formals = []; following = so_far_in self.old.supposed })
+            (heading_in self.new.checker_state formals.items) (reported_sections
+            (record { formals = []; following = declarations_in_state self.old.checker_state })
             (formal_sections (formals_of sections.now)))) }
     {
         let mut formals = Vec::new(self.alloc);
-        self.sections_of(sections, &mut formals)?;
+        self.report_sections_if_any(sections, &mut formals)?;
         Ok(formals)
     }
 
     /// Reports the faults of the sections of a heading, if there are any. Appends their parameters to `formals`.
-    fn sections_of(
+    fn report_sections_if_any(
         &mut self,
-        sections: &Option<Vec<Section>>,
-        formals: &mut Vec<Formal>,
+        sections: &Option<Vec<ParameterSection>>,
+        formals: &mut Vec<FormalParameter>,
     ) -> Result<(), AllocError>
         ensures { OnOk result (ReportsAfter self.old.faults.items self.new.faults.items
-            (heading_in self.new.supposed formals.new.items) (reported_sections
-            (heading_in self.old.supposed formals.old.items)
+            (heading_in self.new.checker_state formals.new.items) (reported_sections
+            (heading_in self.old.checker_state formals.old.items)
             (formal_sections (formals_of sections.now)))) }
     {
         match sections {
             None => Ok(()),
-            Some(sections) => self.sections(sections.as_slice(), formals),
+            Some(sections) => self.report_sections(sections.as_slice(), formals),
         }
     }
 
     /// Reports the faults of these sections of a heading, and appends their parameters to `formals`.
-    fn sections(
+    fn report_sections(
         &mut self,
-        sections: &[Section],
-        formals: &mut Vec<Formal>,
+        sections: &[ParameterSection],
+        formals: &mut Vec<FormalParameter>,
     ) -> Result<(), AllocError>
         ensures { OnOk result (ReportsAfter self.old.faults.items self.new.faults.items
-            (heading_in self.new.supposed formals.new.items) (reported_sections
-            (heading_in self.old.supposed formals.old.items)
+            (heading_in self.new.checker_state formals.new.items) (reported_sections
+            (heading_in self.old.checker_state formals.old.items)
             (items_of further_section_of sections.now))) }
     {
         for s in sections {
-            self.section(s, formals)?;
+            self.report_section(s, formals)?;
         }
         Ok(())
     }
 
     /// Reports the faults of the type of one section, and appends a parameter of this type for each of its names.
-    fn section(&mut self, s: &Section, formals: &mut Vec<Formal>) -> Result<(), AllocError>
+    fn report_section(
+        &mut self,
+        s: &ParameterSection,
+        formals: &mut Vec<FormalParameter>,
+    ) -> Result<(), AllocError>
         ensures { OnOk result (ReportsAfter self.old.faults.items self.new.faults.items
-            (heading_in self.new.supposed formals.new.items) (reported_section
-            (heading_in self.old.supposed formals.old.items) (further_section_of s.now))) }
+            (heading_in self.new.checker_state formals.new.items) (reported_section
+            (heading_in self.old.checker_state formals.old.items) (further_section_of s.now))) }
     {
-        let of = self.written_type(&s.written)?;
-        let formal = Formal {
+        let of = self.check_written_type(&s.written)?;
+        let formal = FormalParameter {
             by_place: s.by_reference,
             of,
         };
         add_formals(&s.names, formal, formals)?;
-        self.supposed.define_all(&s.names, of);
+        self.checker_state.define_all(&s.names, of);
         Ok(())
     }
 
-    fn constants_of(&mut self, section: &Option<Vec<Constant>>) -> Result<(), AllocError>
+    fn report_constant_section(&mut self, section: &Option<Vec<Constant>>) -> Result<(), AllocError>
         ensures { OnOk result (ReportsAfter self.old.faults.items self.new.faults.items
-            (so_far_in self.new.supposed) (reported_constants (so_far_in self.old.supposed)
+            (declarations_in_state self.new.checker_state) (reported_constants (declarations_in_state self.old.checker_state)
             (section_constants (constants_of section.now)))) }
     {
         match section {
             None => Ok(()),
-            Some(constants) => self.constants(constants.as_slice()),
+            Some(constants) => self.report_constants(constants.as_slice()),
         }
     }
 
-    fn constants(&mut self, constants: &[Constant]) -> Result<(), AllocError>
+    fn report_constants(&mut self, constants: &[Constant]) -> Result<(), AllocError>
         ensures { OnOk result (ReportsAfter self.old.faults.items self.new.faults.items
-            (so_far_in self.new.supposed) (reported_constants (so_far_in self.old.supposed)
+            (declarations_in_state self.new.checker_state) (reported_constants (declarations_in_state self.old.checker_state)
             (items_of constant_of constants.now))) }
     {
         for c in constants {
-            self.constant(c)?;
+            self.report_constant(c)?;
         }
         Ok(())
     }
 
-    fn constant(&mut self, c: &Constant) -> Result<(), AllocError>
+    fn report_constant(&mut self, c: &Constant) -> Result<(), AllocError>
         ensures { OnOk result (ReportsAfter self.old.faults.items self.new.faults.items
-            (so_far_in self.new.supposed)
-            (constant_declared (so_far_in self.old.supposed) (constant_of c.now))) }
+            (declarations_in_state self.new.checker_state)
+            (constant_declared (declarations_in_state self.old.checker_state) (constant_of c.now))) }
     {
-        let value = self.supposed.constant_value(&mut self.faults, &c.value)?;
-        self.supposed.define(c.name, Meaning::Constant(value));
+        let value = self
+            .checker_state
+            .constant_value(&mut self.faults, &c.value)?;
+        self.checker_state.define(c.name, Meaning::Constant(value));
         Ok(())
     }
 
-    fn types_of(&mut self, section: &Option<Vec<TypeDeclaration>>) -> Result<(), AllocError>
+    fn report_type_section(
+        &mut self,
+        section: &Option<Vec<TypeDeclaration>>,
+    ) -> Result<(), AllocError>
         ensures { OnOk result (ReportsAfter self.old.faults.items self.new.faults.items
-            (so_far_in self.new.supposed)
-            (reported_types (so_far_in self.old.supposed) (section_types (types_of section.now)))) }
+            (declarations_in_state self.new.checker_state)
+            (reported_types (declarations_in_state self.old.checker_state) (section_types (types_of section.now)))) }
     {
         match section {
             None => Ok(()),
-            Some(types) => self.types(types.as_slice()),
+            Some(types) => self.report_types(types.as_slice()),
         }
     }
 
-    fn types(&mut self, types: &[TypeDeclaration]) -> Result<(), AllocError>
+    fn report_types(&mut self, types: &[TypeDeclaration]) -> Result<(), AllocError>
         ensures { OnOk result (ReportsAfter self.old.faults.items self.new.faults.items
-            (so_far_in self.new.supposed) (reported_types (so_far_in self.old.supposed)
+            (declarations_in_state self.new.checker_state) (reported_types (declarations_in_state self.old.checker_state)
             (items_of type_declaration_of types.now))) }
     {
         for d in types {
-            self.type_declaration(d)?;
+            self.report_type_declaration(d)?;
         }
         Ok(())
     }
 
-    fn type_declaration(&mut self, d: &TypeDeclaration) -> Result<(), AllocError>
+    fn report_type_declaration(&mut self, d: &TypeDeclaration) -> Result<(), AllocError>
         ensures { OnOk result (ReportsAfter self.old.faults.items self.new.faults.items
-            (so_far_in self.new.supposed)
-            (type_declared (so_far_in self.old.supposed) (type_declaration_of d.now))) }
+            (declarations_in_state self.new.checker_state)
+            (type_declared (declarations_in_state self.old.checker_state) (type_declaration_of d.now))) }
     {
-        let of = self.written_type(&d.written)?;
-        self.supposed.define(d.name, Meaning::Named(of));
+        let of = self.check_written_type(&d.written)?;
+        self.checker_state.define(d.name, Meaning::Named(of));
         Ok(())
     }
 
-    fn variables_of(&mut self, section: &Option<Vec<Variables>>) -> Result<(), AllocError>
+    fn report_variable_section(
+        &mut self,
+        section: &Option<Vec<VariableDeclaration>>,
+    ) -> Result<(), AllocError>
         ensures { OnOk result (ReportsAfter self.old.faults.items self.new.faults.items
-            (so_far_in self.new.supposed) (reported_variables (so_far_in self.old.supposed)
+            (declarations_in_state self.new.checker_state) (reported_variables (declarations_in_state self.old.checker_state)
             (section_variables (variables_of section.now)))) }
     {
         match section {
             None => Ok(()),
-            Some(variables) => self.variables(variables.as_slice()),
+            Some(variables) => self.report_variables(variables.as_slice()),
         }
     }
 
-    fn variables(&mut self, variables: &[Variables]) -> Result<(), AllocError>
+    fn report_variables(&mut self, variables: &[VariableDeclaration]) -> Result<(), AllocError>
         ensures { OnOk result (ReportsAfter self.old.faults.items self.new.faults.items
-            (so_far_in self.new.supposed) (reported_variables (so_far_in self.old.supposed)
+            (declarations_in_state self.new.checker_state) (reported_variables (declarations_in_state self.old.checker_state)
             (items_of variable_of variables.now))) }
     {
         for v in variables {
-            self.variables_of_one_type(v)?;
+            self.report_variable_group(v)?;
         }
         Ok(())
     }
 
-    fn variables_of_one_type(&mut self, v: &Variables) -> Result<(), AllocError>
+    fn report_variable_group(&mut self, v: &VariableDeclaration) -> Result<(), AllocError>
         ensures { OnOk result (ReportsAfter self.old.faults.items self.new.faults.items
-            (so_far_in self.new.supposed)
-            (variables_declared (so_far_in self.old.supposed) (variable_of v.now))) }
+            (declarations_in_state self.new.checker_state)
+            (variables_declared (declarations_in_state self.old.checker_state) (variable_of v.now))) }
     {
-        let of = self.written_type(&v.written)?;
-        self.supposed.define_all(&v.names, of);
+        let of = self.check_written_type(&v.written)?;
+        self.checker_state.define_all(&v.names, of);
         Ok(())
     }
 }

@@ -7,17 +7,17 @@ ghost use Rattle.ob0_types_table.specs.declared.types.TypeId.TheVariants as type
 ghost use Rattle.ob0_tree.specs.View.{compound_of, expression_of, factor_of, selector_of, simple_of, term_of};
 ghost use Rattle.ob0_language_types.specs.Selected.{selectors_in};
 ghost use Rattle.ob0_types_check.specs.ExpressionFaults.{reported_expression, reported_factor, reported_selector, reported_selectors, reported_simple, reported_term};
-ghost use Rattle.ob0_types_check.specs.Operations.{ReportsAfter, a_constant_name, a_number, add_operands, required, required_both, at_operand, after_sign, complement_operand, element_in, element_selected, enclosed, field_in, field_selected, fits, joint_operand, multiply_operands, name_operand, part_of, relate_operands, sign_operand, comparison_type, required_by_add, required_by_equality, required_by_multiply, required_by_relation, value_type};
+ghost use Rattle.ob0_types_check.specs.Operations.{ReportsAfter, constant_name_operand, number_operand, add_operands, required_type, required_type_of_both, fault_at_operand, signed_operand, complement_operand, element_type_in_form, element_operand, operand_in_parentheses, field_type_in_form, field_operand, fits, joint_operand, multiply_operands, name_operand, part_of, relate_operands, sign_operand, comparison_type, add_operand_type, equality_operand_type, multiply_operand_type, relation_operand_type, value_type};
 ghost use Rattle.ob0_types_check.specs.TypeFaults.{operand_value, reported_constant};
-ghost use Rattle.ob0_types_check.specs.SoFar.{same_type};
-ghost use Rattle.ob0_types_check.specs.SupposedFacts.{facts_in, form_in, operand_of, known_types};
+ghost use Rattle.ob0_types_check.specs.KnownDeclarations.{same_type};
+ghost use Rattle.ob0_types_check.specs.CheckerFacts.{facts_in, form_in, operand_of, known_types};
 
-use crate::reporting::supposed::{Meaning, Supposed};
+use crate::reporting::checker_state::{CheckerState, Meaning};
 use ob0_language_values::Scalar;
-use ob0_scan::{Code, Fault};
+use ob0_scan::{Fault, FaultCode};
 use ob0_tree::{
-    AddOperator, Comparison, Compound, Designator, Expression, Factor, MultiplyOperator, Relation,
-    Selector, Sign, Simple, Term,
+    AddOperator, Comparison, CompoundExpression, Designator, Expression, Factor, MultiplyOperator,
+    Relation, Selector, Sign, SimpleExpression, Term,
 };
 use ob0_types_table::{TypeId, number_at, operators};
 use std::alloc::AllocError;
@@ -36,8 +36,8 @@ pub(crate) struct Operand {
 }
 
 /// Returns the type that `+`, `-` or OR requires of both operands.
-fn required_by_add(operator: AddOperator) -> TypeId
-    ensures { result ≡ required_by_add (known_types []) operator }
+fn add_operand_type(operator: AddOperator) -> TypeId
+    ensures { result ≡ add_operand_type (known_types []) operator }
 {
     match operator {
         AddOperator::Add => TypeId::Integer,
@@ -47,8 +47,8 @@ fn required_by_add(operator: AddOperator) -> TypeId
 }
 
 /// Returns the type that `*`, DIV, MOD or `&` requires of both operands.
-fn required_by_multiply(operator: MultiplyOperator) -> TypeId
-    ensures { result ≡ required_by_multiply (known_types []) operator }
+fn multiply_operand_type(operator: MultiplyOperator) -> TypeId
+    ensures { result ≡ multiply_operand_type (known_types []) operator }
 {
     match operator {
         MultiplyOperator::And => TypeId::Boolean,
@@ -61,12 +61,12 @@ fn required_by_multiply(operator: MultiplyOperator) -> TypeId
 /// Returns the type that a relation requires of both operands. `=` and `#` compare two numbers or
 /// two truth values. If the left operand's type is unknown, `=` and `#` require nothing of the
 /// right operand.
-fn required_by_relation(relation: Relation, left: TypeId) -> TypeId
-    ensures { result ≡ required_by_relation (known_types []) relation left }
+fn relation_operand_type(relation: Relation, left: TypeId) -> TypeId
+    ensures { result ≡ relation_operand_type (known_types []) relation left }
 {
     match relation {
-        Relation::Equal => required_by_equality(left),
-        Relation::NotEqual => required_by_equality(left),
+        Relation::Equal => equality_operand_type(left),
+        Relation::NotEqual => equality_operand_type(left),
         Relation::Less => TypeId::Integer,
         Relation::LessEqual => TypeId::Integer,
         Relation::Greater => TypeId::Integer,
@@ -76,8 +76,8 @@ fn required_by_relation(relation: Relation, left: TypeId) -> TypeId
 
 /// Returns the type that `=` or `#` requires of both operands: INTEGER for a number on the left, unknown for an unknown
 /// type there, otherwise BOOLEAN.
-fn required_by_equality(left: TypeId) -> TypeId
-    ensures { result ≡ required_by_equality (known_types []) left }
+fn equality_operand_type(left: TypeId) -> TypeId
+    ensures { result ≡ equality_operand_type (known_types []) left }
 {
     match left {
         TypeId::Integer => TypeId::Integer,
@@ -90,7 +90,7 @@ fn required_by_equality(left: TypeId) -> TypeId
 
 /// Returns the type of a comparison whose operands have this type: BOOLEAN, or unknown if the type of the operands is
 /// unknown.
-fn truth_of(operands: TypeId) -> TypeId
+fn type_of_comparison(operands: TypeId) -> TypeId
     ensures { result ≡ comparison_type (known_types []) operands }
 {
     match operands {
@@ -118,7 +118,7 @@ fn fits(of: TypeId, wanted: TypeId) -> bool
 }
 
 /// Returns the required type if the operand has it, otherwise the unknown type.
-fn agreed_type(of: TypeId, wanted: TypeId) -> TypeId
+fn required_type_or_unknown(of: TypeId, wanted: TypeId) -> TypeId
     ensures { result ≡ (if same_type of wanted then wanted else type.Unknown) }
 {
     if same_type(of, wanted) {
@@ -130,9 +130,9 @@ fn agreed_type(of: TypeId, wanted: TypeId) -> TypeId
 
 impl Operand {
     /// Returns the operand for a sign or `~` applied to this operand, with the type `of` and this value.
-    fn after_sign(self, of: TypeId, value: Option<Scalar>) -> Operand
+    fn signed_operand(self, of: TypeId, value: Option<Scalar>) -> Operand
         ensures { operand_of result
-            ≡ after_sign of (option_map scalar_value value) (operand_of self) }
+            ≡ signed_operand of (option_map scalar_value value) (operand_of self) }
     {
         Operand {
             of,
@@ -144,7 +144,7 @@ impl Operand {
     }
 
     /// Returns the operand for an operation on this operand and the operand `right`, with the type `of` and this value.
-    fn with(self, right: Operand, of: TypeId, value: Option<Scalar>) -> Operand
+    fn join_operand(self, right: Operand, of: TypeId, value: Option<Scalar>) -> Operand
         ensures { operand_of result
             ≡ joint_operand of (option_map scalar_value value) (operand_of self)
             (operand_of right) }
@@ -159,7 +159,7 @@ impl Operand {
     }
 
     /// Returns the operand for the part of this designator that ends at the token `last`, with the type `of`.
-    fn part(self, of: TypeId, last: usize) -> Operand
+    fn designator_part(self, of: TypeId, last: usize) -> Operand
         ensures { operand_of result ≡ part_of (operand_of self) of last }
     {
         Operand {
@@ -172,35 +172,35 @@ impl Operand {
     }
 }
 
-impl<'t> Supposed<'t> {
+impl<'t> CheckerState<'t> {
     /// Reports a fault that spans the whole expression of an operand.
-    pub(crate) fn report_operand(
+    pub(crate) fn report_at_operand(
         &self,
         faults: &mut Vec<Fault>,
-        code: Code,
+        code: FaultCode,
         operand: Operand,
     ) -> Result<(), AllocError>
         ensures { OnOk result (faults.new.items
-            ≡ faults.old.items ++ at_operand (facts_in self.now false) code (operand_of operand)) }
+            ≡ faults.old.items ++ fault_at_operand (facts_in self.now false) code (operand_of operand)) }
     {
         self.report(faults, code, operand.first, operand.last)
     }
 
     /// Reports a mismatch if the operand's type is known and differs from the required type. Returns the required type
     /// if the operand has it, otherwise the unknown type.
-    pub(crate) fn require(
+    pub(crate) fn require_type(
         &self,
         faults: &mut Vec<Fault>,
         wanted: TypeId,
         operand: Operand,
     ) -> Result<TypeId, AllocError>
         ensures { IfOk result (λ t. ReportsAfter faults.old.items faults.new.items t
-            (required (facts_in self.now false) wanted (operand_of operand))) }
+            (required_type (facts_in self.now false) wanted (operand_of operand))) }
     {
         if !fits(operand.of, wanted) {
-            self.report_operand(faults, Code::TypeMismatch, operand)?;
+            self.report_at_operand(faults, FaultCode::TypeMismatch, operand)?;
         }
-        Ok(agreed_type(operand.of, wanted))
+        Ok(required_type_or_unknown(operand.of, wanted))
     }
 
     /// Requires the type `wanted` of both operands of an operation. Reports a mismatch at the left operand, or at the
@@ -214,13 +214,13 @@ impl<'t> Supposed<'t> {
         right: Operand,
     ) -> Result<TypeId, AllocError>
         ensures { IfOk result (λ t. ReportsAfter faults.old.items faults.new.items t
-            (required_both (facts_in self.now false) wanted (operand_of left) (operand_of right))) }
+            (required_type_of_both (facts_in self.now false) wanted (operand_of left) (operand_of right))) }
     {
         if !fits(left.of, wanted) {
-            self.report_operand(faults, Code::TypeMismatch, left)?;
+            self.report_at_operand(faults, FaultCode::TypeMismatch, left)?;
             return Ok(TypeId::Unknown);
         }
-        let of = self.require(faults, wanted, right)?;
+        let of = self.require_type(faults, wanted, right)?;
         if same_type(left.of, wanted) {
             Ok(of)
         } else {
@@ -231,7 +231,7 @@ impl<'t> Supposed<'t> {
     /// Reports the faults of an expression and returns its operand. If `only_constants` is true, a variable's name is a
     /// fault.
     #[cycle(expressions)]
-    pub(crate) fn expression(
+    pub(crate) fn check_expression(
         &self,
         faults: &mut Vec<Fault>,
         e: &Expression,
@@ -241,34 +241,34 @@ impl<'t> Supposed<'t> {
             (reported_expression (facts_in self.now only_constants) (expression_of e.now))) }
     {
         match e {
-            Expression::Factor(f) => self.factor(faults, f, only_constants),
-            Expression::Compound(c) => self.compound(faults, c, only_constants),
+            Expression::Factor(f) => self.check_factor(faults, f, only_constants),
+            Expression::CompoundExpression(c) => self.check_compound(faults, c, only_constants),
         }
     }
 
     #[cycle(expressions)]
-    fn compound(
+    fn check_compound(
         &self,
         faults: &mut Vec<Fault>,
-        c: &Compound,
+        c: &CompoundExpression,
         only_constants: bool,
     ) -> Result<Operand, AllocError>
         ensures { IfOk result (λ o. ReportsAfter faults.old.items faults.new.items (operand_of o)
             (reported_expression (facts_in self.now only_constants) (compound_of c.now))) }
     {
-        let left = self.simple(faults, &c.left, only_constants)?;
+        let left = self.check_simple_expression(faults, &c.left, only_constants)?;
         match &c.compared {
             None => Ok(left),
             Some(compared) => {
                 let compared: &Comparison = compared;
-                let right = self.simple(faults, &compared.right, only_constants)?;
-                self.relate(faults, compared.relation, left, right)
+                let right = self.check_simple_expression(faults, &compared.right, only_constants)?;
+                self.check_relation(faults, compared.relation, left, right)
             }
         }
     }
 
     /// Reports the faults of a relation between two operands, and returns its operand.
-    fn relate(
+    fn check_relation(
         &self,
         faults: &mut Vec<Fault>,
         relation: Relation,
@@ -279,33 +279,33 @@ impl<'t> Supposed<'t> {
             (relate_operands (facts_in self.now false) relation (operand_of left)
             (operand_of right))) }
     {
-        let wanted = required_by_relation(relation, left.of);
+        let wanted = relation_operand_type(relation, left.of);
         let of = self.require_both(faults, wanted, left, right)?;
         let value = operators::value_of_relation(relation, left.value, right.value);
-        Ok(left.with(right, truth_of(of), value))
+        Ok(left.join_operand(right, type_of_comparison(of), value))
     }
 
     #[cycle(expressions)]
-    fn simple(
+    fn check_simple_expression(
         &self,
         faults: &mut Vec<Fault>,
-        s: &Simple,
+        s: &SimpleExpression,
         only_constants: bool,
     ) -> Result<Operand, AllocError>
         ensures { IfOk result (λ o. ReportsAfter faults.old.items faults.new.items (operand_of o)
             (reported_simple (facts_in self.now only_constants) (simple_of s.now))) }
     {
-        let first = self.term(faults, &s.first, only_constants)?;
-        let mut so_far = self.sign(faults, s.sign, first)?;
+        let first = self.check_term(faults, &s.first, only_constants)?;
+        let mut so_far = self.check_sign(faults, s.sign, first)?;
         for addend in &s.more {
-            let right = self.term(faults, &addend.term, only_constants)?;
-            so_far = self.add(faults, addend.operator, so_far, right)?;
+            let right = self.check_term(faults, &addend.term, only_constants)?;
+            so_far = self.check_sum(faults, addend.operator, so_far, right)?;
         }
         Ok(so_far)
     }
 
     /// Reports the faults of `+`, `-` or OR between two operands, and returns the resulting operand.
-    fn add(
+    fn check_sum(
         &self,
         faults: &mut Vec<Fault>,
         operator: AddOperator,
@@ -316,14 +316,14 @@ impl<'t> Supposed<'t> {
             (add_operands (facts_in self.now false) operator (operand_of left)
             (operand_of right))) }
     {
-        let of = self.require_both(faults, required_by_add(operator), left, right)?;
+        let of = self.require_both(faults, add_operand_type(operator), left, right)?;
         let value = operators::value_of_sum(operator, left.value, right.value);
-        Ok(left.with(right, of, value))
+        Ok(left.join_operand(right, of, value))
     }
 
     /// Reports the fault of a sign, which requires INTEGER, and returns the signed operand. Without a sign it returns
     /// the operand unchanged.
-    fn sign(
+    fn check_sign(
         &self,
         faults: &mut Vec<Fault>,
         sign: Option<Sign>,
@@ -335,15 +335,15 @@ impl<'t> Supposed<'t> {
         match sign {
             None => Ok(operand),
             Some(sign) => {
-                let of = self.require(faults, TypeId::Integer, operand)?;
-                let value = operators::with_sign(Some(sign), operand.value);
-                Ok(operand.after_sign(of, value))
+                let of = self.require_type(faults, TypeId::Integer, operand)?;
+                let value = operators::signed_value(Some(sign), operand.value);
+                Ok(operand.signed_operand(of, value))
             }
         }
     }
 
     #[cycle(expressions)]
-    fn term(
+    fn check_term(
         &self,
         faults: &mut Vec<Fault>,
         t: &Term,
@@ -352,16 +352,16 @@ impl<'t> Supposed<'t> {
         ensures { IfOk result (λ o. ReportsAfter faults.old.items faults.new.items (operand_of o)
             (reported_term (facts_in self.now only_constants) (term_of t.now))) }
     {
-        let mut so_far = self.factor(faults, &t.first, only_constants)?;
+        let mut so_far = self.check_factor(faults, &t.first, only_constants)?;
         for multiplier in &t.more {
-            let right = self.factor(faults, &multiplier.factor, only_constants)?;
-            so_far = self.multiply(faults, multiplier.operator, so_far, right)?;
+            let right = self.check_factor(faults, &multiplier.factor, only_constants)?;
+            so_far = self.check_product(faults, multiplier.operator, so_far, right)?;
         }
         Ok(so_far)
     }
 
     /// Reports the faults of `*`, DIV, MOD or `&` between two operands, and returns the resulting operand.
-    fn multiply(
+    fn check_product(
         &self,
         faults: &mut Vec<Fault>,
         operator: MultiplyOperator,
@@ -372,13 +372,13 @@ impl<'t> Supposed<'t> {
             (multiply_operands (facts_in self.now false) operator (operand_of left)
             (operand_of right))) }
     {
-        let of = self.require_both(faults, required_by_multiply(operator), left, right)?;
+        let of = self.require_both(faults, multiply_operand_type(operator), left, right)?;
         let value = operators::value_of_product(operator, left.value, right.value);
-        Ok(left.with(right, of, value))
+        Ok(left.join_operand(right, of, value))
     }
 
     #[cycle(expressions)]
-    fn factor(
+    fn check_factor(
         &self,
         faults: &mut Vec<Fault>,
         f: &Factor,
@@ -389,28 +389,28 @@ impl<'t> Supposed<'t> {
     {
         match f {
             Factor::Designator(d) => {
-                let base = self.value_named(faults, d.name, only_constants)?;
+                let base = self.operand_of_name(faults, d.name, only_constants)?;
                 if d.selectors.is_empty() {
                     Ok(base)
                 } else {
                     self.apply_selectors(faults, base, d, only_constants)
                 }
             }
-            Factor::Integer(token) => Ok(self.integer(*token)),
+            Factor::Integer(token) => Ok(self.integer_operand(*token)),
             Factor::Parenthesised(e) => {
-                let inside = self.expression(faults, e, only_constants)?;
-                Ok(self.in_parentheses(inside))
+                let inside = self.check_expression(faults, e, only_constants)?;
+                Ok(self.parenthesised_operand(inside))
             }
             Factor::Not(f) => {
-                let operand = self.factor(faults, f, only_constants)?;
-                self.complement(faults, operand)
+                let operand = self.check_factor(faults, f, only_constants)?;
+                self.check_negation(faults, operand)
             }
         }
     }
 
     /// Returns the operand of the number at this token.
-    fn integer(&self, token: usize) -> Operand
-        ensures { operand_of result ≡ a_number (facts_in self.now false) token }
+    fn integer_operand(&self, token: usize) -> Operand
+        ensures { operand_of result ≡ number_operand (facts_in self.now false) token }
     {
         let number = number_at(self.resolved.tokens(), token);
         Operand {
@@ -423,8 +423,8 @@ impl<'t> Supposed<'t> {
     }
 
     /// Returns the operand of an expression in parentheses, given the operand `inside` them.
-    fn in_parentheses(&self, inside: Operand) -> Operand
-        ensures { operand_of result ≡ enclosed (facts_in self.now false) (operand_of inside) }
+    fn parenthesised_operand(&self, inside: Operand) -> Operand
+        ensures { operand_of result ≡ operand_in_parentheses (facts_in self.now false) (operand_of inside) }
     {
         Operand {
             of: inside.of,
@@ -436,17 +436,21 @@ impl<'t> Supposed<'t> {
     }
 
     /// Reports the fault of `~`, which requires BOOLEAN, and returns the resulting operand.
-    fn complement(&self, faults: &mut Vec<Fault>, operand: Operand) -> Result<Operand, AllocError>
+    fn check_negation(
+        &self,
+        faults: &mut Vec<Fault>,
+        operand: Operand,
+    ) -> Result<Operand, AllocError>
         ensures { IfOk result (λ o. ReportsAfter faults.old.items faults.new.items (operand_of o)
             (complement_operand (facts_in self.now false) (operand_of operand))) }
     {
-        let of = self.require(faults, TypeId::Boolean, operand)?;
-        Ok(operand.after_sign(of, operators::complement(operand.value)))
+        let of = self.require_type(faults, TypeId::Boolean, operand)?;
+        Ok(operand.signed_operand(of, operators::complement(operand.value)))
     }
 
     /// Returns the operand of a name that must refer to a value: a constant, or a variable unless `only_constants` is
     /// true. A type, a procedure or an excluded variable is reported.
-    fn value_named(
+    fn operand_of_name(
         &self,
         faults: &mut Vec<Fault>,
         token: usize,
@@ -462,23 +466,23 @@ impl<'t> Supposed<'t> {
             first: token,
             last: token,
         };
-        match self.meaning(token) {
+        match self.meaning_of_name(token) {
             None => Ok(unknown),
             Some(meaning) => match meaning {
-                Meaning::Constant(value) => Ok(constant(*value, token)),
+                Meaning::Constant(value) => Ok(constant_operand(*value, token)),
                 Meaning::Variable(of) => {
                     if only_constants {
-                        self.report_at(faults, Code::NotConstant, token)?;
+                        self.report_at(faults, FaultCode::NotConstant, token)?;
                         return Ok(unknown);
                     }
-                    Ok(unknown.part(*of, token))
+                    Ok(unknown.designator_part(*of, token))
                 }
                 Meaning::Named(_) => {
-                    self.report_at(faults, Code::WrongKind, token)?;
+                    self.report_at(faults, FaultCode::WrongKind, token)?;
                     Ok(unknown)
                 }
                 Meaning::Procedure(_) => {
-                    self.report_at(faults, Code::WrongKind, token)?;
+                    self.report_at(faults, FaultCode::WrongKind, token)?;
                     Ok(unknown)
                 }
             },
@@ -500,7 +504,7 @@ impl<'t> Supposed<'t> {
     {
         let mut so_far = base;
         for selector in &d.selectors {
-            so_far = self.select(faults, so_far, selector, only_constants)?;
+            so_far = self.check_selector(faults, so_far, selector, only_constants)?;
         }
         Ok(so_far)
     }
@@ -508,7 +512,7 @@ impl<'t> Supposed<'t> {
     /// Returns the operand of a designator with one more selector, and reports this selector's
     /// faults. `base` is the operand of the designator without this selector.
     #[cycle(expressions)]
-    fn select(
+    fn check_selector(
         &self,
         faults: &mut Vec<Fault>,
         base: Operand,
@@ -522,7 +526,7 @@ impl<'t> Supposed<'t> {
         match selector {
             Selector::Field(name) => self.select_field(faults, base, *name),
             Selector::Index(e) => {
-                let index = self.expression(faults, e, only_constants)?;
+                let index = self.check_expression(faults, e, only_constants)?;
                 self.select_element(faults, base, index)
             }
         }
@@ -537,16 +541,16 @@ impl<'t> Supposed<'t> {
         index: Operand,
     ) -> Result<Operand, AllocError>
         ensures { IfOk result (λ o. ReportsAfter faults.old.items faults.new.items (operand_of o)
-            (element_selected (facts_in self.now false) (operand_of base) (operand_of index))) }
+            (element_operand (facts_in self.now false) (operand_of base) (operand_of index))) }
     {
-        let index_type = self.require(faults, TypeId::Integer, index)?;
-        let of = self.element(faults, base.of, index, index_type)?;
-        Ok(base.part(of, self.token_after(index.last)))
+        let index_type = self.require_type(faults, TypeId::Integer, index)?;
+        let of = self.array_element_type(faults, base.of, index, index_type)?;
+        Ok(base.designator_part(of, self.token_after(index.last)))
     }
 
     /// Returns the type of an element of the type `base`, and reports `NotArray` if `base` is known and isn't an array.
     /// The result is unknown if `index_type` isn't INTEGER.
-    fn element(
+    fn array_element_type(
         &self,
         faults: &mut Vec<Fault>,
         base: TypeId,
@@ -554,31 +558,31 @@ impl<'t> Supposed<'t> {
         index_type: TypeId,
     ) -> Result<TypeId, AllocError>
         ensures { IfOk result (λ t. ReportsAfter faults.old.items faults.new.items t
-            (element_in (facts_in self.now false) (operand_of index) index_type
+            (element_type_in_form (facts_in self.now false) (operand_of index) index_type
             (form_in self.now.composites.items base))) }
     {
         match base {
             TypeId::Array(place) => {
                 if same_type(index_type, TypeId::Integer) {
-                    Ok(self.elements(place))
+                    Ok(self.element_type_at(place))
                 } else {
                     Ok(TypeId::Unknown)
                 }
             }
             TypeId::Unknown => Ok(TypeId::Unknown),
-            TypeId::Integer => self.no_array(faults, index),
-            TypeId::Boolean => self.no_array(faults, index),
-            TypeId::Record(_) => self.no_array(faults, index),
+            TypeId::Integer => self.report_no_array(faults, index),
+            TypeId::Boolean => self.report_no_array(faults, index),
+            TypeId::Record(_) => self.report_no_array(faults, index),
         }
     }
 
     /// Reports `NotArray` at the `[` before the index, and returns the unknown type.
-    fn no_array(&self, faults: &mut Vec<Fault>, index: Operand) -> Result<TypeId, AllocError>
+    fn report_no_array(&self, faults: &mut Vec<Fault>, index: Operand) -> Result<TypeId, AllocError>
         ensures { IfOk result (λ t. ReportsAfter faults.old.items faults.new.items t
-            (element_in (facts_in self.now false) (operand_of index) type.Integer
+            (element_type_in_form (facts_in self.now false) (operand_of index) type.Integer
             (form_in [] type.Integer))) }
     {
-        self.report_at(faults, Code::NotArray, index.first.saturating_sub(1))?;
+        self.report_at(faults, FaultCode::NotArray, index.first.saturating_sub(1))?;
         Ok(TypeId::Unknown)
     }
 
@@ -591,10 +595,10 @@ impl<'t> Supposed<'t> {
         name: usize,
     ) -> Result<Operand, AllocError>
         ensures { IfOk result (λ o. ReportsAfter faults.old.items faults.new.items (operand_of o)
-            (field_selected (facts_in self.now false) (operand_of base) name)) }
+            (field_operand (facts_in self.now false) (operand_of base) name)) }
     {
         let of = self.field_type(faults, base.of, name)?;
-        Ok(base.part(of, name))
+        Ok(base.designator_part(of, name))
     }
 
     /// Returns the type of the field at the token `name` in the type `base`, and reports `NotRecord` or `NoField`. The
@@ -606,29 +610,29 @@ impl<'t> Supposed<'t> {
         name: usize,
     ) -> Result<TypeId, AllocError>
         ensures { IfOk result (λ t. ReportsAfter faults.old.items faults.new.items t
-            (field_in (facts_in self.now false) name (form_in self.now.composites.items base))) }
+            (field_type_in_form (facts_in self.now false) name (form_in self.now.composites.items base))) }
     {
         match base {
-            TypeId::Record(place) => match self.field(place, self.text(name)) {
+            TypeId::Record(place) => match self.field_type_at(place, self.text(name)) {
                 Some(of) => Ok(of),
                 None => {
-                    self.report_at(faults, Code::NoField, name)?;
+                    self.report_at(faults, FaultCode::NoField, name)?;
                     Ok(TypeId::Unknown)
                 }
             },
             TypeId::Unknown => Ok(TypeId::Unknown),
-            TypeId::Integer => self.no_record(faults, name),
-            TypeId::Boolean => self.no_record(faults, name),
-            TypeId::Array(_) => self.no_record(faults, name),
+            TypeId::Integer => self.report_no_record(faults, name),
+            TypeId::Boolean => self.report_no_record(faults, name),
+            TypeId::Array(_) => self.report_no_record(faults, name),
         }
     }
 
     /// Reports `NotRecord` at the `.` before the field's name, and returns the unknown type.
-    fn no_record(&self, faults: &mut Vec<Fault>, name: usize) -> Result<TypeId, AllocError>
+    fn report_no_record(&self, faults: &mut Vec<Fault>, name: usize) -> Result<TypeId, AllocError>
         ensures { IfOk result (λ t. ReportsAfter faults.old.items faults.new.items t
-            (field_in (facts_in self.now false) name (form_in [] type.Integer))) }
+            (field_type_in_form (facts_in self.now false) name (form_in [] type.Integer))) }
     {
-        self.report_at(faults, Code::NotRecord, name.saturating_sub(1))?;
+        self.report_at(faults, FaultCode::NotRecord, name.saturating_sub(1))?;
         Ok(TypeId::Unknown)
     }
 
@@ -642,8 +646,8 @@ impl<'t> Supposed<'t> {
             (option_map scalar_value v)
             (reported_constant (facts_in self.now true) (expression_of e.now))) }
     {
-        let constant = self.expression(faults, e, true)?;
-        self.operand_value(faults, constant)
+        let constant_operand = self.check_expression(faults, e, true)?;
+        self.operand_value(faults, constant_operand)
     }
 
     /// Returns the value of a constant expression, or reports `ConstFault` if its evaluation fails. If the expression's
@@ -651,27 +655,27 @@ impl<'t> Supposed<'t> {
     fn operand_value(
         &self,
         faults: &mut Vec<Fault>,
-        constant: Operand,
+        constant_operand: Operand,
     ) -> Result<Option<Scalar>, AllocError>
         ensures { IfOk result (λ v. ReportsAfter faults.old.items faults.new.items
             (option_map scalar_value v)
-            (operand_value (facts_in self.now false) (operand_of constant))) }
+            (operand_value (facts_in self.now false) (operand_of constant_operand))) }
     {
-        if same_type(constant.of, TypeId::Unknown) {
+        if same_type(constant_operand.of, TypeId::Unknown) {
             return Ok(None);
         }
-        if constant.value.is_none() {
-            self.report_operand(faults, Code::ConstFault, constant)?;
+        if constant_operand.value.is_none() {
+            self.report_at_operand(faults, FaultCode::ConstFault, constant_operand)?;
         }
-        Ok(constant.value)
+        Ok(constant_operand.value)
     }
 }
 
 /// Returns the operand of a constant's name at a token. The constant has this value, or None if its declaration has a
 /// fault.
-fn constant(value: Option<Scalar>, token: usize) -> Operand
+fn constant_operand(value: Option<Scalar>, token: usize) -> Operand
     ensures { operand_of result
-        ≡ a_constant_name (known_types []) (option_map scalar_value value) token }
+        ≡ constant_name_operand (known_types []) (option_map scalar_value value) token }
 {
     Operand {
         of: constant_type(value),

@@ -2,11 +2,11 @@
 
 ghost use Rattle.std.specs.Prelude.{◌≡◌, IfOk, Some, map, option_map, slice_set};
 ghost use Rattle.ob0_types_table.specs.declared.known.Object.TheVariants as kind;
-ghost use Rattle.ob0_types_check.specs.SupposedFacts.{table_object, with_standards};
+ghost use Rattle.ob0_types_check.specs.CheckerFacts.{table_object, with_standard_procedures};
 
-use crate::reporting::supposed::Meaning;
-use ob0_scope_table::{READ, WRITE, WRITE_LN};
-use ob0_types_table::{Object, Standard};
+use crate::reporting::checker_state::Meaning;
+use ob0_scope_table::{READ_ORDINAL, WRITE_LN_ORDINAL, WRITE_ORDINAL};
+use ob0_types_table::{Object, StandardProcedure};
 use std::alloc::{AllocError, Global};
 
 /// Returns the objects of declarations with these meanings, in the same order. A declaration without a meaning has no
@@ -52,20 +52,24 @@ fn object_of(meaning: Meaning) -> Object
 
 /// Replaces the objects of Read, Write and WriteLn by standard procedures. During the walk they are ordinary procedures
 /// with parameters, so that their arguments are checked like any others.
-pub(crate) fn define_standards(objects: &mut Vec<Option<Object>>)
-    ensures { objects.new.items ≡ with_standards objects.old.items }
+pub(crate) fn define_standard_procedures(objects: &mut Vec<Option<Object>>)
+    ensures { objects.new.items ≡ with_standard_procedures objects.old.items }
 {
-    define_standard(objects, READ, Standard::Read);
-    define_standard(objects, WRITE, Standard::Write);
-    define_standard(objects, WRITE_LN, Standard::WriteLn);
+    define_standard_procedure(objects, READ_ORDINAL, StandardProcedure::Read);
+    define_standard_procedure(objects, WRITE_ORDINAL, StandardProcedure::Write);
+    define_standard_procedure(objects, WRITE_LN_ORDINAL, StandardProcedure::WriteLn);
 }
 
 /// Replaces the object with this ordinal by a standard procedure. If there is no such ordinal, nothing changes.
-fn define_standard(objects: &mut Vec<Option<Object>>, ordinal: usize, standard: Standard)
+fn define_standard_procedure(
+    objects: &mut Vec<Option<Object>>,
+    ordinal: usize,
+    standard: StandardProcedure,
+)
     ensures { objects.new.items
-        ≡ slice_set objects.old.items ordinal (Some (kind.Standard standard)) }
+        ≡ slice_set objects.old.items ordinal (Some (kind.StandardProcedure standard)) }
 {
     if ordinal < objects.len() {
-        objects[ordinal] = Some(Object::Standard(standard));
+        objects[ordinal] = Some(Object::StandardProcedure(standard));
     }
 }

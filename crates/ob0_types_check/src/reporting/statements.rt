@@ -1,101 +1,101 @@
 //! Reports the faults of statements.
 
 ghost use Rattle.std.specs.Prelude.{◌≡◌, ◌++◌, false, map, IfOk, OnOk, Some};
-ghost use Rattle.ob0_scan.specs.declared.fault.Code.TheVariants as code;
-ghost use Rattle.ob0_tree.specs.View.{assignment_of, call_of, elsifs_in, expression_of, if_of, sequence_in, statement_of};
+ghost use Rattle.ob0_scan.specs.declared.fault.FaultCode.TheVariants as code;
+ghost use Rattle.ob0_tree.specs.View.{assignment_of, call_of, elsifs_of_vec, expression_of, if_of, sequence_of_vec, statement_of};
 ghost use Rattle.ob0_types_check.specs.Known.{a_procedure};
-ghost use Rattle.ob0_types_check.specs.Operations.{ReportsAfter, at_token};
-ghost use Rattle.ob0_types_check.specs.StatementFaults.{target_meaning, call_by_meaning, passed, reported_argument, reported_required, reported_call, reported_condition, reported_elsifs, reported_parts, reported_sequence, reported_statement};
-ghost use Rattle.ob0_types_check.specs.SupposedFacts.{facts_in, formal_of, operand_of};
+ghost use Rattle.ob0_types_check.specs.Operations.{ReportsAfter, fault_at_token};
+ghost use Rattle.ob0_types_check.specs.StatementFaults.{target_name_type, reported_call_by_meaning, required_of_argument, reported_argument, reported_required, reported_call, reported_condition, reported_elsifs, reported_untyped_arguments, reported_sequence, reported_statement};
+ghost use Rattle.ob0_types_check.specs.CheckerFacts.{facts_in, formal_of, operand_of};
 
+use crate::reporting::checker_state::{CheckerState, Meaning};
 use crate::reporting::expressions::Operand;
-use crate::reporting::supposed::{Meaning, Supposed};
-use ob0_scan::{Code, Fault};
+use ob0_scan::{Fault, FaultCode};
 use ob0_tree::{Assignment, Call, Elsif, Expression, If, Repeat, Statement, While};
-use ob0_types_table::{Formal, TypeId};
+use ob0_types_table::{FormalParameter, TypeId};
 use std::alloc::AllocError;
 
-impl<'t> Supposed<'t> {
+impl<'t> CheckerState<'t> {
     /// Reports the faults of a sequence of statements, one statement after another.
     #[cycle(statements)]
-    pub(crate) fn sequence(
+    pub(crate) fn report_sequence(
         &self,
         faults: &mut Vec<Fault>,
         statements: &Vec<Statement>,
     ) -> Result<(), AllocError>
         ensures { OnOk result (faults.new.items
             ≡ faults.old.items
-            ++ reported_sequence (facts_in self.now false) (sequence_in statements.now)) }
+            ++ reported_sequence (facts_in self.now false) (sequence_of_vec statements.now)) }
     {
         for s in statements {
-            self.statement(faults, s)?;
+            self.report_statement(faults, s)?;
         }
         Ok(())
     }
 
     /// Reports the faults of a statement, including the statements inside it.
     #[cycle(statements)]
-    fn statement(&self, faults: &mut Vec<Fault>, s: &Statement) -> Result<(), AllocError>
+    fn report_statement(&self, faults: &mut Vec<Fault>, s: &Statement) -> Result<(), AllocError>
         ensures { OnOk result (faults.new.items
             ≡ faults.old.items
             ++ reported_statement (facts_in self.now false) (statement_of s.now)) }
     {
         match s {
             Statement::Empty => Ok(()),
-            Statement::Assign(a) => self.assignment(faults, a),
-            Statement::Call(c) => self.call(faults, c),
-            Statement::If(i) => self.branches(faults, i),
+            Statement::Assign(a) => self.report_assignment(faults, a),
+            Statement::Call(c) => self.report_call_statement(faults, c),
+            Statement::If(i) => self.report_if_statement(faults, i),
             Statement::While(w) => {
                 let w: &While = w;
-                self.condition(faults, &w.condition)?;
-                self.sequence(faults, &w.body)
+                self.report_condition(faults, &w.condition)?;
+                self.report_sequence(faults, &w.body)
             }
             Statement::Repeat(r) => {
                 let r: &Repeat = r;
-                self.sequence(faults, &r.body)?;
-                self.condition(faults, &r.condition)
+                self.report_sequence(faults, &r.body)?;
+                self.report_condition(faults, &r.condition)
             }
         }
     }
 
     /// Reports the faults of an IF statement with its ELSIF and ELSE parts.
     #[cycle(statements)]
-    fn branches(&self, faults: &mut Vec<Fault>, i: &If) -> Result<(), AllocError>
+    fn report_if_statement(&self, faults: &mut Vec<Fault>, i: &If) -> Result<(), AllocError>
         ensures { OnOk result (faults.new.items
             ≡ faults.old.items ++ reported_statement (facts_in self.now false) (if_of i.now)) }
     {
-        self.condition(faults, &i.condition)?;
-        self.sequence(faults, &i.then)?;
-        self.elsifs(faults, &i.elsifs)?;
+        self.report_condition(faults, &i.condition)?;
+        self.report_sequence(faults, &i.then)?;
+        self.report_elsifs(faults, &i.elsifs)?;
         match &i.otherwise {
             None => Ok(()),
-            Some(statements) => self.sequence(faults, statements),
+            Some(statements) => self.report_sequence(faults, statements),
         }
     }
 
     #[cycle(statements)]
-    fn elsifs(&self, faults: &mut Vec<Fault>, parts: &Vec<Elsif>) -> Result<(), AllocError>
+    fn report_elsifs(&self, faults: &mut Vec<Fault>, parts: &Vec<Elsif>) -> Result<(), AllocError>
         ensures { OnOk result (faults.new.items
-            ≡ faults.old.items ++ reported_elsifs (facts_in self.now false) (elsifs_in parts.now)) }
+            ≡ faults.old.items ++ reported_elsifs (facts_in self.now false) (elsifs_of_vec parts.now)) }
     {
         for part in parts {
-            self.condition(faults, &part.condition)?;
-            self.sequence(faults, &part.then)?;
+            self.report_condition(faults, &part.condition)?;
+            self.report_sequence(faults, &part.then)?;
         }
         Ok(())
     }
 
     /// Reports the faults of a condition, which must be BOOLEAN.
-    fn condition(&self, faults: &mut Vec<Fault>, e: &Expression) -> Result<(), AllocError>
+    fn report_condition(&self, faults: &mut Vec<Fault>, e: &Expression) -> Result<(), AllocError>
         ensures { OnOk result (faults.new.items
             ≡ faults.old.items
             ++ reported_condition (facts_in self.now false) (expression_of e.now)) }
     {
-        self.right_side(faults, TypeId::Boolean, e)
+        self.check_typed_expression(faults, TypeId::Boolean, e)
     }
 
     /// Reports the faults of an expression that must have the type `wanted`.
-    fn right_side(
+    fn check_typed_expression(
         &self,
         faults: &mut Vec<Fault>,
         wanted: TypeId,
@@ -105,14 +105,14 @@ impl<'t> Supposed<'t> {
             ≡ faults.old.items
             ++ reported_required (facts_in self.now false) wanted (expression_of e.now)) }
     {
-        let operand = self.expression(faults, e, false)?;
-        self.require(faults, wanted, operand)?;
+        let operand = self.check_expression(faults, e, false)?;
+        self.require_type(faults, wanted, operand)?;
         Ok(())
     }
 
     /// Reports the faults of an assignment. If the target has a fault, its type is unknown, so the
     /// right side may have any type.
-    fn assignment(&self, faults: &mut Vec<Fault>, a: &Assignment) -> Result<(), AllocError>
+    fn report_assignment(&self, faults: &mut Vec<Fault>, a: &Assignment) -> Result<(), AllocError>
         ensures { OnOk result (faults.new.items
             ≡ faults.old.items
             ++ reported_statement (facts_in self.now false) (assignment_of a.now)) }
@@ -126,36 +126,36 @@ impl<'t> Supposed<'t> {
             last: token,
         };
         let target = self.apply_selectors(faults, base, &a.target, false)?;
-        self.right_side(faults, target.of, &a.value)
+        self.check_typed_expression(faults, target.of, &a.value)
     }
 
     /// Returns the type of the variable or parameter that an assignment's name refers to. A name with another meaning
     /// is reported. Without a known meaning nothing is reported. The type is unknown in both cases.
     fn target_type(&self, faults: &mut Vec<Fault>, token: usize) -> Result<TypeId, AllocError>
         ensures { IfOk result (λ t. ReportsAfter faults.old.items faults.new.items t
-            (target_meaning (facts_in self.now false) token)) }
+            (target_name_type (facts_in self.now false) token)) }
     {
-        match self.meaning(token) {
+        match self.meaning_of_name(token) {
             None => Ok(TypeId::Unknown),
             Some(meaning) => match meaning {
                 Meaning::Variable(of) => Ok(*of),
                 Meaning::Constant(_) => {
-                    self.report_at(faults, Code::NotVariable, token)?;
+                    self.report_at(faults, FaultCode::NotVariable, token)?;
                     Ok(TypeId::Unknown)
                 }
                 Meaning::Named(_) => {
-                    self.report_at(faults, Code::WrongKind, token)?;
+                    self.report_at(faults, FaultCode::WrongKind, token)?;
                     Ok(TypeId::Unknown)
                 }
                 Meaning::Procedure(_) => {
-                    self.report_at(faults, Code::WrongKind, token)?;
+                    self.report_at(faults, FaultCode::WrongKind, token)?;
                     Ok(TypeId::Unknown)
                 }
             },
         }
     }
 
-    fn call(&self, faults: &mut Vec<Fault>, call: &Call) -> Result<(), AllocError>
+    fn report_call_statement(&self, faults: &mut Vec<Fault>, call: &Call) -> Result<(), AllocError>
         ensures { OnOk result (faults.new.items
             ≡ faults.old.items ++ reported_statement (facts_in self.now false) (call_of call.now)) }
     {
@@ -178,21 +178,21 @@ impl<'t> Supposed<'t> {
             ++ reported_call (facts_in self.now false) procedure
             (map expression_of arguments.now)) }
     {
-        match self.meaning(procedure) {
-            None => self.parts(faults, arguments),
+        match self.meaning_of_name(procedure) {
+            None => self.report_untyped_arguments(faults, arguments),
             Some(meaning) => match meaning {
                 Meaning::Procedure(formals) => {
-                    self.arguments(faults, procedure, formals.as_slice(), arguments)
+                    self.report_arguments(faults, procedure, formals.as_slice(), arguments)
                 }
-                Meaning::Named(_) => self.no_procedure(faults, procedure, arguments),
-                Meaning::Constant(_) => self.no_procedure(faults, procedure, arguments),
-                Meaning::Variable(_) => self.no_procedure(faults, procedure, arguments),
+                Meaning::Named(_) => self.report_no_procedure(faults, procedure, arguments),
+                Meaning::Constant(_) => self.report_no_procedure(faults, procedure, arguments),
+                Meaning::Variable(_) => self.report_no_procedure(faults, procedure, arguments),
             },
         }
     }
 
     /// Reports that a called name isn't a procedure's, and then the faults of the arguments, which may have any type.
-    fn no_procedure(
+    fn report_no_procedure(
         &self,
         faults: &mut Vec<Fault>,
         procedure: usize,
@@ -200,53 +200,57 @@ impl<'t> Supposed<'t> {
     ) -> Result<(), AllocError>
         ensures { OnOk result (faults.new.items
             ≡ faults.old.items
-            ++ (at_token (facts_in self.now false) code.WrongKind procedure
-            ++ reported_parts (facts_in self.now false) (map expression_of arguments.now))) }
+            ++ (fault_at_token (facts_in self.now false) code.WrongKind procedure
+            ++ reported_untyped_arguments (facts_in self.now false) (map expression_of arguments.now))) }
     {
-        self.report_at(faults, Code::WrongKind, procedure)?;
-        self.parts(faults, arguments)
+        self.report_at(faults, FaultCode::WrongKind, procedure)?;
+        self.report_untyped_arguments(faults, arguments)
     }
 
     /// Reports the faults of arguments that may have any type.
-    fn parts(&self, faults: &mut Vec<Fault>, arguments: &[Expression]) -> Result<(), AllocError>
+    fn report_untyped_arguments(
+        &self,
+        faults: &mut Vec<Fault>,
+        arguments: &[Expression],
+    ) -> Result<(), AllocError>
         ensures { OnOk result (faults.new.items
             ≡ faults.old.items
-            ++ reported_parts (facts_in self.now false) (map expression_of arguments.now)) }
+            ++ reported_untyped_arguments (facts_in self.now false) (map expression_of arguments.now)) }
     {
         for e in arguments {
-            self.expression(faults, e, false)?;
+            self.check_expression(faults, e, false)?;
         }
         Ok(())
     }
 
     /// Reports the faults of a procedure call's arguments. If the number of arguments is wrong, that is the only fault
     /// reported.
-    fn arguments(
+    fn report_arguments(
         &self,
         faults: &mut Vec<Fault>,
         procedure: usize,
-        formals: &[Formal],
+        formals: &[FormalParameter],
         arguments: &[Expression],
     ) -> Result<(), AllocError>
         ensures { OnOk result (faults.new.items
             ≡ faults.old.items
-            ++ call_by_meaning (facts_in self.now false) procedure
+            ++ reported_call_by_meaning (facts_in self.now false) procedure
             (Some (a_procedure (map formal_of formals.now))) (map expression_of arguments.now)) }
     {
         if formals.len() != arguments.len() {
-            return self.report_at(faults, Code::ArgumentCount, procedure);
+            return self.report_at(faults, FaultCode::ArgumentCount, procedure);
         }
         for (formal, e) in formals.iter().zip(arguments.iter()) {
-            self.argument(faults, formal, e)?;
+            self.report_argument(faults, formal, e)?;
         }
         Ok(())
     }
 
     /// Reports the faults of one argument, including a mismatch with its formal parameter.
-    fn argument(
+    fn report_argument(
         &self,
         faults: &mut Vec<Fault>,
-        formal: &Formal,
+        formal: &FormalParameter,
         e: &Expression,
     ) -> Result<(), AllocError>
         ensures { OnOk result (faults.new.items
@@ -254,26 +258,26 @@ impl<'t> Supposed<'t> {
             ++ reported_argument (facts_in self.now false) (formal_of formal.now)
             (expression_of e.now)) }
     {
-        let operand = self.expression(faults, e, false)?;
-        self.pass(faults, formal, operand)?;
+        let operand = self.check_expression(faults, e, false)?;
+        self.check_argument_operand(faults, formal, operand)?;
         Ok(())
     }
 
     /// Reports a mismatch of an argument's operand with its formal parameter. Returns the parameter's type if the
     /// operand has it, otherwise the unknown type.
-    fn pass(
+    fn check_argument_operand(
         &self,
         faults: &mut Vec<Fault>,
-        formal: &Formal,
+        formal: &FormalParameter,
         operand: Operand,
     ) -> Result<TypeId, AllocError>
         ensures { IfOk result (λ t. ReportsAfter faults.old.items faults.new.items t
-            (passed (facts_in self.now false) (formal_of formal.now) (operand_of operand))) }
+            (required_of_argument (facts_in self.now false) (formal_of formal.now) (operand_of operand))) }
     {
         if formal.by_place && !operand.is_place {
-            self.report_operand(faults, Code::NotVariable, operand)?;
+            self.report_at_operand(faults, FaultCode::NotVariable, operand)?;
             return Ok(TypeId::Unknown);
         }
-        self.require(faults, formal.of, operand)
+        self.require_type(faults, formal.of, operand)
     }
 }

@@ -3,22 +3,22 @@
 ghost use Rattle.std.specs.Prelude.{◌≡◌, ◌∷◌, ◌++◌, [], false, IfOk, OnOk, Some};
 ghost use Rattle.ob0_types_table.specs.declared.types.TypeId.TheVariants as type;
 ghost use Rattle.ob0_tree.specs.Tree.{array_type, some_fields};
-ghost use Rattle.ob0_tree.specs.View.{expression_of, fields_of, further_fields_of_group, items_of, names_of, record_in, type_of};
+ghost use Rattle.ob0_tree.specs.View.{expression_of, fields_of, further_fields_of_group, items_of, names_of, record_type_of, type_of};
 ghost use Rattle.ob0_language_types.specs.Typing.{array_length};
 ghost use Rattle.ob0_language_values.specs.Scalars.{scalar_value};
 ghost use Rattle.ob0_types_check.specs.Known.{a_variable};
 ghost use Rattle.ob0_types_check.specs.Operations.{ReportsAfter};
-ghost use Rattle.ob0_types_check.specs.SoFar.{no_scalar};
-ghost use Rattle.ob0_types_check.specs.SupposedFacts.{Gathers, IsGathered, facts_in, fields_in, operand_of, size_of, so_far_in};
-ghost use Rattle.ob0_types_check.specs.TypeFaults.{length_of, type_meant, type_named};
-ghost use Rattle.ob0_types_check.specs.WrittenTypeFaults.{array_made, nothing_gathered, record_made, record_word, reported_fields, reported_groups, reported_type, with_name, with_field_names};
+ghost use Rattle.ob0_types_check.specs.KnownDeclarations.{empty_size};
+ghost use Rattle.ob0_types_check.specs.CheckerFacts.{AddsKnownFields, HasKnownFields, facts_in, fields_in, operand_of, size_of, declarations_in_state};
+ghost use Rattle.ob0_types_check.specs.TypeFaults.{length_of, type_by_meaning, type_named_at};
+ghost use Rattle.ob0_types_check.specs.WrittenTypeFaults.{made_array_type, no_known_fields, made_record_type, record_keyword, reported_fields, reported_groups, reported_type, with_known_field, with_known_fields};
 ghost use Rattle.ob0_types_check.specs.WrittenTypeFaults as spec;
 
 use crate::reporting::Reporter;
+use crate::reporting::checker_state::{CheckerState, Meaning, Size, UNKNOWN_SIZE, sum_or_error};
 use crate::reporting::expressions::{Operand, same_type};
-use crate::reporting::supposed::{Meaning, NOTHING, Size, Supposed, sum};
 use ob0_language_values::Scalar;
-use ob0_scan::{Code, Fault};
+use ob0_scan::{Fault, FaultCode};
 use ob0_tree::{ArrayType, FieldGroup, Fields, Names, RecordType, WrittenType};
 use ob0_types_table::{ArrayShape, Field, FieldTable, MAX_SCALARS, RecordShape, TypeEntry, TypeId};
 use std::alloc::{AllocError, Global};
@@ -46,20 +46,20 @@ fn array_length(value: Scalar) -> Option<usize>
 
 /// The fields of a record found so far, in order, and their total size.
 #[derive(Drop)]
-pub(crate) struct Gathered {
+pub(crate) struct KnownFields {
     fields: Vec<Field>,
     size: Size,
 }
 
-impl Gathered {
+impl KnownFields {
     /// Returns the state in which no field has been found.
-    fn new(alloc: Global) -> Gathered
+    fn new(alloc: Global) -> KnownFields
         ensures fields { fields_in result.fields.items ≡ [] }
-        ensures size { size_of result.size ≡ no_scalar }
+        ensures size { size_of result.size ≡ empty_size }
     {
-        Gathered {
+        KnownFields {
             fields: Vec::new(alloc),
-            size: NOTHING,
+            size: UNKNOWN_SIZE,
         }
     }
 
@@ -78,8 +78,8 @@ impl Gathered {
 /// Returns the token of the word RECORD. Between this token and the first field's name there are
 /// only semicolons, one for each group without fields before that name. Returns 0 if the record has
 /// no fields.
-fn record_word(groups: &[Fields]) -> usize
-    ensures { result ≡ record_word (items_of further_fields_of_group groups.now) }
+fn record_keyword(groups: &[Fields]) -> usize
+    ensures { result ≡ record_keyword (items_of further_fields_of_group groups.now) }
 {
     for (before, group) in groups.iter().enumerate() {
         match group {
@@ -93,50 +93,54 @@ fn record_word(groups: &[Fields]) -> usize
     0
 }
 
-impl<'t> Supposed<'t> {
+impl<'t> CheckerState<'t> {
     /// Returns the type that a name refers to. A name with another meaning is reported. Without a known meaning nothing
     /// is reported. The type is unknown in both cases.
-    fn type_named(&self, faults: &mut Vec<Fault>, token: usize) -> Result<TypeId, AllocError>
+    fn type_named_at(&self, faults: &mut Vec<Fault>, token: usize) -> Result<TypeId, AllocError>
         ensures { IfOk result (λ t. ReportsAfter faults.old.items faults.new.items t
-            (type_named (facts_in self.now false) token)) }
+            (type_named_at (facts_in self.now false) token)) }
     {
-        match self.meaning(token) {
+        match self.meaning_of_name(token) {
             None => Ok(TypeId::Unknown),
             Some(meaning) => match meaning {
                 Meaning::Named(of) => Ok(*of),
-                Meaning::Constant(_) => self.no_type(faults, token),
-                Meaning::Variable(_) => self.no_type(faults, token),
-                Meaning::Procedure(_) => self.no_type(faults, token),
+                Meaning::Constant(_) => self.report_no_type(faults, token),
+                Meaning::Variable(_) => self.report_no_type(faults, token),
+                Meaning::Procedure(_) => self.report_no_type(faults, token),
             },
         }
     }
 
     /// Reports `WrongKind` at a name that isn't a type's, and returns the unknown type.
-    fn no_type(&self, faults: &mut Vec<Fault>, token: usize) -> Result<TypeId, AllocError>
+    fn report_no_type(&self, faults: &mut Vec<Fault>, token: usize) -> Result<TypeId, AllocError>
         ensures { IfOk result (λ t. ReportsAfter faults.old.items faults.new.items t
-            (type_meant (facts_in self.now false) token (Some (a_variable type.Integer)))) }
+            (type_by_meaning (facts_in self.now false) token (Some (a_variable type.Integer)))) }
     {
-        self.report_at(faults, Code::WrongKind, token)?;
+        self.report_at(faults, FaultCode::WrongKind, token)?;
         Ok(TypeId::Unknown)
     }
 
     /// Returns the length of an array, given the operand of its length expression. If the length has a fault, it is
     /// reported, and the result is None.
-    fn length(&self, faults: &mut Vec<Fault>, operand: Operand) -> Result<Option<usize>, AllocError>
+    fn check_length(
+        &self,
+        faults: &mut Vec<Fault>,
+        operand: Operand,
+    ) -> Result<Option<usize>, AllocError>
         ensures { IfOk result (λ n. ReportsAfter faults.old.items faults.new.items n
             (length_of (facts_in self.now false) (operand_of operand))) }
     {
-        let of = self.require(faults, TypeId::Integer, operand)?;
+        let of = self.require_type(faults, TypeId::Integer, operand)?;
         if !same_type(of, TypeId::Integer) {
             return Ok(None);
         }
         let Some(value) = operand.value else {
-            self.report_operand(faults, Code::ConstFault, operand)?;
+            self.report_at_operand(faults, FaultCode::ConstFault, operand)?;
             return Ok(None);
         };
         let length = array_length(value);
         if length.is_none() {
-            self.report_operand(faults, Code::ArrayLength, operand)?;
+            self.report_at_operand(faults, FaultCode::ArrayLength, operand)?;
         }
         Ok(length)
     }
@@ -144,44 +148,46 @@ impl<'t> Supposed<'t> {
 
 impl<'t> Reporter<'t> {
     /// Reports the faults of a written type and returns the type. Faulty parts of the type are unknown.
-    pub(crate) fn written_type(&mut self, t: &WrittenType) -> Result<TypeId, AllocError>
+    pub(crate) fn check_written_type(&mut self, t: &WrittenType) -> Result<TypeId, AllocError>
         ensures { IfOk result (λ of. ReportsAfter self.old.faults.items self.new.faults.items
-            (record { of = of; following = so_far_in self.new.supposed })
-            (reported_type 0 (so_far_in self.old.supposed) (type_of t.now))) }
+            (record { of = of; following = declarations_in_state self.new.checker_state })
+            (reported_type 0 (declarations_in_state self.old.checker_state) (type_of t.now))) }
     {
-        self.type_inside(t, 0)
+        self.check_nested_type(t, 0)
     }
 
     /// Reports the faults of a written type that is inside `around` words ARRAY and RECORD, and returns the type.
     #[cycle(types)]
-    fn type_inside(&mut self, t: &WrittenType, around: usize) -> Result<TypeId, AllocError>
+    fn check_nested_type(&mut self, t: &WrittenType, around: usize) -> Result<TypeId, AllocError>
         ensures { IfOk result
             (λ of. ReportsAfter self.old.faults.items self.new.faults.items
-            (record { of = of; following = so_far_in self.new.supposed })
-            (reported_type around (so_far_in self.old.supposed)
+            (record { of = of; following = declarations_in_state self.new.checker_state })
+            (reported_type around (declarations_in_state self.old.checker_state)
             (type_of t.now))) }
     {
         match t {
-            WrittenType::Named(name) => self.supposed.type_named(&mut self.faults, *name),
-            WrittenType::Array(a) => self.array(a, around),
-            WrittenType::Record(r) => self.record(r, around),
+            WrittenType::Named(name) => self.checker_state.type_named_at(&mut self.faults, *name),
+            WrittenType::Array(a) => self.check_array_type(a, around),
+            WrittenType::Record(r) => self.check_record_type(r, around),
         }
     }
 
     /// Reports the faults of an array type and returns the type. It is inside `around` words ARRAY and RECORD.
     #[cycle(types)]
-    fn array(&mut self, a: &ArrayType, around: usize) -> Result<TypeId, AllocError>
+    fn check_array_type(&mut self, a: &ArrayType, around: usize) -> Result<TypeId, AllocError>
         ensures { IfOk result
             (λ of. ReportsAfter self.old.faults.items self.new.faults.items
-            (record { of = of; following = so_far_in self.new.supposed }) (reported_type
-            around (so_far_in self.old.supposed)
+            (record { of = of; following = declarations_in_state self.new.checker_state }) (reported_type
+            around (declarations_in_state self.old.checker_state)
             (array_type (expression_of a.now.size) (type_of a.now.element.value)))) }
     {
-        let ordinal = self.supposed.ordinal_here(around)?;
-        let size = self.supposed.expression(&mut self.faults, &a.size, true)?;
-        let length = self.supposed.length(&mut self.faults, size)?;
-        let inside = sum(around, 1)?;
-        let element = self.type_inside(&a.element, inside)?;
+        let ordinal = self.checker_state.next_type_ordinal(around)?;
+        let size = self
+            .checker_state
+            .check_expression(&mut self.faults, &a.size, true)?;
+        let length = self.checker_state.check_length(&mut self.faults, size)?;
+        let inside = sum_or_error(around, 1)?;
+        let element = self.check_nested_type(&a.element, inside)?;
         self.make_array(ordinal, size, length, element)
     }
 
@@ -195,15 +201,15 @@ impl<'t> Reporter<'t> {
         element: TypeId,
     ) -> Result<TypeId, AllocError>
         ensures { IfOk result (λ of. ReportsAfter self.old.faults.items self.new.faults.items
-            (record { of = of; following = so_far_in self.new.supposed }) (array_made ordinal
+            (record { of = of; following = declarations_in_state self.new.checker_state }) (made_array_type ordinal
             (operand_of size) length
-            (record { of = element; following = so_far_in self.old.supposed }))) }
+            (record { of = element; following = declarations_in_state self.old.checker_state }))) }
     {
         match length {
             None => Ok(TypeId::Unknown),
             Some(length) => {
                 let word = size.first.saturating_sub(1);
-                let size = self.supposed.size_of(element).array(length);
+                let size = self.checker_state.size_of(element).size_of_array(length);
                 let array = ArrayShape {
                     ordinal,
                     length,
@@ -211,40 +217,44 @@ impl<'t> Reporter<'t> {
                     scalars: size.scalars,
                     depth: size.depth,
                 };
-                self.supposed
-                    .make(&mut self.faults, word, TypeEntry::Array(array))
+                self.checker_state
+                    .make_type(&mut self.faults, word, TypeEntry::Array(array))
             }
         }
     }
 
     /// Reports the faults of a record type and returns the type. It is inside `around` words ARRAY and RECORD.
     #[cycle(types)]
-    fn record(&mut self, r: &RecordType, around: usize) -> Result<TypeId, AllocError>
+    fn check_record_type(&mut self, r: &RecordType, around: usize) -> Result<TypeId, AllocError>
         ensures { IfOk result
             (λ of. ReportsAfter self.old.faults.items self.new.faults.items
-            (record { of = of; following = so_far_in self.new.supposed })
-            (reported_type around (so_far_in self.old.supposed)
-            (record_in r.now))) }
+            (record { of = of; following = declarations_in_state self.new.checker_state })
+            (reported_type around (declarations_in_state self.old.checker_state)
+            (record_type_of r.now))) }
     {
-        let ordinal = self.supposed.ordinal_here(around)?;
-        let word = record_word(&r.groups);
-        let inside = sum(around, 1)?;
-        let gathered = self.groups(r.groups.as_slice(), inside)?;
+        let ordinal = self.checker_state.next_type_ordinal(around)?;
+        let word = record_keyword(&r.groups);
+        let inside = sum_or_error(around, 1)?;
+        let gathered = self.check_field_groups(r.groups.as_slice(), inside)?;
         self.make_record(word, ordinal, gathered)
     }
 
     /// Reports the faults of all groups of fields of a record, and returns the fields.
     #[cycle(types)]
-    fn groups(&mut self, groups: &[Fields], around: usize) -> Result<Gathered, AllocError>
+    fn check_field_groups(
+        &mut self,
+        groups: &[Fields],
+        around: usize,
+    ) -> Result<KnownFields, AllocError>
         ensures { IfOk result (λ gathered.
-            Gathers self.old.faults.items self.new.faults.items self.new.supposed gathered
-            (reported_groups around (nothing_gathered
-            (so_far_in self.old.supposed))
+            AddsKnownFields self.old.faults.items self.new.faults.items self.new.checker_state gathered
+            (reported_groups around (no_known_fields
+            (declarations_in_state self.old.checker_state))
             (items_of further_fields_of_group groups.now))) }
     {
-        let mut gathered = Gathered::new(self.alloc);
+        let mut gathered = KnownFields::new(self.alloc);
         for group in groups {
-            self.group(group, &mut gathered, around)?;
+            self.check_optional_field_group(group, &mut gathered, around)?;
         }
         Ok(gathered)
     }
@@ -254,16 +264,16 @@ impl<'t> Reporter<'t> {
         &mut self,
         word: usize,
         ordinal: usize,
-        gathered: Gathered,
+        gathered: KnownFields,
     ) -> Result<TypeId, AllocError>
-        ensures { (g : spec.Gathered)
-            → IsGathered g self.old.supposed gathered
+        ensures { (g : spec.KnownFields)
+            → HasKnownFields g self.old.checker_state gathered
             → IfOk result (λ of. ReportsAfter self.old.faults.items self.new.faults.items
-            (record { of = of; following = so_far_in self.new.supposed })
-            (record_made word ordinal g)) }
+            (record { of = of; following = declarations_in_state self.new.checker_state })
+            (made_record_type word ordinal g)) }
     {
-        let Gathered { fields, size } = gathered;
-        let size = size.record();
+        let KnownFields { fields, size } = gathered;
+        let size = size.size_of_record();
         let fields = FieldTable::new(fields)?;
         let record = RecordShape {
             ordinal,
@@ -271,84 +281,84 @@ impl<'t> Reporter<'t> {
             scalars: size.scalars,
             depth: size.depth,
         };
-        self.supposed
-            .make(&mut self.faults, word, TypeEntry::Record(record))
+        self.checker_state
+            .make_type(&mut self.faults, word, TypeEntry::Record(record))
     }
 
     /// Reports the faults of one group of fields, which may be empty, and appends its fields.
     #[cycle(types)]
-    fn group(
+    fn check_optional_field_group(
         &mut self,
         group: &Fields,
-        gathered: &mut Gathered,
+        gathered: &mut KnownFields,
         around: usize,
     ) -> Result<(), AllocError>
-        ensures { OnOk result ((g : spec.Gathered)
-            → IsGathered g self.old.supposed gathered.old
-            → Gathers self.old.faults.items self.new.faults.items self.new.supposed gathered.new
+        ensures { OnOk result ((g : spec.KnownFields)
+            → HasKnownFields g self.old.checker_state gathered.old
+            → AddsKnownFields self.old.faults.items self.new.faults.items self.new.checker_state gathered.new
             (reported_fields around g (fields_of group.now))) }
     {
         match group {
             Fields::Empty => Ok(()),
-            Fields::Listed(list) => self.field_group(list, gathered, around),
+            Fields::Listed(list) => self.check_field_group(list, gathered, around),
         }
     }
 
     /// Reports the faults of a group's type, and appends a field of this type for each of its names.
     #[cycle(types)]
-    fn field_group(
+    fn check_field_group(
         &mut self,
         list: &FieldGroup,
-        gathered: &mut Gathered,
+        gathered: &mut KnownFields,
         around: usize,
     ) -> Result<(), AllocError>
-        ensures { OnOk result ((g : spec.Gathered)
-            → IsGathered g self.old.supposed gathered.old
-            → Gathers self.old.faults.items self.new.faults.items self.new.supposed gathered.new
+        ensures { OnOk result ((g : spec.KnownFields)
+            → HasKnownFields g self.old.checker_state gathered.old
+            → AddsKnownFields self.old.faults.items self.new.faults.items self.new.checker_state gathered.new
             (reported_fields around g
             (some_fields (names_of list.now.names) (type_of list.now.written)))) }
     {
-        let of = self.type_inside(&list.written, around)?;
-        self.supposed
-            .gather_all(self.alloc, &list.names, of, gathered)
+        let of = self.check_nested_type(&list.written, around)?;
+        self.checker_state
+            .add_known_fields(self.alloc, &list.names, of, gathered)
     }
 }
 
-impl<'t> Supposed<'t> {
+impl<'t> CheckerState<'t> {
     /// Appends a field of the type `of` for each of these names, and adds each field's size.
-    fn gather_all(
+    fn add_known_fields(
         &self,
         alloc: Global,
         names: &Names,
         of: TypeId,
-        gathered: &mut Gathered,
+        gathered: &mut KnownFields,
     ) -> Result<(), AllocError>
-        ensures { OnOk result ((g : spec.Gathered)
-            → IsGathered g self.now gathered.old
-            → IsGathered (with_field_names of g (names.now.first ∷ names.now.more.items)) self.now
+        ensures { OnOk result ((g : spec.KnownFields)
+            → HasKnownFields g self.now gathered.old
+            → HasKnownFields (with_known_fields of g (names.now.first ∷ names.now.more.items)) self.now
             gathered.new) }
     {
-        self.gather(alloc, names.first, of, gathered)?;
+        self.add_known_field(alloc, names.first, of, gathered)?;
         for name in &names.more {
-            self.gather(alloc, *name, of, gathered)?;
+            self.add_known_field(alloc, *name, of, gathered)?;
         }
         Ok(())
     }
 
     /// Appends a field with this name and type to the fields of a record, and adds its size.
-    fn gather(
+    fn add_known_field(
         &self,
         alloc: Global,
         name: usize,
         of: TypeId,
-        gathered: &mut Gathered,
+        gathered: &mut KnownFields,
     ) -> Result<(), AllocError>
-        ensures { OnOk result ((g : spec.Gathered)
-            → IsGathered g self.now gathered.old
-            → IsGathered (with_name of g name) self.now gathered.new) }
+        ensures { OnOk result ((g : spec.KnownFields)
+            → HasKnownFields g self.now gathered.old
+            → HasKnownFields (with_known_field of g name) self.now gathered.new) }
     {
         gathered.add(alloc, self.text(name), of)?;
-        gathered.size = gathered.size.and(self.size_of(of));
+        gathered.size = gathered.size.combine(self.size_of(of));
         Ok(())
     }
 }

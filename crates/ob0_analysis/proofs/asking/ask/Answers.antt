@@ -12,5 +12,5 @@ returns-in-Some-well_typed-clause-found g c =
 
 pub returns-clause-found : goal.returns-clause-found
 returns-clause-found g c =
-    faulty_is_none c.args.analysis.now c.checked-checked.result c.in-Some.parts.now c.checked-checked.ensures.names c.one_scan.ensures c.one_tree.ensures c.in-Some.ensures
+    faulty_is_none c.args.analysis.now c.checked-checked.result c.in-Some.parts.now c.checked-checked.ensures.names c.scan_is_unique.ensures c.tree_is_unique.ensures c.in-Some.ensures
     c.checked-checked.ensures.checked c.in-None.ensures

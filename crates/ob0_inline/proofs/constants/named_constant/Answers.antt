@@ -1,7 +1,7 @@
 use Rattle.std.proofs.Common.{List, drop, sym, ap, ◌∙◌}
 use Rattle.std.specs.List.{position_from}
 use Rattle.ob0_scan.specs.declared.lexeme.Token.{Token}
-use Rattle.ob0_scan.specs.Scanned.{Scanned}
+use Rattle.ob0_scan.specs.TextWithTokens.{TextWithTokens}
 use Rattle.ob0_language_values.specs.Scalars.{scalar_value}
 use Rattle.ob0_inline.specs.Declarations.{is_semicolon}
 use Rattle.ob0_inline.proofs.Ended.{end_known, none_some, token_known}
@@ -10,7 +10,7 @@ use Rattle.ob0_inline.proofs.constants.named_constant.Goals as goal
 pub returns-in-None-end_of_declaration : goal.returns-in-None-end_of_declaration
 returns-in-None-end_of_declaration c =
     let first = c.in-Some.first in
-    let tokens = c.tokens-in-Some.ensures ∙ ap (λ (s : Scanned). s.tokens) c.tokens.ensures in
+    let tokens = c.tokens-in-Some.ensures ∙ ap (λ (s : TextWithTokens). s.tokens) c.tokens.ensures in
     none_some _
     (sym c.in-None-end_of_declaration.is
     ∙ (c.end_of_declaration.ensures

@@ -1,10 +1,10 @@
 use Rattle.std.proofs.Common.{◌<◌, Err, length, inl, sym, ap, ◌∙◌, subst}
-use Rattle.ob0_scan.specs.Scanned.{Scanned}
-use Rattle.ob0_tree.specs.Parsed.{named_tree_of}
+use Rattle.ob0_scan.specs.TextWithTokens.{TextWithTokens}
+use Rattle.ob0_tree.specs.ParsedModule.{named_tree_of}
 use Rattle.ob0_scope_table.specs.Resolution.{Resolution}
-use Rattle.ob0_edits_tokens.specs.Removed.{span_over}
+use Rattle.ob0_edits_tokens.specs.Removed.{span_of_tokens}
 use Rattle.ob0_inline.specs.Declarations.{is_inside}
-use Rattle.ob0_inline.specs.Everywhere.{any_hidden}
+use Rattle.ob0_inline.specs.Everywhere.{any_use_shadowed}
 use Rattle.std.specs.List.{list_any}
 use Rattle.ob0_inline.proofs.AtConstants.{IsRefused, Made, answer_comment, answer_hidden, answer_made, answer_not_made}
 use Rattle.ob0_inline.proofs.Ended.{is_taken}
@@ -21,13 +21,13 @@ returns-then-branch g c =
     let there : Made c.resolved-names.result.now k unit content edits =
     record { edits_are = c.in-Ok.ensures.edits; make_text = record { leaves = c.in-Ok.ensures.inlined; short = c.in-Ok.ensures.short } } in
     let made = subst (λ (r : Resolution). Made r k unit content edits) back there in
-    let hidden = ap (λ (r : Resolution). any_hidden (named_tree_of r.module_read) k) (sym back) ∙ (sym c.in_ok-any_hidden-in-Ok.ensures ∙ c.if-branch.true) in
-    inl (answer_hidden c.args.«module».now well k c.requires.is_constant c.constants_are_alone.ensures c.is_scalar.ensures unit content edits made hidden)
+    let hidden = ap (λ (r : Resolution). any_use_shadowed (named_tree_of r.module_read) k) (sym back) ∙ (sym c.in_ok-any_use_shadowed-in-Ok.ensures ∙ c.if-branch.true) in
+    inl (answer_hidden c.args.«module».now well k c.requires.is_constant c.constant_uses_are_factors.ensures c.value_is_scalar.ensures unit content edits made hidden)
 
 pub has_comment-requires-clause-inside : goal.has_comment-requires-clause-inside
 has_comment-requires-clause-inside g c =
     let taken = is_taken c.args.«module».now c.resolved-names.ensures.well_typed.resolved c.args.constant c.requires.is_constant in
-    subst (λ (s : Scanned). c.args.constant.last < length s.tokens) (sym (c.tokens.ensures ∙ ap (λ (r : Resolution). r.module_read.source) c.resolved-names.ensures.value)) taken.inside
+    subst (λ (s : TextWithTokens). c.args.constant.last < length s.tokens) (sym (c.tokens.ensures ∙ ap (λ (r : Resolution). r.module_read.source) c.resolved-names.ensures.value)) taken.inside
 
 pub has_comment-requires-clause-order : goal.has_comment-requires-clause-order
 has_comment-requires-clause-order g c = (is_taken c.args.«module».now c.resolved-names.ensures.well_typed.resolved c.args.constant c.requires.is_constant).order
@@ -43,10 +43,10 @@ returns-then-has_comment g c =
     let there : Made c.resolved-names.result.now k unit content edits =
     record { edits_are = c.in-Ok.ensures.edits; make_text = record { leaves = c.in-Ok.ensures.inlined; short = c.in-Ok.ensures.short } } in
     let made = subst (λ (r : Resolution). Made r k unit content edits) back there in
-    let shown = ap (λ (r : Resolution). any_hidden (named_tree_of r.module_read) k) (sym back) ∙ (sym c.in_ok-any_hidden-in-Ok.ensures ∙ c.if-branch.false) in
+    let shown = ap (λ (r : Resolution). any_use_shadowed (named_tree_of r.module_read) k) (sym back) ∙ (sym c.in_ok-any_use_shadowed-in-Ok.ensures ∙ c.if-branch.false) in
     let source = c.tokens.ensures ∙ ap (λ (r : Resolution). r.module_read.source) back in
-    let comment = ap (λ (s : Scanned). list_any (is_inside (span_over s.tokens k.first k.last)) s.comments) (sym source) ∙ (sym c.has_comment.ensures ∙ c.if-has_comment.true) in
-    inl (answer_comment c.args.«module».now well k c.requires.is_constant c.constants_are_alone.ensures c.is_scalar.ensures unit content edits made shown comment)
+    let comment = ap (λ (s : TextWithTokens). list_any (is_inside (span_of_tokens s.tokens k.first k.last)) s.comments) (sym source) ∙ (sym c.has_comment.ensures ∙ c.if-has_comment.true) in
+    inl (answer_comment c.args.«module».now well k c.requires.is_constant c.constant_uses_are_factors.ensures c.value_is_scalar.ensures unit content edits made shown comment)
 
 pub returns-else-has_comment : goal.returns-else-has_comment
 returns-else-has_comment g c =
@@ -59,10 +59,10 @@ returns-else-has_comment g c =
     let there : Made c.resolved-names.result.now k unit content edits =
     record { edits_are = c.in-Ok.ensures.edits; make_text = record { leaves = c.in-Ok.ensures.inlined; short = c.in-Ok.ensures.short } } in
     let made = subst (λ (r : Resolution). Made r k unit content edits) back there in
-    let shown = ap (λ (r : Resolution). any_hidden (named_tree_of r.module_read) k) (sym back) ∙ (sym c.in_ok-any_hidden-in-Ok.ensures ∙ c.if-branch.false) in
+    let shown = ap (λ (r : Resolution). any_use_shadowed (named_tree_of r.module_read) k) (sym back) ∙ (sym c.in_ok-any_use_shadowed-in-Ok.ensures ∙ c.if-branch.false) in
     let source = c.tokens.ensures ∙ ap (λ (r : Resolution). r.module_read.source) back in
-    let bare = ap (λ (s : Scanned). list_any (is_inside (span_over s.tokens k.first k.last)) s.comments) (sym source) ∙ (sym c.has_comment.ensures ∙ c.if-has_comment.false) in
-    answer_made c.args.«module».now well k c.requires.is_constant c.constants_are_alone.ensures c.is_scalar.ensures c.inlining_everywhere_keeps_modules.ensures unit content edits made shown bare
+    let bare = ap (λ (s : TextWithTokens). list_any (is_inside (span_of_tokens s.tokens k.first k.last)) s.comments) (sym source) ∙ (sym c.has_comment.ensures ∙ c.if-has_comment.false) in
+    answer_made c.args.«module».now well k c.requires.is_constant c.constant_uses_are_factors.ensures c.value_is_scalar.ensures c.inlining_everywhere_keeps_typing_and_runs.ensures unit content edits made shown bare
 
 pub returns-in-Err : goal.returns-in-Err
 returns-in-Err g c =
@@ -71,5 +71,5 @@ returns-in-Err g c =
     let back = c.resolved-names.ensures.value in
     let there : IsRefused c.resolved-names.result.now k refusal =
     record { too_long = λ e. c.in-Err.ensures.too_long (λ i. Err (e i)); too_deep = λ alone e. c.in-Err.ensures.too_deep alone (λ i. Err (e i)); deep_and_short = λ e. c.in-Err.ensures.deep_and_short (λ i. Err (e i)); one_of = c.in-Err.ensures.refusals } in
-    answer_not_made c.args.«module».now c.resolved-names.ensures.well_typed k c.requires.is_constant c.constants_are_alone.ensures c.is_scalar.ensures refusal
+    answer_not_made c.args.«module».now c.resolved-names.ensures.well_typed k c.requires.is_constant c.constant_uses_are_factors.ensures c.value_is_scalar.ensures refusal
     (subst (λ (r : Resolution). IsRefused r k refusal) back there)

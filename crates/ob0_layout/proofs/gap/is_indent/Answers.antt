@@ -11,7 +11,7 @@ returns-in-Tab c =
     let level = c.args.level in
     let test = c.if-bytes-indent_len.false in
     let long : length bytes ≡ c.indent_len.result = grind (arith, nat_tests) in
-    c.is_all.ensures
+    c.all_equal_to.ensures
     ∙ tabs bytes level (long ∙ c.indent_len.ensures.value ∙ ap (λ x. length (indentation x level)) c.in-Tab.is)
     ∙ ap (λ x. bytes_eq bytes (indentation x level)) (sym c.in-Tab.is)
 
@@ -21,6 +21,6 @@ returns-in-Spaces c =
     let level = c.args.level in
     let test = c.if-bytes-indent_len.false in
     let long : length bytes ≡ c.indent_len.result = grind (arith, nat_tests) in
-    c.is_all-in-Spaces.ensures
+    c.all_equal_to-in-Spaces.ensures
     ∙ spaces bytes c.in-Spaces.field-0 level (long ∙ c.indent_len.ensures.value ∙ ap (λ x. length (indentation x level)) c.in-Spaces.is)
     ∙ ap (λ x. bytes_eq bytes (indentation x level)) (sym c.in-Spaces.is)

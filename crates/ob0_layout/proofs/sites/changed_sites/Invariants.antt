@@ -1,5 +1,5 @@
 use Rattle.std.proofs.Common.{◌+◌, length}
-use Rattle.ob0_scan.specs.Scanned.{IsScan}
+use Rattle.ob0_scan.specs.TextWithTokens.{IsScan}
 use Rattle.ob0_layout.specs.Gaps.{all_gaps}
 use Rattle.ob0_layout.proofs.Ahead.{Passing}
 use Rattle.ob0_layout.proofs.sites.changed_sites.Given as goal

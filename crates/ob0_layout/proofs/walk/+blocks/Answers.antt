@@ -8,8 +8,8 @@ use Rattle.ob0_layout.specs.LineRoles.{line_roles, deeper}
 use Rattle.ob0_layout.proofs.Walks.{step, closing, walk_ends, block_shape, procedure_shape}
 use Rattle.ob0_layout.proofs.walk.+blocks.Goals as goal
 
-pub block-returns : goal.block-returns
-block-returns t c =
+pub add_block_roles-returns : goal.add_block_roles-returns
+add_block_roles-returns t c =
     let b = out-Block c.args.b.now in
     let start = c.args.out.now.items in
     let k = c.args.level in
@@ -17,28 +17,28 @@ block-returns t c =
     let types = line_roles k (types_of b.types) in
     let variables = line_roles k (variables_of b.variables) in
     let procedures = line_roles k (items_of procedure_of b.procedures.items) in
-    let d = step start constants types c.in_ok-constants.ensures c.in_ok-types.ensures in
-    let e = step start (constants ++ types) variables d c.in_ok-variables.ensures in
+    let d = step start constants types c.in_ok-add_constant_roles.ensures c.in_ok-add_type_declaration_roles.ensures in
+    let e = step start (constants ++ types) variables d c.in_ok-add_variable_roles.ensures in
     let f = step start ((constants ++ types) ++ variables) procedures e
-    (walk_ends c.loop-p.invariant c.loop-p-test.false ∙ ap (λ xs. c.variables.new.out.items ++ line_roles k (items_of procedure_of xs)) c.deref-p-items.ensures.value) in
-    subst (λ z. IfOk c.body.result (λ _. c.body.new.out.items ≡ z))
+    (walk_ends c.loop-p.invariant c.loop-p-test.false ∙ ap (λ xs. c.add_variable_roles.new.out.items ++ line_roles k (items_of procedure_of xs)) c.deref-p-items.ensures.value) in
+    subst (λ z. IfOk c.add_body_roles.result (λ _. c.add_body_roles.new.out.items ≡ z))
     (closing start (((constants ++ types) ++ variables) ++ procedures) (line_roles k (body_of b.body)) _ f (block_shape constants types variables procedures (line_roles k (body_of b.body)))
-    ∙ ap (λ s. start ++ line_roles k s) (sym (block_parts c.args.b.now))) c.body.ensures
+    ∙ ap (λ s. start ++ line_roles k s) (sym (block_parts c.args.b.now))) c.add_body_roles.ensures
 
-pub procedure-returns : goal.procedure-returns
-procedure-returns t c =
+pub add_procedure_roles-returns : goal.add_procedure_roles-returns
+add_procedure_roles-returns t c =
     let p = out-Procedure c.args.p.now in
     let start = c.args.out.now.items in
     let k = deeper c.args.level in
     let formals = line_roles 0 (formals_of p.formals) in
     let inner = line_roles k (block_of p.block) in
     let same = c.deeper-inner.ensures in
-    let a = step start (Begins k ∷ []) (Plain ∷ []) (c.in_ok-begin.ensures ∙ ap (λ j. start ++ (Begins j ∷ [])) same) c.in_ok-plain.ensures in
-    let b = step start ((Begins k ∷ []) ++ (Plain ∷ [])) formals a c.in_ok-formals.ensures in
-    let d = step start (((Begins k ∷ []) ++ (Plain ∷ [])) ++ formals) (Plain ∷ []) b c.in_ok-plain-2.ensures in
-    let e = step start ((((Begins k ∷ []) ++ (Plain ∷ [])) ++ formals) ++ (Plain ∷ [])) inner d (c.in_ok-block.ensures ∙ ap (λ j. c.plain-2.new.out.items ++ line_roles j (block_of p.block)) same) in
-    let f = step start (((((Begins k ∷ []) ++ (Plain ∷ [])) ++ formals) ++ (Plain ∷ [])) ++ inner) (Begins k ∷ []) e (c.in_ok-begin-2.ensures ∙ ap (λ j. c.block.new.out.items ++ (Begins j ∷ [])) same) in
-    let h = step start ((((((Begins k ∷ []) ++ (Plain ∷ [])) ++ formals) ++ (Plain ∷ [])) ++ inner) ++ (Begins k ∷ [])) (Plain ∷ []) f c.in_ok-plain-3.ensures in
-    subst (λ z. IfOk c.plain-4.result (λ _. c.plain-4.new.out.items ≡ z))
+    let a = step start (Begins k ∷ []) (Plain ∷ []) (c.in_ok-add_line_start_role.ensures ∙ ap (λ j. start ++ (Begins j ∷ [])) same) c.in_ok-add_plain_role.ensures in
+    let b = step start ((Begins k ∷ []) ++ (Plain ∷ [])) formals a c.in_ok-add_formal_roles.ensures in
+    let d = step start (((Begins k ∷ []) ++ (Plain ∷ [])) ++ formals) (Plain ∷ []) b c.in_ok-add_plain_role-2.ensures in
+    let e = step start ((((Begins k ∷ []) ++ (Plain ∷ [])) ++ formals) ++ (Plain ∷ [])) inner d (c.in_ok-add_block_roles.ensures ∙ ap (λ j. c.add_plain_role-2.new.out.items ++ line_roles j (block_of p.block)) same) in
+    let f = step start (((((Begins k ∷ []) ++ (Plain ∷ [])) ++ formals) ++ (Plain ∷ [])) ++ inner) (Begins k ∷ []) e (c.in_ok-add_line_start_role-2.ensures ∙ ap (λ j. c.add_block_roles.new.out.items ++ (Begins j ∷ [])) same) in
+    let h = step start ((((((Begins k ∷ []) ++ (Plain ∷ [])) ++ formals) ++ (Plain ∷ [])) ++ inner) ++ (Begins k ∷ [])) (Plain ∷ []) f c.in_ok-add_plain_role-3.ensures in
+    subst (λ z. IfOk c.add_plain_role-4.result (λ _. c.add_plain_role-4.new.out.items ≡ z))
     (closing start (((((((Begins k ∷ []) ++ (Plain ∷ [])) ++ formals) ++ (Plain ∷ [])) ++ inner) ++ (Begins k ∷ [])) ++ (Plain ∷ [])) (Plain ∷ []) _ h (procedure_shape (Begins k) Plain formals inner)
-    ∙ ap (λ s. start ++ line_roles c.args.level s) (sym (sym (ap procedure_of (roll-out-Procedure c.args.p.now)) ∙ procedure_made p))) c.plain-4.ensures
+    ∙ ap (λ s. start ++ line_roles c.args.level s) (sym (sym (ap procedure_of (roll-out-Procedure c.args.p.now)) ∙ procedure_made p))) c.add_plain_role-4.ensures

@@ -1,7 +1,7 @@
 use Rattle.std.proofs.Common.{◌≡◌, ◌++◌, length, map, option_map}
 use Rattle.std.specs.Vec.Iter.{into_iter_items, into_iter_len}
 use Rattle.serde_json.specs.View.{items_view}
-use Rattle.ob0_text.specs.OpenDocuments.{change_in_text}
+use Rattle.ob0_text.specs.OpenDocuments.{text_change_of}
 use Rattle.ob0_rpc.specs.Notifications.{all_changes}
 use Rattle.ob0_rpc.proofs.changes.read_changes.Given as goal
 
@@ -9,5 +9,5 @@ use Rattle.ob0_rpc.proofs.changes.read_changes.Given as goal
 -- remaining entries.
 abbrev pub invariant-loop-entry : goal.invariant-loop-entry
 invariant-loop-entry l =
-    (all_changes (items_view (into_iter_items l.initial.entry-iterator)) ≡ option_map (λ later. map change_in_text l.changes.items ++ later) (all_changes (items_view (into_iter_items l.entry-iterator))))
+    (all_changes (items_view (into_iter_items l.initial.entry-iterator)) ≡ option_map (λ later. map text_change_of l.changes.items ++ later) (all_changes (items_view (into_iter_items l.entry-iterator))))
     × (into_iter_len l.entry-iterator ≡ length (into_iter_items l.entry-iterator))

@@ -6,7 +6,7 @@ use Rattle.ob0_run_lowering.proofs.places.chain_offset.Goals as goal
 
 pub returns-then-count-eq0 : goal.returns-then-count-eq0
 returns-then-count-eq0 c =
-    c.first_offset.ensures
+    c.first_operand_offset.ensures
     ∙ sym (first-alone (first_of (out-Chain c.args.chain.now).first) (out-Chain c.args.chain.now).rest.items c.args.length c.args.stride (sym c.count_links-count.ensures ∙ c.if-count-eq0.true))
 
 pub returns : goal.returns

@@ -1,5 +1,5 @@
 use Rattle.std.proofs.Common.{sym, ap, ◌∙◌}
-use Rattle.ob0_run_machine.specs.View.{chained_in, first_of, number_of}
+use Rattle.ob0_run_machine.specs.View.{chain_of, first_of, number_of}
 use Rattle.ob0_run_machine.specs.declared.code.Operation.{out-Operation}
 use Rattle.ob0_run_machine.proofs.Chains.{chain_made}
 use Rattle.ob0_run_lowering.specs.Codes.{known_offset}
@@ -13,4 +13,4 @@ returns-in-Operation c =
 
 pub returns-in-Chain : goal.returns-in-Chain
 returns-in-Chain c =
-    c.chain_offset.ensures ∙ ap (λ n. known_offset n c.args.length c.args.stride) (ap chained_in c.deref.ensures ∙ sym (chain_made c.in-Chain.chain) ∙ ap number_of (sym c.in-Chain.is))
+    c.chain_offset.ensures ∙ ap (λ n. known_offset n c.args.length c.args.stride) (ap chain_of c.deref.ensures ∙ sym (chain_made c.in-Chain.chain) ∙ ap number_of (sym c.in-Chain.is))

@@ -2,12 +2,12 @@ use Rattle.std.proofs.Common.{ℕ, ◌+◌, List, ◌∷◌, sym, ap, ◌∙◌,
 use Rattle.ob0_tree.proofs.Viewed as tree
 use Rattle.ob0_tree.specs.Tree as sort
 use Rattle.ob0_tree.specs.Tree.{Tree, branches}
-use Rattle.ob0_tree.specs.View.{assignment_of, else_in, elsif_of, expression_of, if_of, items_of, sequence_listed, statement_of}
+use Rattle.ob0_tree.specs.View.{assignment_of, else_part_of, elsif_of, expression_of, if_of, items_of, sequence_of_list, statement_of}
 use Rattle.ob0_tree.specs.declared.tree.Elsif.{Elsif}
 use Rattle.ob0_tree.specs.declared.tree.If.{out-If}
 use Rattle.ob0_tree.specs.declared.tree.Statement as written
 use Rattle.ob0_language_names.specs.Names.{Label}
-use Rattle.ob0_scope_table.specs.InLabels.{in_labels}
+use Rattle.ob0_scope_table.specs.LabelledTrees.{tree_with_labels}
 use Rattle.ob0_run_machine.proofs.Viewed.{repeat_made, while_made}
 use Rattle.ob0_run_machine.specs.Lowered as lowered
 use Rattle.ob0_run_machine.specs.View as code
@@ -17,7 +17,7 @@ use Rattle.ob0_run_machine.specs.declared.code.RepeatLoop.{RepeatLoop}
 use Rattle.ob0_run_machine.specs.declared.code.Instruction.{Instruction}
 use Rattle.ob0_run_machine.specs.declared.code.WhileLoop.{WhileLoop}
 use Rattle.ob0_run_lowering.specs.LoweredBodies.{SequenceLowers, StatementLowers}
-use Rattle.ob0_run_lowering.proofs.InScene.{condition-lowers, repeat-lowers, while-lowers}
+use Rattle.ob0_run_lowering.proofs.HoldsInScene.{condition-lowers, repeat-lowers, while-lowers}
 use Rattle.ob0_run_lowering.proofs.Made.{BranchesMade, SequenceMade, branches_begin, branches_end, branches_go_on, if_rolled, none_otherwise, sequence_begins, sequence_ends, sequence_goes_on, some_otherwise}
 use Rattle.ob0_run_lowering.proofs.statements.+statements.Goals as goal
 
@@ -26,8 +26,8 @@ branches-loop-part-init t c =
     let scene = c.args.scene.now in
     let r = scene.resolved.now in
     let i = out-If c.args.i.now in
-    let e = in_labels r (expression_of i.condition) in
-    let a = in_labels r (sequence_listed i.then.items) in
+    let e = tree_with_labels r (expression_of i.condition) in
+    let a = tree_with_labels r (sequence_of_list i.then.items) in
     let b : Branch = record { condition = c.in_ok-first.first; body = c.in_ok-then.then } in
     let P : List Branch → Type 0 = λ others. BranchesMade scene r e a c.deref-part-items.result.now 0 (b ∷ others) in
     subst P (sym c.new-others.ensures.items) (branches_begin scene r e a c.deref-part-items.result.now b (condition-lowers scene i.condition c.in_ok-first.first c.in_ok-first.ensures.lowers) c.in_ok-then.ensures)
@@ -39,7 +39,7 @@ branches-loop-part-preserved t c =
     let i = out-If c.args.i.now in
     let first : Branch = record { condition = c.loop-part.first-1; body = c.in_ok-then.then } in
     let b : Branch = record { condition = c.in_ok-condition.condition; body = c.in_ok-body.body } in
-    let P : List Branch → Type 0 = λ others. BranchesMade scene r (in_labels r (expression_of i.condition)) (in_labels r (sequence_listed i.then.items)) c.deref-part-items.result.now (c.loop-part.part-index + 1) (first ∷ others) in
+    let P : List Branch → Type 0 = λ others. BranchesMade scene r (tree_with_labels r (expression_of i.condition)) (tree_with_labels r (sequence_of_list i.then.items)) c.deref-part-items.result.now (c.loop-part.part-index + 1) (first ∷ others) in
     let step = branches_go_on c.part-item.result b c.loop-part.invariant c.loop-part-test.true c.part-item.is (condition-lowers scene c.part-item.result.condition c.in_ok-condition.condition c.in_ok-condition.ensures.lowers) c.in_ok-body.ensures in
     subst P (sym c.in_ok-push.ensures.items) step
 
@@ -48,64 +48,64 @@ branches-returns-in-None t c =
     let scene = c.args.scene.now in
     let r = scene.resolved.now in
     let i = out-If c.args.i.now in
-    let last = in_labels r (else_in i.otherwise) in
+    let last = tree_with_labels r (else_part_of i.otherwise) in
     let first : Branch = record { condition = c.loop-part.first-1; body = c.in_ok-then.then } in
     let made = lowered.chooses (all_branches (first ∷ c.loop-part.others.items)) (sequence_of c.new.result.items) in
     let whole = branches_end (sequence_of c.new.result.items) last c.loop-part.invariant c.loop-part-test.false (none_otherwise scene r i.otherwise c.new.result.items c.in-None.is c.new.ensures.items) in
-    let P : List Elsif → Type 0 = λ parts. StatementLowers scene made (branches (in_labels r (expression_of i.condition)) (in_labels r (sequence_listed i.then.items)) (in_labels r (items_of elsif_of parts)) last) in
+    let P : List Elsif → Type 0 = λ parts. StatementLowers scene made (branches (tree_with_labels r (expression_of i.condition)) (tree_with_labels r (sequence_of_list i.then.items)) (tree_with_labels r (items_of elsif_of parts)) last) in
     let Q : Tree Label sort.statement → Type 0 = λ a. StatementLowers scene made a in
-    let R : lowered.Instruction → Type 0 = λ code. StatementLowers scene code (in_labels r (if_of c.args.i.now)) in
-    subst R (sym (if_rolled (record { condition = c.loop-part.first-1; body = c.in_ok-then.then; others = c.loop-part.others; otherwise = c.new.result }))) (subst Q (sym (ap (in_labels r) (tree.if_parts c.args.i.now))) (subst P c.deref-part-items.ensures.value whole))
+    let R : lowered.Instruction → Type 0 = λ code. StatementLowers scene code (tree_with_labels r (if_of c.args.i.now)) in
+    subst R (sym (if_rolled (record { condition = c.loop-part.first-1; body = c.in_ok-then.then; others = c.loop-part.others; otherwise = c.new.result }))) (subst Q (sym (ap (tree_with_labels r) (tree.if_parts c.args.i.now))) (subst P c.deref-part-items.ensures.value whole))
 
 pub branches-returns-in_ok-otherwise-in-Some : goal.branches-returns-in_ok-otherwise-in-Some
 branches-returns-in_ok-otherwise-in-Some t c =
     let scene = c.args.scene.now in
     let r = scene.resolved.now in
     let i = out-If c.args.i.now in
-    let last = in_labels r (else_in i.otherwise) in
+    let last = tree_with_labels r (else_part_of i.otherwise) in
     let otherwise = c.in_ok-otherwise-in-Some.otherwise in
     let first : Branch = record { condition = c.loop-part.first-1; body = c.in_ok-then.then } in
     let made = lowered.chooses (all_branches (first ∷ c.loop-part.others.items)) (sequence_of otherwise.items) in
     let whole = branches_end (sequence_of otherwise.items) last c.loop-part.invariant c.loop-part-test.false (some_otherwise scene r i.otherwise c.in-Some.statements otherwise.items c.in-Some.is c.in_ok-otherwise-in-Some.ensures) in
-    let P : List Elsif → Type 0 = λ parts. StatementLowers scene made (branches (in_labels r (expression_of i.condition)) (in_labels r (sequence_listed i.then.items)) (in_labels r (items_of elsif_of parts)) last) in
+    let P : List Elsif → Type 0 = λ parts. StatementLowers scene made (branches (tree_with_labels r (expression_of i.condition)) (tree_with_labels r (sequence_of_list i.then.items)) (tree_with_labels r (items_of elsif_of parts)) last) in
     let Q : Tree Label sort.statement → Type 0 = λ a. StatementLowers scene made a in
-    let R : lowered.Instruction → Type 0 = λ code. StatementLowers scene code (in_labels r (if_of c.args.i.now)) in
-    subst R (sym (if_rolled (record { condition = c.loop-part.first-1; body = c.in_ok-then.then; others = c.loop-part.others; otherwise = otherwise }))) (subst Q (sym (ap (in_labels r) (tree.if_parts c.args.i.now))) (subst P c.deref-part-items.ensures.value whole))
+    let R : lowered.Instruction → Type 0 = λ code. StatementLowers scene code (tree_with_labels r (if_of c.args.i.now)) in
+    subst R (sym (if_rolled (record { condition = c.loop-part.first-1; body = c.in_ok-then.then; others = c.loop-part.others; otherwise = otherwise }))) (subst Q (sym (ap (tree_with_labels r) (tree.if_parts c.args.i.now))) (subst P c.deref-part-items.ensures.value whole))
 
-pub sequence-loop-s-init : goal.sequence-loop-s-init
-sequence-loop-s-init t c =
+pub lower_sequence-loop-s-init : goal.lower_sequence-loop-s-init
+lower_sequence-loop-s-init t c =
     let scene = c.args.scene.now in
     let P : List Instruction → Type 0 = λ made. SequenceMade scene scene.resolved.now c.deref-s-items.result.now 0 made in
     subst P (sym c.new-made.ensures.items) (sequence_begins scene scene.resolved.now c.deref-s-items.result.now)
 
-pub sequence-loop-s-preserved : goal.sequence-loop-s-preserved
-sequence-loop-s-preserved t c =
+pub lower_sequence-loop-s-preserved : goal.lower_sequence-loop-s-preserved
+lower_sequence-loop-s-preserved t c =
     let scene = c.args.scene.now in
     let P : List Instruction → Type 0 = λ made. SequenceMade scene scene.resolved.now c.deref-s-items.result.now (c.loop-s.s-index + 1) made in
-    subst P (sym c.in_ok-add.ensures) (sequence_goes_on c.s-item.result c.in_ok-next.next c.loop-s.invariant c.loop-s-test.true c.s-item.is c.in_ok-next.ensures)
+    subst P (sym c.in_ok-push_if_any.ensures) (sequence_goes_on c.s-item.result c.in_ok-next.next c.loop-s.invariant c.loop-s-test.true c.s-item.is c.in_ok-next.ensures)
 
-pub sequence-returns : goal.sequence-returns
-sequence-returns t c =
+pub lower_sequence-returns : goal.lower_sequence-returns
+lower_sequence-returns t c =
     let scene = c.args.scene.now in
-    let P : List written.Statement → Type 0 = λ ss. SequenceLowers scene (sequence_of c.loop-s.made.items) (in_labels scene.resolved.now (sequence_listed ss)) in
+    let P : List written.Statement → Type 0 = λ ss. SequenceLowers scene (sequence_of c.loop-s.made.items) (tree_with_labels scene.resolved.now (sequence_of_list ss)) in
     subst P c.deref-s-items.ensures.value (sequence_ends c.loop-s.invariant c.loop-s-test.false)
 
-pub statement-returns-in_ok-assignment-in-Assign : goal.statement-returns-in_ok-assignment-in-Assign
-statement-returns-in_ok-assignment-in-Assign t c =
+pub statement-returns-in_ok-lower_assignment-in-Assign : goal.statement-returns-in_ok-lower_assignment-in-Assign
+statement-returns-in_ok-lower_assignment-in-Assign t c =
     let scene = c.args.scene.now in
-    let P : Tree ℕ sort.statement → Type 0 = λ a. StatementLowers scene (code.statement_of c.in_ok-assignment-in-Assign.field-0) (in_labels scene.resolved.now a) in
-    subst P (ap assignment_of c.deref.ensures ∙ sym (ap statement_of c.in-Assign.is)) c.in_ok-assignment-in-Assign.ensures
+    let P : Tree ℕ sort.statement → Type 0 = λ a. StatementLowers scene (code.statement_of c.in_ok-lower_assignment-in-Assign.field-0) (tree_with_labels scene.resolved.now a) in
+    subst P (ap assignment_of c.deref.ensures ∙ sym (ap statement_of c.in-Assign.is)) c.in_ok-lower_assignment-in-Assign.ensures
 
-pub statement-returns-in_ok-call-in-Call : goal.statement-returns-in_ok-call-in-Call
-statement-returns-in_ok-call-in-Call t c =
+pub statement-returns-in_ok-lower_call_statement-in-Call : goal.statement-returns-in_ok-lower_call_statement-in-Call
+statement-returns-in_ok-lower_call_statement-in-Call t c =
     let scene = c.args.scene.now in
-    let P : written.Statement → Type 0 = λ s. StatementLowers scene (code.statement_of c.in_ok-call-in-Call.field-0) (in_labels scene.resolved.now (statement_of s)) in
-    subst P (sym c.in-Call.is) c.in_ok-call-in-Call.ensures
+    let P : written.Statement → Type 0 = λ s. StatementLowers scene (code.statement_of c.in_ok-lower_call_statement-in-Call.field-0) (tree_with_labels scene.resolved.now (statement_of s)) in
+    subst P (sym c.in-Call.is) c.in_ok-lower_call_statement-in-Call.ensures
 
 pub statement-returns-in_ok-branches-in-If : goal.statement-returns-in_ok-branches-in-If
 statement-returns-in_ok-branches-in-If t c =
     let scene = c.args.scene.now in
-    let P : Tree ℕ sort.statement → Type 0 = λ a. StatementLowers scene (code.statement_of c.in_ok-branches-in-If.field-0) (in_labels scene.resolved.now a) in
+    let P : Tree ℕ sort.statement → Type 0 = λ a. StatementLowers scene (code.statement_of c.in_ok-branches-in-If.field-0) (tree_with_labels scene.resolved.now a) in
     subst P (ap if_of c.deref-in-If.ensures ∙ sym (ap statement_of c.in-If.is)) c.in_ok-branches-in-If.ensures
 
 pub statement-returns-in_ok-body-in-While : goal.statement-returns-in_ok-body-in-While
@@ -116,10 +116,10 @@ statement-returns-in_ok-body-in-While t c =
     let body = c.deref-in-While-2.result.now.body.items in
     let tree_is = tree.while_read c.in-While.w c.deref-in-While.ensures c.deref-in-While-2.ensures in
     let made : WhileLoop = record { condition = c.in_ok-condition-in-While.condition; body = c.in_ok-body-in-While.body } in
-    let whole = while-lowers scene (in_labels r (expression_of condition)) (in_labels r (sequence_listed body)) (truth_of made.condition) (sequence_of made.body.items) (condition-lowers scene condition made.condition c.in_ok-condition-in-While.ensures.lowers) c.in_ok-body-in-While.ensures in
+    let whole = while-lowers scene (tree_with_labels r (expression_of condition)) (tree_with_labels r (sequence_of_list body)) (truth_of made.condition) (sequence_of made.body.items) (condition-lowers scene condition made.condition c.in_ok-condition-in-While.ensures.lowers) c.in_ok-body-in-While.ensures in
     let P : Tree Label sort.statement → Type 0 = λ a. StatementLowers scene (lowered.while_loop (truth_of made.condition) (sequence_of made.body.items)) a in
-    let R : lowered.Instruction → Type 0 = λ code. StatementLowers scene code (in_labels r (statement_of c.args.s.now)) in
-    subst R (sym (while_made made)) (subst P (sym (ap (λ s. in_labels r (statement_of s)) c.in-While.is ∙ ap (in_labels r) tree_is)) whole)
+    let R : lowered.Instruction → Type 0 = λ code. StatementLowers scene code (tree_with_labels r (statement_of c.args.s.now)) in
+    subst R (sym (while_made made)) (subst P (sym (ap (λ s. tree_with_labels r (statement_of s)) c.in-While.is ∙ ap (tree_with_labels r) tree_is)) whole)
 
 pub statement-returns-in_ok-condition-in-Repeat : goal.statement-returns-in_ok-condition-in-Repeat
 statement-returns-in_ok-condition-in-Repeat t c =
@@ -129,7 +129,7 @@ statement-returns-in_ok-condition-in-Repeat t c =
     let condition = c.deref-in-Repeat-2.result.now.condition in
     let tree_is = tree.repeat_read c.in-Repeat.r c.deref-in-Repeat.ensures c.deref-in-Repeat-2.ensures in
     let made : RepeatLoop = record { body = c.in_ok-body-in-Repeat.body; condition = c.in_ok-condition-in-Repeat.condition } in
-    let whole = repeat-lowers scene (in_labels r (expression_of condition)) (in_labels r (sequence_listed body)) (truth_of made.condition) (sequence_of made.body.items) (condition-lowers scene condition made.condition c.in_ok-condition-in-Repeat.ensures.lowers) c.in_ok-body-in-Repeat.ensures in
+    let whole = repeat-lowers scene (tree_with_labels r (expression_of condition)) (tree_with_labels r (sequence_of_list body)) (truth_of made.condition) (sequence_of made.body.items) (condition-lowers scene condition made.condition c.in_ok-condition-in-Repeat.ensures.lowers) c.in_ok-body-in-Repeat.ensures in
     let P : Tree Label sort.statement → Type 0 = λ a. StatementLowers scene (lowered.repeat_loop (sequence_of made.body.items) (truth_of made.condition)) a in
-    let R : lowered.Instruction → Type 0 = λ code. StatementLowers scene code (in_labels r (statement_of c.args.s.now)) in
-    subst R (sym (repeat_made made)) (subst P (sym (ap (λ s. in_labels r (statement_of s)) c.in-Repeat.is ∙ ap (in_labels r) tree_is)) whole)
+    let R : lowered.Instruction → Type 0 = λ code. StatementLowers scene code (tree_with_labels r (statement_of c.args.s.now)) in
+    subst R (sym (repeat_made made)) (subst P (sym (ap (λ s. tree_with_labels r (statement_of s)) c.in-Repeat.is ∙ ap (tree_with_labels r) tree_is)) whole)

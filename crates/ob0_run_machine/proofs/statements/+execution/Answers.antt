@@ -8,132 +8,132 @@ use Rattle.ob0_run_machine.proofs.Executing.{before_last, branch_taken, branches
 use Rattle.ob0_run_machine.proofs.Viewed.{if_made, repeat_made, while_made}
 use Rattle.ob0_run_machine.proofs.statements.+execution.Goals as goal
 
-pub branches-returns-in_err-evaluate_condition : goal.branches-returns-in_err-evaluate_condition
-branches-returns-in_err-evaluate_condition g t c = ending_by c.in_err-evaluate_condition.field-0.0 (err_from_is_err_and c.from_residual.result c.from_residual.ensures.1)
+pub run_conditional-returns-in_err-evaluate_condition : goal.run_conditional-returns-in_err-evaluate_condition
+run_conditional-returns-in_err-evaluate_condition g t c = ending_by c.in_err-evaluate_condition.field-0.0 (err_from_is_err_and c.from_residual.result c.from_residual.ensures.1)
     (if_fails c.args.machine.now c.args.turns (levels_of c.args.level.now) c.args.i.now c.in_err-evaluate_condition.field-0.0 c.in_err-evaluate_condition.ensures)
 
-pub branches-returns-then-branch : goal.branches-returns-then-branch
-branches-returns-then-branch g t c = if_taken c.args.turns (levels_of c.args.level.now) c.args.i.now c.run_called.result _ (settled c.in_ok-evaluate_condition.ensures c.if-branch.true) c.deref.ensures.value c.run_called.ensures
+pub run_conditional-returns-then-branch : goal.run_conditional-returns-then-branch
+run_conditional-returns-then-branch g t c = if_taken c.args.turns (levels_of c.args.level.now) c.args.i.now c.run_sequence.result _ (settled c.in_ok-evaluate_condition.ensures c.if-branch.true) c.deref.ensures.value c.run_sequence.ensures
 
-pub branches-returns-then-count-eq0 : goal.branches-returns-then-count-eq0
-branches-returns-then-count-eq0 g t c = if_passed c.args.turns (levels_of c.args.level.now) c.args.i.now c.run_unless_empty.result (settled c.in_ok-evaluate_condition.ensures c.if-branch.false)
+pub run_conditional-returns-then-count-eq0 : goal.run_conditional-returns-then-count-eq0
+run_conditional-returns-then-count-eq0 g t c = if_passed c.args.turns (levels_of c.args.level.now) c.args.i.now c.run_unless_empty.result (settled c.in_ok-evaluate_condition.ensures c.if-branch.false)
     (branches_end {t = c.args.turns} {ls = levels_of c.args.level.now} c.run_unless_empty.result _ (branches_begin c.as_slice-others.ensures.value) (omega (arith, c.if-count-eq0.true)) c.deref-then-count-eq0.ensures.value c.run_unless_empty.ensures)
 
-pub branches-returns : goal.branches-returns
-branches-returns g t c = if_passed c.args.turns (levels_of c.args.level.now) c.args.i.now c.other_branches.result (settled c.in_ok-evaluate_condition.ensures c.if-branch.false) c.other_branches.ensures
+pub run_conditional-returns : goal.run_conditional-returns
+run_conditional-returns g t c = if_passed c.args.turns (levels_of c.args.level.now) c.args.i.now c.run_elsifs.result (settled c.in_ok-evaluate_condition.ensures c.if-branch.false) c.run_elsifs.ensures
 
-pub other_branches-loop-branch-init : goal.other_branches-loop-branch-init
-other_branches-loop-branch-init g t c = branches_begin c.deref-branch-items.ensures.value
+pub run_elsifs-loop-branch-init : goal.run_elsifs-loop-branch-init
+run_elsifs-loop-branch-init g t c = branches_begin c.deref-branch-items.ensures.value
 
-pub other_branches-returns-in_err-evaluate_condition : goal.other_branches-returns-in_err-evaluate_condition
-other_branches-returns-in_err-evaluate_condition g t c = ending_by c.in_err-evaluate_condition.field-0.0 (err_from_is_err_and c.from_residual.result c.from_residual.ensures.1)
+pub run_elsifs-returns-in_err-evaluate_condition : goal.run_elsifs-returns-in_err-evaluate_condition
+run_elsifs-returns-in_err-evaluate_condition g t c = ending_by c.in_err-evaluate_condition.field-0.0 (err_from_is_err_and c.from_residual.result c.from_residual.ensures.1)
     (branches_fail c.in_err-evaluate_condition.field-0.0 c.branch-item.result c.loop-branch.invariant c.loop-branch-test.true c.branch-item.is c.in_err-evaluate_condition.ensures)
 
-pub other_branches-returns-then-branch : goal.other_branches-returns-then-branch
-other_branches-returns-then-branch g t c =
-    branch_taken c.run_called.result _ c.branch-item.result c.loop-branch.invariant c.loop-branch-test.true c.branch-item.is (settled c.in_ok-evaluate_condition.ensures c.if-branch.true) c.deref.ensures.value c.run_called.ensures
+pub run_elsifs-returns-then-branch : goal.run_elsifs-returns-then-branch
+run_elsifs-returns-then-branch g t c =
+    branch_taken c.run_sequence.result _ c.branch-item.result c.loop-branch.invariant c.loop-branch-test.true c.branch-item.is (settled c.in_ok-evaluate_condition.ensures c.if-branch.true) c.deref.ensures.value c.run_sequence.ensures
 
-pub other_branches-loop-branch-preserved : goal.other_branches-loop-branch-preserved
-other_branches-loop-branch-preserved g t c =
+pub run_elsifs-loop-branch-preserved : goal.run_elsifs-loop-branch-preserved
+run_elsifs-loop-branch-preserved g t c =
     branches_on c.branch-item.result c.loop-branch.invariant c.loop-branch-test.true c.branch-item.is (settled c.in_ok-evaluate_condition.ensures c.if-branch.false)
 
-pub other_branches-returns : goal.other_branches-returns
-other_branches-returns g t c = branches_end c.run_unless_empty.result _ c.loop-branch.invariant c.loop-branch-test.false c.deref-2.ensures.value c.run_unless_empty.ensures
+pub run_elsifs-returns : goal.run_elsifs-returns
+run_elsifs-returns g t c = branches_end c.run_unless_empty.result _ c.loop-branch.invariant c.loop-branch-test.false c.deref-2.ensures.value c.run_unless_empty.ensures
 
-pub run_any_while-loop-left-init : goal.run_any_while-loop-left-init
-run_any_while-loop-left-init g t c = while_begins
+pub run_general_while-loop-left-init : goal.run_general_while-loop-left-init
+run_general_while-loop-left-init g t c = while_begins
 
-pub run_any_while-returns-in_err-evaluate_condition : goal.run_any_while-returns-in_err-evaluate_condition
-run_any_while-returns-in_err-evaluate_condition g t c = ending_by c.in_err-evaluate_condition.field-0.0 (err_from_is_err_and c.from_residual.result c.from_residual.ensures.1)
+pub run_general_while-returns-in_err-evaluate_condition : goal.run_general_while-returns-in_err-evaluate_condition
+run_general_while-returns-in_err-evaluate_condition g t c = ending_by c.in_err-evaluate_condition.field-0.0 (err_from_is_err_and c.from_residual.result c.from_residual.ensures.1)
     (while_fails c.in_err-evaluate_condition.field-0.0 c.loop-left.invariant c.in_err-evaluate_condition.ensures)
 
-pub run_any_while-returns-then-not-branch : goal.run_any_while-returns-then-not-branch
-run_any_while-returns-then-not-branch g t c = while_ends tt c.loop-left.invariant (settled c.in_ok-evaluate_condition.ensures c.if-not-branch.true)
+pub run_general_while-returns-then-not-branch : goal.run_general_while-returns-then-not-branch
+run_general_while-returns-then-not-branch g t c = while_ends tt c.loop-left.invariant (settled c.in_ok-evaluate_condition.ensures c.if-not-branch.true)
 
-pub run_any_while-returns-then-left-eq0 : goal.run_any_while-returns-then-left-eq0
-run_any_while-returns-then-left-eq0 g t c = while_bound c.loop-left.invariant (settled c.in_ok-evaluate_condition.ensures c.if-not-branch.false) c.if-left-eq0.true
+pub run_general_while-returns-then-left-eq0 : goal.run_general_while-returns-then-left-eq0
+run_general_while-returns-then-left-eq0 g t c = while_bound c.loop-left.invariant (settled c.in_ok-evaluate_condition.ensures c.if-not-branch.false) c.if-left-eq0.true
 
-pub run_any_while-loop-left-preserved : goal.run_any_while-loop-left-preserved
-run_any_while-loop-left-preserved g t c = while_on c.in_ok-run_inlined.field-0 _ c.loop-left.invariant (settled c.in_ok-evaluate_condition.ensures c.if-not-branch.false) c.if-left-eq0.false c.deref.ensures.value c.in_ok-run_inlined.ensures
+pub run_general_while-loop-left-preserved : goal.run_general_while-loop-left-preserved
+run_general_while-loop-left-preserved g t c = while_on c.in_ok-run_sequence_inline.field-0 _ c.loop-left.invariant (settled c.in_ok-evaluate_condition.ensures c.if-not-branch.false) c.if-left-eq0.false c.deref.ensures.value c.in_ok-run_sequence_inline.ensures
 
-pub run_any_while-returns-in_err-run_inlined : goal.run_any_while-returns-in_err-run_inlined
-run_any_while-returns-in_err-run_inlined g t c = leaving (err_from_is_err_and c.from_residual-in_err-run_inlined.result c.from_residual-in_err-run_inlined.ensures.1)
-    (while_body_fails c.in_err-run_inlined.field-0.0 _ c.loop-left.invariant (settled c.in_ok-evaluate_condition.ensures c.if-not-branch.false) c.if-left-eq0.false c.deref.ensures.value c.in_err-run_inlined.ensures)
+pub run_general_while-returns-in_err-run_sequence_inline : goal.run_general_while-returns-in_err-run_sequence_inline
+run_general_while-returns-in_err-run_sequence_inline g t c = leaving (err_from_is_err_and c.from_residual-in_err-run_sequence_inline.result c.from_residual-in_err-run_sequence_inline.ensures.1)
+    (while_body_fails c.in_err-run_sequence_inline.field-0.0 _ c.loop-left.invariant (settled c.in_ok-evaluate_condition.ensures c.if-not-branch.false) c.if-left-eq0.false c.deref.ensures.value c.in_err-run_sequence_inline.ensures)
 
-pub run_inlined-loop-s-init : goal.run_inlined-loop-s-init
-run_inlined-loop-s-init g t c = sequence_begins
+pub run_sequence_inline-loop-s-init : goal.run_sequence_inline-loop-s-init
+run_sequence_inline-loop-s-init g t c = sequence_begins
 
-pub run_inlined-returns-in_err-statement : goal.run_inlined-returns-in_err-statement
-run_inlined-returns-in_err-statement g t c = leaving (err_from_is_err_and c.from_residual.result c.from_residual.ensures.1)
-    (sequence_fails c.in_err-statement.field-0.0 c.s-item.result c.loop-s.invariant c.loop-s-test.true c.s-item.is c.in_err-statement.ensures)
+pub run_sequence_inline-returns-in_err-run_statement : goal.run_sequence_inline-returns-in_err-run_statement
+run_sequence_inline-returns-in_err-run_statement g t c = leaving (err_from_is_err_and c.from_residual.result c.from_residual.ensures.1)
+    (sequence_fails c.in_err-run_statement.field-0.0 c.s-item.result c.loop-s.invariant c.loop-s-test.true c.s-item.is c.in_err-run_statement.ensures)
 
-pub run_inlined-loop-s-preserved : goal.run_inlined-loop-s-preserved
-run_inlined-loop-s-preserved g t c = sequence_on c.in_ok-statement.field-0 c.s-item.result c.loop-s.invariant c.loop-s-test.true c.s-item.is c.in_ok-statement.ensures
+pub run_sequence_inline-loop-s-preserved : goal.run_sequence_inline-loop-s-preserved
+run_sequence_inline-loop-s-preserved g t c = sequence_on c.in_ok-run_statement.field-0 c.s-item.result c.loop-s.invariant c.loop-s-test.true c.s-item.is c.in_ok-run_statement.ensures
 
-pub run_inlined-returns : goal.run_inlined-returns
-run_inlined-returns g t c = sequence_ends tt c.loop-s.invariant c.loop-s-test.false
+pub run_sequence_inline-returns : goal.run_sequence_inline-returns
+run_sequence_inline-returns g t c = sequence_ends tt c.loop-s.invariant c.loop-s-test.false
 
 pub run_unless_empty-returns-then-count-eq0 : goal.run_unless_empty-returns-then-count-eq0
 run_unless_empty-returns-then-count-eq0 g t c = sequence_ends {t = c.args.turns} {ls = levels_of c.args.level.now} {xs = c.args.statements.now} tt sequence_begins (omega (arith, c.if-count-eq0.true))
 
-pub statement-returns-in-If : goal.statement-returns-in-If
-statement-returns-in-If g t c = does_statement c.args.turns (levels_of c.args.level.now) (sym (ap statement_of c.in-If.is ∙ if_made c.in-If.i)) c.branches.ensures
+pub run_statement-returns-in-If : goal.run_statement-returns-in-If
+run_statement-returns-in-If g t c = does_statement c.args.turns (levels_of c.args.level.now) (sym (ap statement_of c.in-If.is ∙ if_made c.in-If.i)) c.run_conditional.ensures
 
-pub statement-returns-in-While : goal.statement-returns-in-While
-statement-returns-in-While g t c = does_statement c.args.turns (levels_of c.args.level.now) (sym (ap statement_of c.in-While.is ∙ while_made c.in-While.w)) c.run_while.ensures
+pub run_statement-returns-in-While : goal.run_statement-returns-in-While
+run_statement-returns-in-While g t c = does_statement c.args.turns (levels_of c.args.level.now) (sym (ap statement_of c.in-While.is ∙ while_made c.in-While.w)) c.run_while.ensures
 
-pub statement-returns-in-Repeat : goal.statement-returns-in-Repeat
-statement-returns-in-Repeat g t c = does_statement c.args.turns (levels_of c.args.level.now) (sym (ap statement_of c.in-Repeat.is ∙ repeat_made c.in-Repeat.r)) c.run_repeat.ensures
+pub run_statement-returns-in-Repeat : goal.run_statement-returns-in-Repeat
+run_statement-returns-in-Repeat g t c = does_statement c.args.turns (levels_of c.args.level.now) (sym (ap statement_of c.in-Repeat.is ∙ repeat_made c.in-Repeat.r)) c.run_repeat.ensures
 
 pub run_repeat-loop-machine-init : goal.run_repeat-loop-machine-init
 run_repeat-loop-machine-init g t c = repeat_begins c.saturating_sub-further.ensures
 
-pub run_repeat-returns-in_err-run_inlined : goal.run_repeat-returns-in_err-run_inlined
-run_repeat-returns-in_err-run_inlined g t c = leaving (err_from_is_err_and c.from_residual.result c.from_residual.ensures.1)
-    (repeat_body_fails c.in_err-run_inlined.field-0.0 _ c.loop-machine.invariant c.deref.ensures.value c.in_err-run_inlined.ensures)
+pub run_repeat-returns-in_err-run_sequence_inline : goal.run_repeat-returns-in_err-run_sequence_inline
+run_repeat-returns-in_err-run_sequence_inline g t c = leaving (err_from_is_err_and c.from_residual.result c.from_residual.ensures.1)
+    (repeat_body_fails c.in_err-run_sequence_inline.field-0.0 _ c.loop-machine.invariant c.deref.ensures.value c.in_err-run_sequence_inline.ensures)
 
 pub run_repeat-returns-in_err-evaluate_condition : goal.run_repeat-returns-in_err-evaluate_condition
 run_repeat-returns-in_err-evaluate_condition g t c = ending_by c.in_err-evaluate_condition.field-0.0 (err_from_is_err_and c.from_residual-in_err-evaluate_condition.result c.from_residual-in_err-evaluate_condition.ensures.1)
-    (repeat_fails c.in_err-evaluate_condition.field-0.0 (turn_made c.in_ok-run_inlined.field-0 _ c.loop-machine.invariant c.deref.ensures.value c.in_ok-run_inlined.ensures) c.in_err-evaluate_condition.ensures)
+    (repeat_fails c.in_err-evaluate_condition.field-0.0 (turn_made c.in_ok-run_sequence_inline.field-0 _ c.loop-machine.invariant c.deref.ensures.value c.in_ok-run_sequence_inline.ensures) c.in_err-evaluate_condition.ensures)
 
 pub run_repeat-returns-then-branch : goal.run_repeat-returns-then-branch
 run_repeat-returns-then-branch g t c =
-    repeat_ends tt (turn_made c.in_ok-run_inlined.field-0 _ c.loop-machine.invariant c.deref.ensures.value c.in_ok-run_inlined.ensures) (settled c.in_ok-evaluate_condition.ensures c.if-branch.true)
+    repeat_ends tt (turn_made c.in_ok-run_sequence_inline.field-0 _ c.loop-machine.invariant c.deref.ensures.value c.in_ok-run_sequence_inline.ensures) (settled c.in_ok-evaluate_condition.ensures c.if-branch.true)
 
 pub run_repeat-returns-then-further-eq0 : goal.run_repeat-returns-then-further-eq0
 run_repeat-returns-then-further-eq0 g t c =
-    repeat_bound (turn_made c.in_ok-run_inlined.field-0 _ c.loop-machine.invariant c.deref.ensures.value c.in_ok-run_inlined.ensures) (settled c.in_ok-evaluate_condition.ensures c.if-branch.false) c.if-further-eq0.true
+    repeat_bound (turn_made c.in_ok-run_sequence_inline.field-0 _ c.loop-machine.invariant c.deref.ensures.value c.in_ok-run_sequence_inline.ensures) (settled c.in_ok-evaluate_condition.ensures c.if-branch.false) c.if-further-eq0.true
 
 pub run_repeat-loop-machine-preserved : goal.run_repeat-loop-machine-preserved
 run_repeat-loop-machine-preserved g t c =
-    repeat_on (turn_made c.in_ok-run_inlined.field-0 _ c.loop-machine.invariant c.deref.ensures.value c.in_ok-run_inlined.ensures) (settled c.in_ok-evaluate_condition.ensures c.if-branch.false) c.if-further-eq0.false
+    repeat_on (turn_made c.in_ok-run_sequence_inline.field-0 _ c.loop-machine.invariant c.deref.ensures.value c.in_ok-run_sequence_inline.ensures) (settled c.in_ok-evaluate_condition.ensures c.if-branch.false) c.if-further-eq0.false
 
-pub run_counted-returns-in_err-run_inlined : goal.run_counted-returns-in_err-run_inlined
-run_counted-returns-in_err-run_inlined g t c = λ v found. leaving (err_from_is_err_and c.from_residual.result c.from_residual.ensures.1)
-    (before_last c.args.turns (levels_of c.args.level.now) c.args.statements.now c.in_err-run_inlined.field-0.0 (Increase v c.args.by) c.in_err-run_inlined.ensures)
+pub run_counted_body-returns-in_err-run_sequence_inline : goal.run_counted_body-returns-in_err-run_sequence_inline
+run_counted_body-returns-in_err-run_sequence_inline g t c = λ v found. leaving (err_from_is_err_and c.from_residual.result c.from_residual.ensures.1)
+    (before_last c.args.turns (levels_of c.args.level.now) c.args.statements.now c.in_err-run_sequence_inline.field-0.0 (Increase v c.args.by) c.in_err-run_sequence_inline.ensures)
 
-pub run_counted-returns : goal.run_counted-returns
-run_counted-returns g t c = λ v found. then_last c.args.turns (levels_of c.args.level.now) c.args.statements.now c.in_ok-run_inlined.field-0 (Increase v c.args.by) c.in_ok-run_inlined.ensures
+pub run_counted_body-returns : goal.run_counted_body-returns
+run_counted_body-returns g t c = λ v found. then_last c.args.turns (levels_of c.args.level.now) c.args.statements.now c.in_ok-run_sequence_inline.field-0 (Increase v c.args.by) c.in_ok-run_sequence_inline.ensures
     (record { as_defined = λ enters p. steps_as enters c.args.turns (levels_of c.args.level.now) v c.count.result _ _ (to_z-of_z c.ranges.by) (c.count.ensures enters c.args.turns (levels_of c.args.level.now) v (found _)) })
 
-pub run_counting-again-init : goal.run_counting-again-init
-run_counting-again-init g t c = while_begins
+pub run_counting_loop-again-init : goal.run_counting_loop-again-init
+run_counting_loop-again-init g t c = while_begins
 
-pub run_counting-returns-then-not-is_below : goal.run_counting-returns-then-not-is_below
-run_counting-returns-then-not-is_below g t c = loop_as c.args.turns (levels_of c.args.level.now) c.args.variable c.args.increased c.args.statements.now (to_z-of_z c.ranges.limit) (to_z-of_z c.ranges.by)
-    (while_ends tt c.again.invariant (settled (c.is_below.ensures (levels_of c.args.level.now) c.args.variable (c.variable_at-compared.ensures _)) c.if-not-is_below.true))
+pub run_counting_loop-returns-then-not-is_below : goal.run_counting_loop-returns-then-not-is_below
+run_counting_loop-returns-then-not-is_below g t c = loop_as c.args.turns (levels_of c.args.level.now) c.args.variable c.args.increased c.args.statements.now (to_z-of_z c.ranges.limit) (to_z-of_z c.ranges.by)
+    (while_ends tt c.again.invariant (settled (c.is_below.ensures (levels_of c.args.level.now) c.args.variable (c.variable_address-compared.ensures _)) c.if-not-is_below.true))
 
-pub run_counting-returns-then-left-eq0 : goal.run_counting-returns-then-left-eq0
-run_counting-returns-then-left-eq0 g t c = loop_as c.args.turns (levels_of c.args.level.now) c.args.variable c.args.increased c.args.statements.now (to_z-of_z c.ranges.limit) (to_z-of_z c.ranges.by)
-    (while_bound c.again.invariant (settled (c.is_below.ensures (levels_of c.args.level.now) c.args.variable (c.variable_at-compared.ensures _)) c.if-not-is_below.false) c.if-left-eq0.true)
+pub run_counting_loop-returns-then-left-eq0 : goal.run_counting_loop-returns-then-left-eq0
+run_counting_loop-returns-then-left-eq0 g t c = loop_as c.args.turns (levels_of c.args.level.now) c.args.variable c.args.increased c.args.statements.now (to_z-of_z c.ranges.limit) (to_z-of_z c.ranges.by)
+    (while_bound c.again.invariant (settled (c.is_below.ensures (levels_of c.args.level.now) c.args.variable (c.variable_address-compared.ensures _)) c.if-not-is_below.false) c.if-left-eq0.true)
 
-pub run_counting-again-preserved : goal.run_counting-again-preserved
-run_counting-again-preserved g t c = while_on c.in_ok-run_counted.field-0 _ c.again.invariant
-    (settled (c.is_below.ensures (levels_of c.args.level.now) c.args.variable (c.variable_at-compared.ensures _)) c.if-not-is_below.false) c.if-left-eq0.false refl
-    (c.in_ok-run_counted.ensures c.args.increased (λ cells. c.variable_at-changed.ensures cells))
+pub run_counting_loop-again-preserved : goal.run_counting_loop-again-preserved
+run_counting_loop-again-preserved g t c = while_on c.in_ok-run_counted_body.field-0 _ c.again.invariant
+    (settled (c.is_below.ensures (levels_of c.args.level.now) c.args.variable (c.variable_address-compared.ensures _)) c.if-not-is_below.false) c.if-left-eq0.false refl
+    (c.in_ok-run_counted_body.ensures c.args.increased (λ cells. c.variable_address-changed.ensures cells))
 
-pub run_counting-returns-in_err-run_counted : goal.run_counting-returns-in_err-run_counted
-run_counting-returns-in_err-run_counted g t c = leaving (err_from_is_err_and c.from_residual.result c.from_residual.ensures.1)
-    (loop_as c.args.turns (levels_of c.args.level.now) c.args.variable c.args.increased c.args.statements.now (to_z-of_z c.ranges.limit) (to_z-of_z c.ranges.by) (while_body_fails c.in_err-run_counted.field-0.0 _ c.again.invariant
-    (settled (c.is_below.ensures (levels_of c.args.level.now) c.args.variable (c.variable_at-compared.ensures _)) c.if-not-is_below.false) c.if-left-eq0.false refl
-    (c.in_err-run_counted.ensures c.args.increased (λ cells. c.variable_at-changed.ensures cells))))
+pub run_counting_loop-returns-in_err-run_counted_body : goal.run_counting_loop-returns-in_err-run_counted_body
+run_counting_loop-returns-in_err-run_counted_body g t c = leaving (err_from_is_err_and c.from_residual.result c.from_residual.ensures.1)
+    (loop_as c.args.turns (levels_of c.args.level.now) c.args.variable c.args.increased c.args.statements.now (to_z-of_z c.ranges.limit) (to_z-of_z c.ranges.by) (while_body_fails c.in_err-run_counted_body.field-0.0 _ c.again.invariant
+    (settled (c.is_below.ensures (levels_of c.args.level.now) c.args.variable (c.variable_address-compared.ensures _)) c.if-not-is_below.false) c.if-left-eq0.false refl
+    (c.in_err-run_counted_body.ensures c.args.increased (λ cells. c.variable_address-changed.ensures cells))))

@@ -5,4 +5,4 @@ use Rattle.ob0_scope_table.proofs.fault_tokens.faults_at_tokens.Goals as goal
 
 pub loop-fault-preserved : goal.loop-fault-preserved
 loop-fault-preserved c =
-    rw c.in_ok-push.ensures.items (maps_more (fault_at c.args.tokens.now) c.loop-fault.faults.items _ c.args.found.now c.loop-fault.fault-index _ (omega arith) c.loop-fault.invariant c.place_fault.ensures)
+    rw c.in_ok-push.ensures.items (maps_more (fault_at c.args.tokens.now) c.loop-fault.faults.items _ c.args.found.now c.loop-fault.fault-index _ (omega arith) c.loop-fault.invariant c.fault_from_tokens.ensures)

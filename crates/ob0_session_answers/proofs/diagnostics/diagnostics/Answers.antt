@@ -1,6 +1,6 @@
 use Rattle.std.proofs.Common.{map, sym}
 use Rattle.std.proofs.lemmas.Result.{IfOk-weaker}
-use Rattle.ob0_analysis.specs.Diagnosed.{complaint_in}
+use Rattle.ob0_analysis.specs.Diagnosed.{complaint_of_diagnosis}
 use Rattle.ob0_session_answers.proofs.Lists.{diagnostics_of_all}
 use Rattle.ob0_session_answers.proofs.Diagnosing.{diagnosed}
 use Rattle.ob0_session_answers.proofs.diagnostics.diagnostics.Goals as goal
@@ -8,8 +8,8 @@ use Rattle.ob0_session_answers.proofs.diagnostics.diagnostics.Goals as goal
 pub returns : goal.returns
 returns g c =
     let text = g.T.TextStore.content c.args.store.now in
-    IfOk-weaker c.all_diagnostics.result _ _ (λ list h. (
+    IfOk-weaker c.locate_diagnostics.result _ _ (λ list h. (
       _,
-      diagnosed (g.T.TextStore.unit_of c.args.store.now) c.args.analysis.now text (map complaint_in c.in_ok-reported.reported.items) c.in_ok-reported.ensures.utf8 (sym c.requires) c.in_ok-reported.ensures.reported,
+      diagnosed (g.T.TextStore.unit_of c.args.store.now) c.args.analysis.now text (map complaint_of_diagnosis c.in_ok-reported.reported.items) c.in_ok-reported.ensures.utf8 (sym c.requires) c.in_ok-reported.ensures.reported,
       diagnostics_of_all _ _ _ h,
-    )) c.all_diagnostics.ensures
+    )) c.locate_diagnostics.ensures

@@ -9,15 +9,15 @@ use Rattle.ob0_session_json.proofs.Placed.{location_put, still_ends}
 use Rattle.ob0_session_json.proofs.places.write_locations.Goals as goal
 use Rattle.ob0_session_json.proofs.places.write_locations.Goals.{then-later, else-later}
 
-pub location_before-at-requires : goal.location_before-at-requires
-location_before-at-requires c = c.loop-range.invariant.2.long_enough
+pub write_location_before-at-requires : goal.write_location_before-at-requires
+write_location_before-at-requires c = c.loop-range.invariant.2.long_enough
 
 pub loop-range-init : goal.loop-range-init
 loop-range-init c = (each_none false _, refl, subst (EndsInUri c.args.uri.now) (sym c.as_mut_slice-buffer.ensures.value) c.in_ok-text.ensures)
 
 pub loop-range-preserved : goal.loop-range-preserved
 loop-range-preserved c =
-    let put = c.location_before-at in
+    let put = c.write_location_before-at in
     let buffer = put.new.buffer in
     let from = c.if-later.from in
     let chosen : from ≡ (if c.loop-range.later then put.result else put.result + 1) =

@@ -7,17 +7,17 @@ use Rattle.ob0_text.proofs.LinePlaces.{some_start, seeks}
 use Rattle.ob0_text.proofs.StretchSteps.{sought_past_stretch}
 use Rattle.ob0_text.proofs.line_lookups.place_after_counted.Goals as goal
 
-pub line_place-start-requires : goal.line_place-start-requires
-line_place-start-requires c =
+pub line_start_place-start-requires : goal.line_start_place-start-requires
+line_start_place-start-requires c =
     subst (λ t. 0 < length t) (sym c.requires.lines.starts) (some_start (chars c.args.text.now))
 
-pub onward_to_position-requires : goal.onward_to_position-requires
-onward_to_position-requires c =
+pub advance_to_position-requires : goal.advance_to_position-requires
+advance_to_position-requires c =
     let width = width_of c.args.unit in
     let text = c.args.text.now in
     let position = c.args.position in
     let counted = c.args.counted.counted in
-    let start = c.line_place-start in
+    let start = c.line_start_place-start in
     let sought = seeks width text c.args.table.now.starts position start.result c.utf8.text c.requires.lines.starts start.ensures.offset start.ensures.line start.ensures.character in
     let here : c.args.counted.start ≡ start.result.offset = omega (arith, c.if-start-counted.false) in
     let line : start.result.line ≡ position.line = omega (arith, c.if-start-position.false) in

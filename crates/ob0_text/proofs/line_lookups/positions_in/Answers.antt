@@ -6,16 +6,16 @@ use Rattle.ob0_text.specs.Units.{width_of}
 use Rattle.ob0_text.proofs.Collecting.{one_more}
 use Rattle.ob0_text.proofs.line_lookups.positions_in.Goals as goal
 
-pub onward_to_offset-place-requires-clause-place : goal.onward_to_offset-place-requires-clause-place
-onward_to_offset-place-requires-clause-place c =
-    c.nearest_before-from.ensures.place c.args.unit c.loop-offset.invariant.place
+pub advance_to_offset-place-requires-clause-place : goal.advance_to_offset-place-requires-clause-place
+advance_to_offset-place-requires-clause-place c =
+    c.nearest_place_before-from.ensures.place c.args.unit c.loop-offset.invariant.place
 
 pub loop-offset-preserved : goal.loop-offset-preserved
 loop-offset-preserved c = record {
-  place = c.onward_to_offset-place.ensures.place;
+  place = c.advance_to_offset-place.ensures.place;
   done = c.in_ok-push.ensures.items
       ∙ one_more (position_of (width_of c.args.unit) (chars c.args.text.now)) c.args.offsets.now c.loop-offset.offset-index 0 c.loop-offset.positions.items c.position_at.result
-      c.loop-offset-test.true c.loop-offset.invariant.done (c.position_at.ensures ∙ c.onward_to_offset-place.ensures.position);
+      c.loop-offset-test.true c.loop-offset.invariant.done (c.position_at.ensures ∙ c.advance_to_offset-place.ensures.position);
 }
 
 pub returns : goal.returns

@@ -8,10 +8,10 @@ use Rattle.ob0_text.proofs.passes.positions_of.Goals as goal
 
 pub loop-offset-preserved : goal.loop-offset-preserved
 loop-offset-preserved c = record {
-  place = c.onward_to_offset-place.ensures.place;
+  place = c.advance_to_offset-place.ensures.place;
   done = c.in_ok-push.ensures.items
       ∙ one_more (position_of (width_of c.args.unit) (chars c.args.text.now)) c.args.offsets.now c.loop-offset.offset-index 0 c.loop-offset.positions.items c.position_at.result
-      c.loop-offset-test.true c.loop-offset.invariant.done (c.position_at.ensures ∙ c.onward_to_offset-place.ensures.position);
+      c.loop-offset-test.true c.loop-offset.invariant.done (c.position_at.ensures ∙ c.advance_to_offset-place.ensures.position);
 }
 
 pub returns : goal.returns

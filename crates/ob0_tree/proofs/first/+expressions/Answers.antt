@@ -1,7 +1,7 @@
 use Rattle.std.proofs.Common.{◌≡◌, ℕ, List, Option, is_some, false, sym, ap, ◌∙◌}
 use Rattle.ob0_tree.specs.declared.tree.Addend.{Addend}
 use Rattle.ob0_tree.specs.declared.tree.Multiplier.{Multiplier}
-use Rattle.ob0_tree.specs.declared.tree.Simple.{Simple, out-Simple}
+use Rattle.ob0_tree.specs.declared.tree.SimpleExpression.{SimpleExpression, out-SimpleExpression}
 use Rattle.ob0_tree.specs.declared.tree.Term.{Term, out-Term}
 use Rattle.ob0_tree.specs.declared.tree.Role.TheVariants as role
 use Rattle.ob0_tree.specs.FirstIdentifier.{first_identifier}
@@ -13,11 +13,11 @@ use Rattle.ob0_tree.proofs.first.+expressions.Goals as goal
 
 -- If the first term has no identifier, the first identifier of the further terms is the first one
 -- of the simple expression.
-further_terms : (s : Simple) (xs : List Addend) {found : Option ℕ} → found ≡ first_identifier (term_of (out-Simple s).first) → is_some found ≡ false → xs ≡ (out-Simple s).more.items
+further_terms : (s : SimpleExpression) (xs : List Addend) {found : Option ℕ} → found ≡ first_identifier (term_of (out-SimpleExpression s).first) → is_some found ≡ false → xs ≡ (out-SimpleExpression s).more.items
     → first_identifier (items_of addend_of xs) ≡ first_identifier (simple_of s)
 further_terms s xs e none same =
     ap (λ ys. first_identifier (items_of addend_of ys)) same
-    ∙ (found_later (identifiers role.Declaring (term_of (out-Simple s).first)) (identifiers role.Declaring (items_of addend_of (out-Simple s).more.items)) e none
+    ∙ (found_later (identifiers role.Declaring (term_of (out-SimpleExpression s).first)) (identifiers role.Declaring (items_of addend_of (out-SimpleExpression s).more.items)) e none
     ∙ ap first_identifier (sym (simple_parts s)))
 
 -- If the first factor has no identifier, the first identifier of the further factors is the first
@@ -29,41 +29,41 @@ further_factors t xs e none same =
     ∙ (found_later (identifiers role.Declaring (factor_of (out-Term t).first)) (identifiers role.Declaring (items_of multiplier_of (out-Term t).more.items)) e none
     ∙ ap first_identifier (sym (term_parts t)))
 
-pub simple-returns-then-is_some : goal.simple-returns-then-is_some
-simple-returns-then-is_some t c =
-    let s = out-Simple c.args.s.now in
-    found_first (identifiers role.Declaring (term_of s.first)) (identifiers role.Declaring (items_of addend_of s.more.items)) c.term-found.ensures (sym c.is_some.ensures ∙ c.if-is_some.true)
+pub first_in_simple-returns-then-is_some : goal.first_in_simple-returns-then-is_some
+first_in_simple-returns-then-is_some t c =
+    let s = out-SimpleExpression c.args.s.now in
+    found_first (identifiers role.Declaring (term_of s.first)) (identifiers role.Declaring (items_of addend_of s.more.items)) c.first_in_term-found.ensures (sym c.is_some.ensures ∙ c.if-is_some.true)
     ∙ ap first_identifier (sym (simple_parts c.args.s.now))
 
-pub simple-returns-then-is_some-2 : goal.simple-returns-then-is_some-2
-simple-returns-then-is_some-2 t c =
+pub first_in_simple-returns-then-is_some-2 : goal.first_in_simple-returns-then-is_some-2
+first_in_simple-returns-then-is_some-2 t c =
     found_here addend_of c.addend-item.result c.loop-addend.invariant c.loop-addend-test.true c.addend-item.is
-    (c.term-found-in-loop-addend.ensures ∙ ap first_identifier (sym (addend_parts c.addend-item.result))) (sym c.is_some-in-loop-addend.ensures ∙ c.if-is_some-2.true)
-    ∙ further_terms c.args.s.now c.deref-addend-items.result.now c.term-found.ensures (sym c.is_some.ensures ∙ c.if-is_some.false) c.deref-addend-items.ensures.value
+    (c.first_in_term-found-in-loop-addend.ensures ∙ ap first_identifier (sym (addend_parts c.addend-item.result))) (sym c.is_some-in-loop-addend.ensures ∙ c.if-is_some-2.true)
+    ∙ further_terms c.args.s.now c.deref-addend-items.result.now c.first_in_term-found.ensures (sym c.is_some.ensures ∙ c.if-is_some.false) c.deref-addend-items.ensures.value
 
-pub simple-loop-addend-preserved : goal.simple-loop-addend-preserved
-simple-loop-addend-preserved t c =
+pub first_in_simple-loop-addend-preserved : goal.first_in_simple-loop-addend-preserved
+first_in_simple-loop-addend-preserved t c =
     seeks_on addend_of c.addend-item.result c.loop-addend.invariant c.loop-addend-test.true c.addend-item.is
-    (c.term-found-in-loop-addend.ensures ∙ ap first_identifier (sym (addend_parts c.addend-item.result))) (sym c.is_some-in-loop-addend.ensures ∙ c.if-is_some-2.false)
+    (c.first_in_term-found-in-loop-addend.ensures ∙ ap first_identifier (sym (addend_parts c.addend-item.result))) (sym c.is_some-in-loop-addend.ensures ∙ c.if-is_some-2.false)
 
-pub simple-returns : goal.simple-returns
-simple-returns t c =
+pub first_in_simple-returns : goal.first_in_simple-returns
+first_in_simple-returns t c =
     none_found c.loop-addend.invariant c.loop-addend-test.false
-    ∙ further_terms c.args.s.now c.deref-addend-items.result.now c.term-found.ensures (sym c.is_some.ensures ∙ c.if-is_some.false) c.deref-addend-items.ensures.value
+    ∙ further_terms c.args.s.now c.deref-addend-items.result.now c.first_in_term-found.ensures (sym c.is_some.ensures ∙ c.if-is_some.false) c.deref-addend-items.ensures.value
 
-pub term-returns-then-is_some : goal.term-returns-then-is_some
-term-returns-then-is_some t c =
+pub first_in_term-returns-then-is_some : goal.first_in_term-returns-then-is_some
+first_in_term-returns-then-is_some t c =
     let x = out-Term c.args.t.now in
-    found_first (identifiers role.Declaring (factor_of x.first)) (identifiers role.Declaring (items_of multiplier_of x.more.items)) c.factor-found.ensures (sym c.is_some.ensures ∙ c.if-is_some.true)
+    found_first (identifiers role.Declaring (factor_of x.first)) (identifiers role.Declaring (items_of multiplier_of x.more.items)) c.first_in_factor-found.ensures (sym c.is_some.ensures ∙ c.if-is_some.true)
     ∙ ap first_identifier (sym (term_parts c.args.t.now))
 
-pub term-returns-then-is_some-2 : goal.term-returns-then-is_some-2
-term-returns-then-is_some-2 t c =
-    found_here multiplier_of c.multiplier-item.result c.loop-multiplier.invariant c.loop-multiplier-test.true c.multiplier-item.is c.factor-found-in-loop-multiplier.ensures
+pub first_in_term-returns-then-is_some-2 : goal.first_in_term-returns-then-is_some-2
+first_in_term-returns-then-is_some-2 t c =
+    found_here multiplier_of c.multiplier-item.result c.loop-multiplier.invariant c.loop-multiplier-test.true c.multiplier-item.is c.first_in_factor-found-in-loop-multiplier.ensures
     (sym c.is_some-in-loop-multiplier.ensures ∙ c.if-is_some-2.true)
-    ∙ further_factors c.args.t.now c.deref-multiplier-items.result.now c.factor-found.ensures (sym c.is_some.ensures ∙ c.if-is_some.false) c.deref-multiplier-items.ensures.value
+    ∙ further_factors c.args.t.now c.deref-multiplier-items.result.now c.first_in_factor-found.ensures (sym c.is_some.ensures ∙ c.if-is_some.false) c.deref-multiplier-items.ensures.value
 
-pub term-returns : goal.term-returns
-term-returns t c =
+pub first_in_term-returns : goal.first_in_term-returns
+first_in_term-returns t c =
     none_found c.loop-multiplier.invariant c.loop-multiplier-test.false
-    ∙ further_factors c.args.t.now c.deref-multiplier-items.result.now c.factor-found.ensures (sym c.is_some.ensures ∙ c.if-is_some.false) c.deref-multiplier-items.ensures.value
+    ∙ further_factors c.args.t.now c.deref-multiplier-items.result.now c.first_in_factor-found.ensures (sym c.is_some.ensures ∙ c.if-is_some.false) c.deref-multiplier-items.ensures.value

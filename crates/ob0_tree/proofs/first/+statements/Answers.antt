@@ -2,9 +2,9 @@ use Rattle.std.proofs.Common.{◌≡◌, ℕ, List, Option, is_some, true, false
 use Rattle.ob0_tree.specs.declared.tree.If.{If, out-If}
 use Rattle.ob0_tree.specs.declared.tree.Role.{Role}
 use Rattle.ob0_tree.specs.declared.tree.Role.TheVariants as role
-use Rattle.ob0_tree.specs.FirstIdentifier.{first_identifier, first_of}
+use Rattle.ob0_tree.specs.FirstIdentifier.{first_identifier, first_token_of}
 use Rattle.ob0_tree.specs.Tree.{branches, identifiers}
-use Rattle.ob0_tree.specs.View.{else_in, elsif_of, expression_of, if_of, items_of, sequence_listed, statement_of}
+use Rattle.ob0_tree.specs.View.{else_part_of, elsif_of, expression_of, if_of, items_of, sequence_of_list, statement_of}
 use Rattle.ob0_tree.proofs.Firsts.{found_first, found_later}
 use Rattle.ob0_tree.proofs.Viewed.{if_parts, repeat_read, while_read}
 use Rattle.ob0_tree.proofs.first.+statements.Goals as goal
@@ -16,81 +16,81 @@ module _ (i : If) where
   condition = identifiers role.Declaring (expression_of (out-If i).condition)
 
   abbrev first_branch : List (Role × ℕ)
-  first_branch = identifiers role.Declaring (sequence_listed (out-If i).then.items)
+  first_branch = identifiers role.Declaring (sequence_of_list (out-If i).then.items)
 
   abbrev elsif_parts : List (Role × ℕ)
   elsif_parts = identifiers role.Declaring (items_of elsif_of (out-If i).elsifs.items)
 
   abbrev last_branch : List (Role × ℕ)
-  last_branch = identifiers role.Declaring (else_in (out-If i).otherwise)
+  last_branch = identifiers role.Declaring (else_part_of (out-If i).otherwise)
 
-  whole : first_of (condition ++ (first_branch ++ (elsif_parts ++ last_branch))) ≡ first_identifier (if_of i)
+  whole : first_token_of (condition ++ (first_branch ++ (elsif_parts ++ last_branch))) ≡ first_identifier (if_of i)
   whole = ap first_identifier (sym (if_parts i))
 
-  module _ {a : Option ℕ} (is_a : a ≡ first_of condition) where
+  module _ {a : Option ℕ} (is_a : a ≡ first_token_of condition) where
     in_condition : is_some a ≡ true → a ≡ first_identifier (if_of i)
     in_condition some = found_first condition (first_branch ++ (elsif_parts ++ last_branch)) is_a some ∙ whole
 
-    module _ (no_a : is_some a ≡ false) {b : Option ℕ} (is_b : b ≡ first_of first_branch) where
+    module _ (no_a : is_some a ≡ false) {b : Option ℕ} (is_b : b ≡ first_token_of first_branch) where
       in_first_branch : is_some b ≡ true → b ≡ first_identifier (if_of i)
       in_first_branch some =
           found_first first_branch (elsif_parts ++ last_branch) is_b some
           ∙ (found_later condition (first_branch ++ (elsif_parts ++ last_branch)) is_a no_a ∙ whole)
 
-      module _ (no_b : is_some b ≡ false) {d : Option ℕ} (is_d : d ≡ first_of elsif_parts) where
-        after_two : first_of (elsif_parts ++ last_branch) ≡ first_identifier (if_of i)
+      module _ (no_b : is_some b ≡ false) {d : Option ℕ} (is_d : d ≡ first_token_of elsif_parts) where
+        after_two : first_token_of (elsif_parts ++ last_branch) ≡ first_identifier (if_of i)
         after_two = found_later first_branch (elsif_parts ++ last_branch) is_b no_b ∙ (found_later condition (first_branch ++ (elsif_parts ++ last_branch)) is_a no_a ∙ whole)
 
         in_elsifs : is_some d ≡ true → d ≡ first_identifier (if_of i)
         in_elsifs some = found_first elsif_parts last_branch is_d some ∙ after_two
 
-        in_last_branch : is_some d ≡ false → first_of last_branch ≡ first_identifier (if_of i)
+        in_last_branch : is_some d ≡ false → first_token_of last_branch ≡ first_identifier (if_of i)
         in_last_branch none = found_later elsif_parts last_branch is_d none ∙ after_two
 
-pub branches-returns-then-is_some : goal.branches-returns-then-is_some
-branches-returns-then-is_some t c = in_condition c.args.i.now c.expression-found.ensures (sym c.is_some.ensures ∙ c.if-is_some.true)
+pub first_in_if-returns-then-is_some : goal.first_in_if-returns-then-is_some
+first_in_if-returns-then-is_some t c = in_condition c.args.i.now c.first_in_expression-found.ensures (sym c.is_some.ensures ∙ c.if-is_some.true)
 
-pub branches-returns-then-is_some-2 : goal.branches-returns-then-is_some-2
-branches-returns-then-is_some-2 t c =
-    in_first_branch c.args.i.now c.expression-found.ensures (sym c.is_some.ensures ∙ c.if-is_some.false) c.sequence-found.ensures (sym c.is_some-2.ensures ∙ c.if-is_some-2.true)
+pub first_in_if-returns-then-is_some-2 : goal.first_in_if-returns-then-is_some-2
+first_in_if-returns-then-is_some-2 t c =
+    in_first_branch c.args.i.now c.first_in_expression-found.ensures (sym c.is_some.ensures ∙ c.if-is_some.false) c.first_in_sequence-found.ensures (sym c.is_some-2.ensures ∙ c.if-is_some-2.true)
 
-pub branches-returns-then-is_some-3 : goal.branches-returns-then-is_some-3
-branches-returns-then-is_some-3 t c =
-    in_elsifs c.args.i.now c.expression-found.ensures (sym c.is_some.ensures ∙ c.if-is_some.false) c.sequence-found.ensures (sym c.is_some-2.ensures ∙ c.if-is_some-2.false) c.elsifs-found.ensures
+pub first_in_if-returns-then-is_some-3 : goal.first_in_if-returns-then-is_some-3
+first_in_if-returns-then-is_some-3 t c =
+    in_elsifs c.args.i.now c.first_in_expression-found.ensures (sym c.is_some.ensures ∙ c.if-is_some.false) c.first_in_sequence-found.ensures (sym c.is_some-2.ensures ∙ c.if-is_some-2.false) c.first_in_elsifs-found.ensures
     (sym c.is_some-3.ensures ∙ c.if-is_some-3.true)
 
-pub branches-returns-in-Some : goal.branches-returns-in-Some
-branches-returns-in-Some t c =
-    c.sequence.ensures
-    ∙ (ap (λ o. first_identifier (else_in o)) (sym c.in-Some.is)
-    ∙ in_last_branch c.args.i.now c.expression-found.ensures (sym c.is_some.ensures ∙ c.if-is_some.false) c.sequence-found.ensures (sym c.is_some-2.ensures ∙ c.if-is_some-2.false) c.elsifs-found.ensures
+pub first_in_if-returns-in-Some : goal.first_in_if-returns-in-Some
+first_in_if-returns-in-Some t c =
+    c.first_in_sequence.ensures
+    ∙ (ap (λ o. first_identifier (else_part_of o)) (sym c.in-Some.is)
+    ∙ in_last_branch c.args.i.now c.first_in_expression-found.ensures (sym c.is_some.ensures ∙ c.if-is_some.false) c.first_in_sequence-found.ensures (sym c.is_some-2.ensures ∙ c.if-is_some-2.false) c.first_in_elsifs-found.ensures
     (sym c.is_some-3.ensures ∙ c.if-is_some-3.false))
 
-pub branches-returns-in-None : goal.branches-returns-in-None
-branches-returns-in-None t c =
-    ap (λ o. first_identifier (else_in o)) (sym c.in-None.is)
-    ∙ in_last_branch c.args.i.now c.expression-found.ensures (sym c.is_some.ensures ∙ c.if-is_some.false) c.sequence-found.ensures (sym c.is_some-2.ensures ∙ c.if-is_some-2.false) c.elsifs-found.ensures
+pub first_in_if-returns-in-None : goal.first_in_if-returns-in-None
+first_in_if-returns-in-None t c =
+    ap (λ o. first_identifier (else_part_of o)) (sym c.in-None.is)
+    ∙ in_last_branch c.args.i.now c.first_in_expression-found.ensures (sym c.is_some.ensures ∙ c.if-is_some.false) c.first_in_sequence-found.ensures (sym c.is_some-2.ensures ∙ c.if-is_some-2.false) c.first_in_elsifs-found.ensures
     (sym c.is_some-3.ensures ∙ c.if-is_some-3.false)
 
-pub statement-returns-else-is_some : goal.statement-returns-else-is_some
-statement-returns-else-is_some t c =
+pub first_in_statement-returns-else-is_some : goal.first_in_statement-returns-else-is_some
+first_in_statement-returns-else-is_some t c =
     let condition = identifiers role.Declaring (expression_of c.deref-in-While.result.now.condition) in
-    let body = identifiers role.Declaring (sequence_listed c.deref-in-While-2.result.now.body.items) in
-    c.sequence.ensures
-    ∙ (found_later condition body c.expression-found.ensures (sym c.is_some.ensures ∙ c.if-is_some.false)
+    let body = identifiers role.Declaring (sequence_of_list c.deref-in-While-2.result.now.body.items) in
+    c.first_in_sequence.ensures
+    ∙ (found_later condition body c.first_in_expression-found.ensures (sym c.is_some.ensures ∙ c.if-is_some.false)
     ∙ ap first_identifier (sym (while_read c.in-While.w c.deref-in-While.ensures c.deref-in-While-2.ensures) ∙ sym (ap statement_of c.in-While.is)))
 
-pub statement-returns-then-is_some-2 : goal.statement-returns-then-is_some-2
-statement-returns-then-is_some-2 t c =
-    let body = identifiers role.Declaring (sequence_listed c.deref-in-Repeat.result.now.body.items) in
+pub first_in_statement-returns-then-is_some-2 : goal.first_in_statement-returns-then-is_some-2
+first_in_statement-returns-then-is_some-2 t c =
+    let body = identifiers role.Declaring (sequence_of_list c.deref-in-Repeat.result.now.body.items) in
     let condition = identifiers role.Declaring (expression_of c.deref-in-Repeat.result.now.condition) in
-    found_first body condition c.sequence-found.ensures (sym c.is_some-in-Repeat.ensures ∙ c.if-is_some-2.true)
+    found_first body condition c.first_in_sequence-found.ensures (sym c.is_some-in-Repeat.ensures ∙ c.if-is_some-2.true)
     ∙ ap first_identifier (sym (repeat_read c.in-Repeat.r c.deref-in-Repeat.ensures c.deref-in-Repeat.ensures) ∙ sym (ap statement_of c.in-Repeat.is))
 
-pub statement-returns-else-is_some-2 : goal.statement-returns-else-is_some-2
-statement-returns-else-is_some-2 t c =
-    let body = identifiers role.Declaring (sequence_listed c.deref-in-Repeat.result.now.body.items) in
+pub first_in_statement-returns-else-is_some-2 : goal.first_in_statement-returns-else-is_some-2
+first_in_statement-returns-else-is_some-2 t c =
+    let body = identifiers role.Declaring (sequence_of_list c.deref-in-Repeat.result.now.body.items) in
     let condition = identifiers role.Declaring (expression_of c.deref-in-Repeat-2.result.now.condition) in
-    c.expression.ensures
-    ∙ (found_later body condition c.sequence-found.ensures (sym c.is_some-in-Repeat.ensures ∙ c.if-is_some-2.false)
+    c.first_in_expression.ensures
+    ∙ (found_later body condition c.first_in_sequence-found.ensures (sym c.is_some-in-Repeat.ensures ∙ c.if-is_some-2.false)
     ∙ ap first_identifier (sym (repeat_read c.in-Repeat.r c.deref-in-Repeat.ensures c.deref-in-Repeat-2.ensures) ∙ sym (ap statement_of c.in-Repeat.is)))

@@ -1,25 +1,25 @@
 use Rattle.std.proofs.Common.{◌≡◌, ◌+◌, List, [], ◌∷◌, refl, sym, ap, ◌∙◌}
-use Rattle.ob0_tree.proofs.Viewed.{record_made}
+use Rattle.ob0_tree.proofs.Viewed.{made_record_type}
 use Rattle.ob0_tree.specs.declared.tree.Fields.{Fields}
 use Rattle.ob0_tree.specs.Depth.{capped}
 use Rattle.ob0_tree.specs.Tree.{nesting}
-use Rattle.ob0_tree.specs.View.{further_fields_of_group, items_of, record_listed, type_of}
+use Rattle.ob0_tree.specs.View.{further_fields_of_group, items_of, record_of_list, type_of}
 use Rattle.ob0_tree.proofs.Deepest.{deeper_on, list_ends, one_deeper}
 use Rattle.ob0_tree.proofs.nesting.+types.Goals as goal
 
-groups_nest : (fs : List Fields) → nesting (items_of further_fields_of_group fs) + 1 ≡ nesting (record_listed fs)
+groups_nest : (fs : List Fields) → nesting (items_of further_fields_of_group fs) + 1 ≡ nesting (record_of_list fs)
 groups_nest [] = refl
 groups_nest (f ∷ fs) = refl
 
-pub record-loop-group-preserved : goal.record-loop-group-preserved
-record-loop-group-preserved t c = deeper_on further_fields_of_group c.group-item.result c.loop-group.invariant c.loop-group-test.true c.group-item.is c.fields.ensures c.max-deepest.ensures
+pub record_nesting-loop-group-preserved : goal.record_nesting-loop-group-preserved
+record_nesting-loop-group-preserved t c = deeper_on further_fields_of_group c.group-item.result c.loop-group.invariant c.loop-group-test.true c.group-item.is c.fields_nesting.ensures c.max-deepest.ensures
 
-pub record-returns : goal.record-returns
-record-returns t c =
+pub record_nesting-returns : goal.record_nesting-returns
+record_nesting-returns t c =
     let groups = c.args.r.now.groups.items in
     let all = list_ends c.loop-group.invariant c.loop-group-test.false ∙ ap (λ xs. capped (nesting (items_of further_fields_of_group xs))) c.deref-group-items.ensures.value in
-    one_deeper (nesting (items_of further_fields_of_group groups)) all c.deeper.ensures ∙ ap capped (groups_nest groups)
+    one_deeper (nesting (items_of further_fields_of_group groups)) all c.one_level_deeper.ensures ∙ ap capped (groups_nest groups)
 
-pub written_type-returns-in-Record : goal.written_type-returns-in-Record
-written_type-returns-in-Record t c =
-    c.record.ensures ∙ ap (λ t. capped (nesting t)) (sym (record_made c.in-Record.r) ∙ sym (ap type_of c.in-Record.is))
+pub type_nesting-returns-in-Record : goal.type_nesting-returns-in-Record
+type_nesting-returns-in-Record t c =
+    c.record_nesting.ensures ∙ ap (λ t. capped (nesting t)) (sym (made_record_type c.in-Record.r) ∙ sym (ap type_of c.in-Record.is))

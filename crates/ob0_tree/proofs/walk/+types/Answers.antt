@@ -1,10 +1,10 @@
 use Rattle.std.proofs.Common.{◌≡◌, OnOk, sym, ap, ◌∙◌, subst}
-use Rattle.ob0_tree.proofs.Viewed.{record_made}
+use Rattle.ob0_tree.proofs.Viewed.{made_record_type}
 use Rattle.ob0_tree.specs.View.{type_of}
-use Rattle.ob0_tree.specs.Visited.{visited}
+use Rattle.ob0_tree.specs.Visited.{state_after_visit}
 use Rattle.ob0_tree.proofs.walk.+types.Goals as goal
 
-pub written_type-returns-in-Record : goal.written_type-returns-in-Record
-written_type-returns-in-Record g t c =
-    subst (λ z. OnOk c.record.result (c.record.new.visitor ≡ visited g.V.Visitor.seen z c.args.visitor.now))
-    (sym (record_made c.in-Record.r) ∙ sym (ap type_of c.in-Record.is)) c.record.ensures
+pub walk_type-returns-in-Record : goal.walk_type-returns-in-Record
+walk_type-returns-in-Record g t c =
+    subst (λ z. OnOk c.walk_record.result (c.walk_record.new.visitor ≡ state_after_visit g.V.Visitor.seen z c.args.visitor.now))
+    (sym (made_record_type c.in-Record.r) ∙ sym (ap type_of c.in-Record.is)) c.walk_record.ensures

@@ -3,8 +3,8 @@ use Rattle.std.specs.Vec.{vec_len}
 use Rattle.ob0_types_check.proofs.Reported.{is_nothing}
 use Rattle.ob0_types.proofs.checked.types_with_new_body.Goals as goal
 
-pub types_by_body-requires-clause-none : goal.types_by_body-requires-clause-none
-types_by_body-requires-clause-none c =
+pub types_from_new_body-requires-clause-none : goal.types_from_new_body-requires-clause-none
+types_from_new_body-requires-clause-none c =
     let before = c.args.before in
     let ok = before.faults.ok.0 in
     is_nothing before.faults.items (vec_len before.faults) c.is_empty.result (omega (arith, ok)) c.is_empty.ensures c.if-is_empty.true

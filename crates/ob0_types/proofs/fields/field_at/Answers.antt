@@ -1,20 +1,20 @@
 use Rattle.std.proofs.Common.{◌≡◌, ℕ, List, Option, ◌∙◌, ap, sym, subst}
 use Rattle.std.specs.Prelude.{IfSome}
-use Rattle.ob0_scan.specs.Scanned.{Scanned}
+use Rattle.ob0_scan.specs.TextWithTokens.{TextWithTokens}
 use Rattle.ob0_tree.specs.Order.{IsIdentifierToken}
-use Rattle.ob0_tree.specs.Parsed.{IsParsed}
+use Rattle.ob0_tree.specs.ParsedModule.{IsParsed}
 use Rattle.ob0_scope_table.specs.Resolution.{Resolution}
 use Rattle.ob0_types_fields.specs.declared.field_name.FieldName.{FieldName}
-use Rattle.ob0_types_fields.specs.Identifiers.{AreInTextOrder, field_at, field_identifiers, field_on}
-use Rattle.ob0_types_fields.proofs.FieldTokens.{field_is_identifier, fields_ascend, fields_are_identifiers}
+use Rattle.ob0_types_fields.specs.Identifiers.{AreInTextOrder, field_at, field_identifiers, field_at_offset}
+use Rattle.ob0_types_fields.proofs.FieldNameList.{field_is_identifier, fields_ascend, fields_are_identifiers}
 use Rattle.ob0_types.proofs.fields.field_at.Goals as goal
 
 -- the fields of a module are in text order
-found_at : (r : Resolution) (source : Scanned) (xs : List FieldName) (offset : ℕ) (found : Option FieldName) → IsParsed r.module_read
-    → source ≡ r.module_read.source → xs ≡ field_identifiers r → (AreInTextOrder source xs → found ≡ field_on source offset xs) → found ≡ field_at r offset
+found_at : (r : Resolution) (source : TextWithTokens) (xs : List FieldName) (offset : ℕ) (found : Option FieldName) → IsParsed r.module_read
+    → source ≡ r.module_read.source → xs ≡ field_identifiers r → (AreInTextOrder source xs → found ≡ field_at_offset source offset xs) → found ≡ field_at r offset
 found_at r source xs offset found parsed read all on =
     on (subst (λ s. AreInTextOrder s xs) (sym read) (subst (AreInTextOrder r.module_read.source) (sym all) (fields_ascend r parsed)))
-    ∙ (λ i. field_on (read i) offset (all i))
+    ∙ (λ i. field_at_offset (read i) offset (all i))
 
 pub returns-clause-value : goal.returns-clause-value
 returns-clause-value c =

@@ -1,5 +1,5 @@
 use Rattle.std.proofs.Common.{sym, ap, ◌∙◌}
-use Rattle.ob0_tree.specs.declared.tree.Compound.{out-Compound}
+use Rattle.ob0_tree.specs.declared.tree.CompoundExpression.{out-CompoundExpression}
 use Rattle.ob0_tree.specs.declared.tree.Comparison.{out-Comparison}
 use Rattle.ob0_tree.specs.Tree.{relates}
 use Rattle.ob0_tree.specs.View.{simple_of}
@@ -10,11 +10,11 @@ use Rattle.ob0_types_table.proofs.designated.designator_of_compound.Goals as goa
 
 pub returns-in-None : goal.returns-in-None
 returns-in-None c =
-    let left = simple_of (out-Compound c.args.c.now).left in
+    let left = simple_of (out-CompoundExpression c.args.c.now).left in
     c.designator_of_simple.ensures ∙ sym (alone_designated left) ∙ sym (ap lone_designator (compound_alone c.args.c.now c.in-None.is))
 
 pub returns-in-Some : goal.returns-in-Some
 returns-in-Some c =
-    let left = simple_of (out-Compound c.args.c.now).left in
+    let left = simple_of (out-CompoundExpression c.args.c.now).left in
     let compared = out-Comparison c.in-Some.field-0.value in
     sym (compared_designated left (relates compared.relation (simple_of compared.right))) ∙ sym (ap lone_designator (compound_related c.args.c.now c.in-Some.field-0 c.in-Some.is))

@@ -8,6 +8,6 @@ pub returns-in-Factor : goal.returns-in-Factor
 returns-in-Factor c =
     c.designator_of_factor.ensures ∙ (one_designated (factor_of c.in-Factor.f) ∙ sym (ap (λ e. lone_designator (expression_of e)) c.in-Factor.is))
 
-pub returns-in-Compound : goal.returns-in-Compound
-returns-in-Compound c =
-    c.designator_of_compound.ensures ∙ (ap (λ e. lone_designator (compound_of e)) c.deref.ensures ∙ sym (ap (λ e. lone_designator (expression_of e)) c.in-Compound.is))
+pub returns-in-CompoundExpression : goal.returns-in-CompoundExpression
+returns-in-CompoundExpression c =
+    c.designator_of_compound.ensures ∙ (ap (λ e. lone_designator (compound_of e)) c.deref.ensures ∙ sym (ap (λ e. lone_designator (expression_of e)) c.in-CompoundExpression.is))

@@ -2,4 +2,4 @@ use Rattle.ob0_world_determined.proofs.laws.an_ended_conversation_is_served.Goal
 use Rattle.ob0_world_determined.proofs.Streams.{ended_conversation_is_served}
 
 pub returns : goal.returns
-returns c = ended_conversation_is_served c.one_conversation.ensures c.feeding_is_determined.ensures c.nothing_is_fed.ensures c.written_is_read.ensures
+returns c = ended_conversation_is_served c.conversation_is_determined.ensures c.feeding_is_determined.ensures c.empty_feed_completes_nothing.ensures c.written_frames_are_read.ensures

@@ -8,11 +8,11 @@ use Rattle.ob0_world_determined.proofs.laws.every_exchange_is_served.Goals as go
 
 pub returns : goal.returns
 returns c unit begin now turns begins leads =
-    let holds = c.every_exchange_holds.ensures unit begin now turns begins leads in
+    let holds = c.holds_for_every_exchange.ensures unit begin now turns begins leads in
     record {
       holds = holds;
       written = λ short put result written served. c.a_conversation_is_served.ensures now.wire.taken (now.wire.got ++ now.wire.to_editor) now.wire.session short holds.conversation put result written served;
-      written_first = λ short more put result written served. c.a_conversation_is_served_first.ensures now.wire.taken (now.wire.got ++ now.wire.to_editor) now.wire.session short holds.conversation more put result written served;
+      written_first = λ short more put result written served. c.a_conversation_is_served_as_prefix.ensures now.wire.taken (now.wire.got ++ now.wire.to_editor) now.wire.session short holds.conversation more put result written served;
       ended = λ id shutdown exit is_shutdown is_exit sent end talked short more put result written served.
           c.an_ended_conversation_is_served.ensures (now.wire.taken ++ shutdown ∷ exit ∷ []) ((now.wire.got ++ now.wire.to_editor) ++ sent) end 0 short
           (conversation_then start now.wire.taken (now.wire.got ++ now.wire.to_editor) now.wire.session (shutdown ∷ exit ∷ []) sent end holds.conversation talked)
@@ -20,6 +20,6 @@ returns c unit begin now turns begins leads =
       in_part = λ taken put part are.
           part.frames
           ∙ ap (flat_map frame)
-          (c.one_conversation.ensures start now.wire.taken part.sent (now.wire.got ++ now.wire.to_editor) part.after now.wire.session
+          (c.conversation_is_determined.ensures start now.wire.taken part.sent (now.wire.got ++ now.wire.to_editor) part.after now.wire.session
           (subst (λ contents. Conversation start contents part.sent part.after) are part.conversation) holds.conversation).0;
     }

@@ -1,6 +1,6 @@
 use Rattle.std.proofs.Common.{◌≡◌, drop}
 use Rattle.serde_json.specs.View.{items_view}
-use Rattle.ob0_world_editor.specs.Understood.{titled_action}
+use Rattle.ob0_world_editor.specs.MessagesToEditor.{titled_action}
 use Rattle.ob0_world_editor.proofs.reading.action_with_title.Given as goal
 
 -- the first action with the title is the first among the remaining actions

@@ -11,23 +11,23 @@ use Rattle.ob0_world_editor.proofs.writing.request.Goals as goal
 pub returns-in-Rename : goal.returns-in-Rename
 returns-in-Rename c =
     let this_ask = rename c.in-Rename.position (string_bytes c.in-Rename.name) in
-    let sent = rw c.as_str-new_name.ensures.value at c.send.ensures in
+    let sent = rw c.as_str-new_name.ensures.value at c.request_content.ensures in
     rw c.in-Rename.is
-    (if_ok c.send.result (λ content writes. ask_requested content.items c.args.number c.args.uri.now this_ask (writes (shallow_request c.args.number c.args.uri.now this_ask)).reads) sent)
+    (if_ok c.request_content.result (λ content writes. ask_requested content.items c.args.number c.args.uri.now this_ask (writes (shallow_request c.args.number c.args.uri.now this_ask)).reads) sent)
 
 pub returns-in-InlineHere : goal.returns-in-InlineHere
 returns-in-InlineHere c =
     let this_ask = inline_here c.in-InlineHere.position in
     rw c.in-InlineHere.is
-    (if_ok c.send-in-InlineHere.result (λ content writes. ask_requested content.items c.args.number c.args.uri.now this_ask (writes (shallow_request c.args.number c.args.uri.now this_ask)).reads)
-    c.send-in-InlineHere.ensures)
+    (if_ok c.request_content-in-InlineHere.result (λ content writes. ask_requested content.items c.args.number c.args.uri.now this_ask (writes (shallow_request c.args.number c.args.uri.now this_ask)).reads)
+    c.request_content-in-InlineHere.ensures)
 
 pub returns-in-InlineAll : goal.returns-in-InlineAll
 returns-in-InlineAll c =
     let this_ask = inline_all c.in-InlineAll.position in
     rw c.in-InlineAll.is
-    (if_ok c.send-in-InlineAll.result (λ content writes. ask_requested content.items c.args.number c.args.uri.now this_ask (writes (shallow_request c.args.number c.args.uri.now this_ask)).reads)
-    c.send-in-InlineAll.ensures)
+    (if_ok c.request_content-in-InlineAll.result (λ content writes. ask_requested content.items c.args.number c.args.uri.now this_ask (writes (shallow_request c.args.number c.args.uri.now this_ask)).reads)
+    c.request_content-in-InlineAll.ensures)
 
 pub returns-in-Format : goal.returns-in-Format
 returns-in-Format c =
@@ -35,7 +35,7 @@ returns-in-Format c =
     let message : Data → Data = λ d. request_message c.args.number (codes "textDocument/formatting") (object (member (codes "options") d (member (codes "textDocument") (document_value c.args.uri.now) no_members))) in
     let is = ap message c.of-options.ensures in
     rw c.in-Format.is
-    (if_ok c.send-in-Format.result (λ content writes.
+    (if_ok c.request_content-in-Format.result (λ content writes.
     ask_requested content.items c.args.number c.args.uri.now this_ask
     (subst (λ d. ReadsContent content.items (Some d)) is (writes (subst (λ d. depth d ≤ 127) (sym is) (shallow_request c.args.number c.args.uri.now this_ask))).reads))
-    c.send-in-Format.ensures)
+    c.request_content-in-Format.ensures)

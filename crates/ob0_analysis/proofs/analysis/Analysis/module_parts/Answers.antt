@@ -1,10 +1,10 @@
 use Rattle.std.proofs.Common.{◌∙◌, ℕ, List, ap, sym, subst}
 use Rattle.ob0_analysis.specs.Diagnosed.{IsWellTypedModule}
-use Rattle.ob0_analysis.specs.Found.{IsFound, text_of}
+use Rattle.ob0_analysis.specs.Found.{IsValidAnalysisResult, text_of}
 use Rattle.ob0_analysis.proofs.Scanning.{no_lexemes_is_none}
 use Rattle.ob0_analysis.proofs.analysis.Analysis.module_parts.Goals as goal
 
 pub returns-in-NoLexemes : goal.returns-in-NoLexemes
 returns-in-NoLexemes c =
-    let by = subst IsFound c.in-NoLexemes.is c.self.invariant in
+    let by = subst IsValidAnalysisResult c.in-NoLexemes.is c.self.invariant in
     subst (λ (t : List ℕ). IsWellTypedModule t → ⊥) (sym (ap text_of c.in-NoLexemes.is) ∙ c.self.view_is) (no_lexemes_is_none _ by.0)

@@ -1,4 +1,4 @@
 use Rattle.ob0_analysis.proofs.analysis.Analysis.of.Goals as goal
 
-pub of_tokens-requires-clause-kept : goal.of_tokens-requires-clause-kept
-of_tokens-requires-clause-kept c = c.none.ensures c.in-Ok.tokens.tokens
+pub parse_tokens-requires-clause-kept : goal.parse_tokens-requires-clause-kept
+parse_tokens-requires-clause-kept c = c.empty.ensures c.in-Ok.tokens.tokens

@@ -3,65 +3,65 @@ use Rattle.ob0_tree.specs.View.{items_of, addend_of, multiplier_of, selector_of}
 use Rattle.ob0_parse_descent.proofs.Items.{Taking}
 use Rattle.ob0_parse_descent.proofs.parser.Parser.+expressions.Given as goal
 
-abbrev pub decreases-expression : goal.decreases-expression
-decreases-expression l = 14 * l.room + 13
+abbrev pub decreases-parse_expression : goal.decreases-parse_expression
+decreases-parse_expression l = 14 * l.room + 13
 
-abbrev pub decreases-sides : goal.decreases-sides
-decreases-sides l = 14 * l.room + 12
+abbrev pub decreases-parse_expression_parts : goal.decreases-parse_expression_parts
+decreases-parse_expression_parts l = 14 * l.room + 12
 
-abbrev pub decreases-comparison : goal.decreases-comparison
-decreases-comparison l = 14 * l.room + 11
+abbrev pub decreases-parse_comparison : goal.decreases-parse_comparison
+decreases-parse_comparison l = 14 * l.room + 11
 
-abbrev pub decreases-side : goal.decreases-side
-decreases-side l = 14 * l.room + 10
+abbrev pub decreases-parse_simple_fast : goal.decreases-parse_simple_fast
+decreases-parse_simple_fast l = 14 * l.room + 10
 
-abbrev pub decreases-simple : goal.decreases-simple
-decreases-simple l = 14 * l.room + 9
+abbrev pub decreases-parse_simple : goal.decreases-parse_simple
+decreases-parse_simple l = 14 * l.room + 9
 
-abbrev pub decreases-addend : goal.decreases-addend
-decreases-addend l = 14 * l.room + 8
+abbrev pub decreases-parse_addend : goal.decreases-parse_addend
+decreases-parse_addend l = 14 * l.room + 8
 
-abbrev pub decreases-summand : goal.decreases-summand
-decreases-summand l = 14 * l.room + 7
+abbrev pub decreases-parse_term_fast : goal.decreases-parse_term_fast
+decreases-parse_term_fast l = 14 * l.room + 7
 
-abbrev pub decreases-term : goal.decreases-term
-decreases-term l = 14 * l.room + 6
+abbrev pub decreases-parse_term : goal.decreases-parse_term
+decreases-parse_term l = 14 * l.room + 6
 
-abbrev pub decreases-multiplier : goal.decreases-multiplier
-decreases-multiplier l = 14 * l.room + 5
+abbrev pub decreases-parse_multiplier : goal.decreases-parse_multiplier
+decreases-parse_multiplier l = 14 * l.room + 5
 
-abbrev pub decreases-operand : goal.decreases-operand
-decreases-operand l = 14 * l.room + 4
+abbrev pub decreases-parse_factor_fast : goal.decreases-parse_factor_fast
+decreases-parse_factor_fast l = 14 * l.room + 4
 
-abbrev pub decreases-factor : goal.decreases-factor
-decreases-factor l = 14 * l.room + 3
+abbrev pub decreases-parse_factor : goal.decreases-parse_factor
+decreases-parse_factor l = 14 * l.room + 3
 
-abbrev pub decreases-parenthesised_factor : goal.decreases-parenthesised_factor
-decreases-parenthesised_factor l = 14 * l.room + 2
+abbrev pub decreases-parse_parenthesised_factor : goal.decreases-parse_parenthesised_factor
+decreases-parse_parenthesised_factor l = 14 * l.room + 2
 
-abbrev pub decreases-negation : goal.decreases-negation
-decreases-negation l = 14 * l.room + 2
+abbrev pub decreases-parse_negation : goal.decreases-parse_negation
+decreases-parse_negation l = 14 * l.room + 2
 
-abbrev pub decreases-designator : goal.decreases-designator
-decreases-designator l = 14 * l.room + 2
+abbrev pub decreases-parse_designator : goal.decreases-parse_designator
+decreases-parse_designator l = 14 * l.room + 2
 
-abbrev pub decreases-selector : goal.decreases-selector
-decreases-selector l = 14 * l.room + 1
+abbrev pub decreases-parse_selector : goal.decreases-parse_selector
+decreases-parse_selector l = 14 * l.room + 1
 
-abbrev pub invariant-designator-loop-selectors : goal.invariant-designator-loop-selectors
-invariant-designator-loop-selectors l = Taking (items_of selector_of l.selectors.items) l.room l.self.tokens.now l.initial.next l.next
+abbrev pub invariant-parse_designator-loop-selectors : goal.invariant-parse_designator-loop-selectors
+invariant-parse_designator-loop-selectors l = Taking (items_of selector_of l.selectors.items) l.room l.self.tokens.now l.initial.next l.next
 
-abbrev pub decreases-designator-loop-selectors : goal.decreases-designator-loop-selectors
-decreases-designator-loop-selectors l = length l.self.tokens.now - l.next
+abbrev pub decreases-parse_designator-loop-selectors : goal.decreases-parse_designator-loop-selectors
+decreases-parse_designator-loop-selectors l = length l.self.tokens.now - l.next
 
-abbrev pub invariant-simple-loop-more : goal.invariant-simple-loop-more
-invariant-simple-loop-more l = Taking (items_of addend_of l.more.items) l.room l.self.tokens.now l.initial.next l.next
+abbrev pub invariant-parse_simple-loop-more : goal.invariant-parse_simple-loop-more
+invariant-parse_simple-loop-more l = Taking (items_of addend_of l.more.items) l.room l.self.tokens.now l.initial.next l.next
 
-abbrev pub decreases-simple-loop-more : goal.decreases-simple-loop-more
-decreases-simple-loop-more l = length l.self.tokens.now - l.next
+abbrev pub decreases-parse_simple-loop-more : goal.decreases-parse_simple-loop-more
+decreases-parse_simple-loop-more l = length l.self.tokens.now - l.next
 
-abbrev pub invariant-term-loop-more : goal.invariant-term-loop-more
-invariant-term-loop-more l = (Taking (items_of multiplier_of l.more.items) l.room l.self.tokens.now l.initial.next l.next) × (l.first ≡ l.initial.first)
+abbrev pub invariant-parse_term-loop-more : goal.invariant-parse_term-loop-more
+invariant-parse_term-loop-more l = (Taking (items_of multiplier_of l.more.items) l.room l.self.tokens.now l.initial.next l.next) × (l.first ≡ l.initial.first)
 
-abbrev pub decreases-term-loop-more : goal.decreases-term-loop-more
-decreases-term-loop-more l = length l.self.tokens.now - l.next
+abbrev pub decreases-parse_term-loop-more : goal.decreases-parse_term-loop-more
+decreases-parse_term-loop-more l = length l.self.tokens.now - l.next

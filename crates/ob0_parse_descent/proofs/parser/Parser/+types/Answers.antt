@@ -1,7 +1,7 @@
 use Rattle.std.proofs.Common.{arith}
 use Rattle.std.proofs.lemmas.Result.{err_from_is_err_and}
 use Rattle.ob0_tree.specs.View.{expression_of, type_of, fields_of, names_of, further_fields_of_group}
-use Rattle.ob0_tree.proofs.Viewed.{record_made}
+use Rattle.ob0_tree.proofs.Viewed.{made_record_type}
 use Rattle.ob0_parse_descent.proofs.Leads.{fails_in_token}
 use Rattle.ob0_parse_descent.proofs.Refusals.{fails_in, fails_pass, fails_pass_token}
 use Rattle.ob0_parse_descent.proofs.Lists.{listing_one, listing_more, listing_done, listing_fails, listed_pass}
@@ -9,99 +9,99 @@ use Rattle.ob0_parse_descent.proofs.Led.{taken_led, led_fails, leads_then_fields
 use Rattle.ob0_parse_descent.proofs.TypeParts.{taken_named, type_missing, taken_array, array_fails, array_too_deep, taken_record, record_fails, record_too_deep, taken_no_fields, taken_fields, fields_fail}
 use Rattle.ob0_parse_descent.proofs.parser.Parser.+types.Goals as goal
 
-pub array_type-returns-in_err-inner : goal.array_type-returns-in_err-inner
-array_type-returns-in_err-inner t c =
+pub parse_array_type-returns-in_err-inner : goal.parse_array_type-returns-in_err-inner
+parse_array_type-returns-in_err-inner t c =
     let p = err_from_is_err_and c.from_residual.result c.from_residual.ensures.1 in
     rw (p.1, p.2) (array_too_deep c.requires.1 c.in_err-inner.ensures c.requires.0)
 
-pub array_type-returns-in_err-size : goal.array_type-returns-in_err-size
-array_type-returns-in_err-size t c =
+pub parse_array_type-returns-in_err-size : goal.parse_array_type-returns-in_err-size
+parse_array_type-returns-in_err-size t c =
     let p = err_from_is_err_and c.from_residual-in_err-size.result c.from_residual-in_err-size.ensures.1 in
     rw (p.1, p.2) (array_fails c.in_ok-inner.ensures c.requires.0 (fails_in c.in_err-size.ensures))
 
-pub array_type-returns-in_err-start : goal.array_type-returns-in_err-start
-array_type-returns-in_err-start t c =
+pub parse_array_type-returns-in_err-start : goal.parse_array_type-returns-in_err-start
+parse_array_type-returns-in_err-start t c =
     let p = err_from_is_err_and c.from_residual-in_err-start.result c.from_residual-in_err-start.ensures.1 in
     rw (p.1, p.2) (array_fails c.in_ok-inner.ensures c.requires.0 (fails_pass (expression_of c.in_ok-size.size) c.in_ok-size.ensures (fails_in_token c.in_err-start.ensures)))
 
-pub array_type-returns-in_err-element : goal.array_type-returns-in_err-element
-array_type-returns-in_err-element t c =
+pub parse_array_type-returns-in_err-element : goal.parse_array_type-returns-in_err-element
+parse_array_type-returns-in_err-element t c =
     let p = err_from_is_err_and c.from_residual-in_err-element.result c.from_residual-in_err-element.ensures.1 in
     rw (p.1, p.2) (array_fails c.in_ok-inner.ensures c.requires.0 (fails_pass (expression_of c.in_ok-size.size) c.in_ok-size.ensures (fails_pass_token c.in_ok-start.ensures.0 c.in_ok-start.ensures.2 c.in_err-element.ensures)))
 
-pub array_type-returns : goal.array_type-returns
-array_type-returns t c =
+pub parse_array_type-returns : goal.parse_array_type-returns
+parse_array_type-returns t c =
     rw c.in_ok-element-2.ensures.ok (taken_array (expression_of c.in_ok-size.size) _ c.in_ok-inner.ensures c.requires.0 c.in_ok-size.ensures c.in_ok-start.ensures c.in_ok-element.ensures)
 
-pub fields-returns-then-not-at_name : goal.fields-returns-then-not-at_name
-fields-returns-then-not-at_name t c =
-    taken_no_fields c.if-not-at_name.ensures
+pub parse_fields-returns-then-not-has_name_at : goal.parse_fields-returns-then-not-has_name_at
+parse_fields-returns-then-not-has_name_at t c =
+    taken_no_fields c.if-not-has_name_at.ensures
 
-pub fields-returns-in_err-names : goal.fields-returns-in_err-names
-fields-returns-in_err-names t c =
+pub parse_fields-returns-in_err-names : goal.parse_fields-returns-in_err-names
+parse_fields-returns-in_err-names t c =
     let p = err_from_is_err_and c.from_residual.result c.from_residual.ensures.1 in
-    rw (p.1, p.2) (fields_fail c.if-not-at_name.ensures.0 (fails_in c.in_err-names.ensures))
+    rw (p.1, p.2) (fields_fail c.if-not-has_name_at.ensures.0 (fails_in c.in_err-names.ensures))
 
-pub fields-returns-in_err-start : goal.fields-returns-in_err-start
-fields-returns-in_err-start t c =
+pub parse_fields-returns-in_err-start : goal.parse_fields-returns-in_err-start
+parse_fields-returns-in_err-start t c =
     let p = err_from_is_err_and c.from_residual-in_err-start.result c.from_residual-in_err-start.ensures.1 in
-    rw (p.1, p.2) (fields_fail c.if-not-at_name.ensures.0 (fails_pass (names_of c.in_ok-names.names) c.in_ok-names.ensures (fails_in_token c.in_err-start.ensures)))
+    rw (p.1, p.2) (fields_fail c.if-not-has_name_at.ensures.0 (fails_pass (names_of c.in_ok-names.names) c.in_ok-names.ensures (fails_in_token c.in_err-start.ensures)))
 
-pub fields-returns-in_err-written : goal.fields-returns-in_err-written
-fields-returns-in_err-written t c =
+pub parse_fields-returns-in_err-written : goal.parse_fields-returns-in_err-written
+parse_fields-returns-in_err-written t c =
     let p = err_from_is_err_and c.from_residual-in_err-written.result c.from_residual-in_err-written.ensures.1 in
-    rw (p.1, p.2) (fields_fail c.if-not-at_name.ensures.0 (fails_pass (names_of c.in_ok-names.names) c.in_ok-names.ensures (fails_pass_token c.in_ok-start.ensures.0 c.in_ok-start.ensures.2 c.in_err-written.ensures)))
+    rw (p.1, p.2) (fields_fail c.if-not-has_name_at.ensures.0 (fails_pass (names_of c.in_ok-names.names) c.in_ok-names.ensures (fails_pass_token c.in_ok-start.ensures.0 c.in_ok-start.ensures.2 c.in_err-written.ensures)))
 
-pub fields-returns : goal.fields-returns
-fields-returns t c =
+pub parse_fields-returns : goal.parse_fields-returns
+parse_fields-returns t c =
     rw c.in_ok-boxed.ensures.ok (taken_fields (names_of c.in_ok-names.names) (type_of c.in_ok-written.written) c.in_ok-names.ensures c.in_ok-start.ensures c.in_ok-written.ensures)
 
-pub further_fields-returns-in_err-fields : goal.further_fields-returns-in_err-fields
-further_fields-returns-in_err-fields t c =
+pub parse_further_fields-returns-in_err-fields : goal.parse_further_fields-returns-in_err-fields
+parse_further_fields-returns-in_err-fields t c =
     let p = err_from_is_err_and c.from_residual.result c.from_residual.ensures.1 in
-    rw (p.1, p.2) (led_fails leads_then_fields c.if-not-at_symbol.ensures.0 c.in_err-fields.ensures)
+    rw (p.1, p.2) (led_fails leads_then_fields c.if-not-has_symbol_at.ensures.0 c.in_err-fields.ensures)
 
-pub further_fields-returns : goal.further_fields-returns
-further_fields-returns t c =
-    (taken_led leads_then_fields (fields_of c.in_ok-fields.fields) c.if-not-at_symbol.ensures.0 c.in_ok-fields.ensures, omega (arith, c.in_ok-fields.ensures.forward))
+pub parse_further_fields-returns : goal.parse_further_fields-returns
+parse_further_fields-returns t c =
+    (taken_led leads_then_fields (fields_of c.in_ok-fields.fields) c.if-not-has_symbol_at.ensures.0 c.in_ok-fields.ensures, omega (arith, c.in_ok-fields.ensures.forward))
 
-pub record_type-returns-in_err-inner : goal.record_type-returns-in_err-inner
-record_type-returns-in_err-inner t c =
+pub parse_record_type-returns-in_err-inner : goal.parse_record_type-returns-in_err-inner
+parse_record_type-returns-in_err-inner t c =
     let p = err_from_is_err_and c.from_residual.result c.from_residual.ensures.1 in
     rw (p.1, p.2) (record_too_deep c.requires.1 c.in_err-inner.ensures c.requires.0)
 
-pub record_type-returns-in_err-first : goal.record_type-returns-in_err-first
-record_type-returns-in_err-first t c =
+pub parse_record_type-returns-in_err-first : goal.parse_record_type-returns-in_err-first
+parse_record_type-returns-in_err-first t c =
     let p = err_from_is_err_and c.from_residual-in_err-first.result c.from_residual-in_err-first.ensures.1 in
     rw (p.1, p.2) (record_fails c.in_ok-inner.ensures c.requires.0 (fails_in c.in_err-first.ensures))
 
-pub record_type-loop-groups-init : goal.record_type-loop-groups-init
-record_type-loop-groups-init t c =
-    rw (c.in_ok-add.ensures.added, c.new-groups.ensures.items) (listing_one fields_of further_fields_of_group c.in_ok-first.first c.in_ok-first.ensures)
+pub parse_record_type-loop-groups-init : goal.parse_record_type-loop-groups-init
+parse_record_type-loop-groups-init t c =
+    rw (c.in_ok-push_doubling.ensures.added, c.new-groups.ensures.items) (listing_one fields_of further_fields_of_group c.in_ok-first.first c.in_ok-first.ensures)
 
-pub record_type-returns-in_err-fields : goal.record_type-returns-in_err-fields
-record_type-returns-in_err-fields t c =
+pub parse_record_type-returns-in_err-fields : goal.parse_record_type-returns-in_err-fields
+parse_record_type-returns-in_err-fields t c =
     let p = err_from_is_err_and c.from_residual-in_err-fields.result c.from_residual-in_err-fields.ensures.1 in
     rw (p.1, p.2) (record_fails c.in_ok-inner.ensures c.requires.0 (listing_fails c.loop-groups.invariant c.in_err-fields.ensures))
 
-pub record_type-loop-groups-preserved : goal.record_type-loop-groups-preserved
-record_type-loop-groups-preserved t c =
+pub parse_record_type-loop-groups-preserved : goal.parse_record_type-loop-groups-preserved
+parse_record_type-loop-groups-preserved t c =
     let item = rw c.in-Some.is at c.in_ok-fields.ensures in
-    rw c.in_ok-add-2.ensures.added (listing_more fields_of further_fields_of_group c.loop-groups.groups.items _ c.loop-groups.invariant item.0)
+    rw c.in_ok-push_doubling-2.ensures.added (listing_more fields_of further_fields_of_group c.loop-groups.groups.items _ c.loop-groups.invariant item.0)
 
-pub record_type-returns-in_err-end : goal.record_type-returns-in_err-end
-record_type-returns-in_err-end t c =
+pub parse_record_type-returns-in_err-end : goal.parse_record_type-returns-in_err-end
+parse_record_type-returns-in_err-end t c =
     let p = err_from_is_err_and c.from_residual-in_err-end.result c.from_residual-in_err-end.ensures.1 in
     rw (p.1, p.2) (record_fails c.in_ok-inner.ensures c.requires.0 (listed_pass (listing_done c.loop-groups.invariant (rw c.in_default.is at c.in_ok-fields.ensures)) (fails_in_token c.in_err-end.ensures)))
 
-pub record_type-returns : goal.record_type-returns
-record_type-returns t c =
-    rw (record_made _) (taken_record c.loop-groups.groups.items c.in_ok-inner.ensures c.requires.0 (listing_done c.loop-groups.invariant (rw c.in_default.is at c.in_ok-fields.ensures)) c.in_ok-end.ensures)
+pub parse_record_type-returns : goal.parse_record_type-returns
+parse_record_type-returns t c =
+    rw (made_record_type _) (taken_record c.loop-groups.groups.items c.in_ok-inner.ensures c.requires.0 (listing_done c.loop-groups.invariant (rw c.in_default.is at c.in_ok-fields.ensures)) c.in_ok-end.ensures)
 
-pub written_type-returns-then-at_name : goal.written_type-returns-then-at_name
-written_type-returns-then-at_name t c =
-    taken_named c.if-at_name.ensures
+pub parse_type-returns-then-has_name_at : goal.parse_type-returns-then-has_name_at
+parse_type-returns-then-has_name_at t c =
+    taken_named c.if-has_name_at.ensures
 
-pub written_type-returns : goal.written_type-returns
-written_type-returns t c =
-    rw c.missing.ensures (type_missing c.if-at_name.ensures c.if-at_word.ensures c.if-at_word-2.ensures)
+pub parse_type-returns : goal.parse_type-returns
+parse_type-returns t c =
+    rw c.syntax_error.ensures (type_missing c.if-has_name_at.ensures c.if-has_word_at.ensures c.if-has_word_at-2.ensures)

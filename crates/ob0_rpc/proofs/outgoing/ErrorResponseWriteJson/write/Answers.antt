@@ -13,5 +13,5 @@ same_id of None = refl
 
 pub returns : goal.returns
 returns c =
-    let id = subst (λ (d : Data). AppendsMember 44 (codes "id") d c.first_member.new.out.items c.next_member.new.out.items) (same_id (λ i. i.now) c.args.self.now.id) c.in_ok-next_member.ensures in
-    on_ok_weaker c.end_object.result (λ is. object_of _ _ _ _ _ refl refl (_, c.in_ok-first_member.ensures, (_, id, (_, c.in_ok-next_member-2.ensures, is)))) c.end_object.ensures
+    let id = subst (λ (d : Data). AppendsMember 44 (codes "id") d c.write_first_member.new.out.items c.write_next_member.new.out.items) (same_id (λ i. i.now) c.args.self.now.id) c.in_ok-write_next_member.ensures in
+    on_ok_weaker c.end_object.result (λ is. object_of _ _ _ _ _ refl refl (_, c.in_ok-write_first_member.ensures, (_, id, (_, c.in_ok-write_next_member-2.ensures, is)))) c.end_object.ensures

@@ -1,7 +1,7 @@
 use Rattle.std.proofs.Common.{◌≡◌, suc, ◌-◌, refl, sym, ap, subst, arith}
 use Rattle.ob0_tree.specs.View.{block_of, items_of, procedure_of}
 use Rattle.ob0_tree.specs.declared.tree.Procedure.{out-Procedure}
-use Rattle.ob0_scope_table.specs.InLabels.{in_labels}
+use Rattle.ob0_scope_table.specs.LabelledTrees.{tree_with_labels}
 use Rattle.ob0_run_lowering.specs.declared.scene.Scene.{Scene}
 use Rattle.ob0_run_machine.specs.declared.code.Routine.{Routine}
 use Rattle.ob0_run_lowering.specs.Blocks.{LowersBlock}
@@ -19,7 +19,7 @@ block-loop-p-preserved t c =
     let r = c.args.context.now.resolved.now in
     let items = c.deref-p-items.result.now in
     record {
-      goes = goes_on c.args.context.now.types.now (record { visible = c.variables.new.self; procedures = c.args.self.now.procedures }) c.loop-p.self c.procedure.new.self c.in_ok-own.own.depth r items c.loop-p.p-index c.p-item.result (in_labels r (items_of procedure_of items))
+      goes = goes_on c.args.context.now.types.now (record { visible = c.variables.new.self; procedures = c.args.self.now.procedures }) c.loop-p.self c.procedure.new.self c.in_ok-own.own.depth r items c.loop-p.p-index c.p-item.result (tree_with_labels r (items_of procedure_of items))
           c.loop-p.invariant.goes c.loop-p-test.true c.p-item.is c.in_ok-procedure.ensures;
     }
 
@@ -37,16 +37,16 @@ procedure-returns t c = λ rest.
     let r = c.args.context.now.resolved.now in
     let deep : c.in-Some.inside ≡ suc c.args.depth = omega (arith, c.in-Some.ensures) in
     let first : Frame = record { depth = c.in-Some.inside; cells = 0; references = 0 } in
-    let lowers : LowersBlock c.args.context.now.types.now (record { visible = c.parameters.new.self; procedures = c.announce.new.self.procedures }) c.block.new.self c.in_ok-frame.frame (in_labels r (block_of (out-Procedure c.args.p.now).block)) c.in_ok-entry.entry = c.in_ok-entry.ensures in
-    procedure_means c.args.context.now.types.now c.args.self.now c.announce.new.self c.block.new.self c.keep.new.self c.args.depth c.in_ok-index.index c.args.p.now r first c.in_ok-frame.frame c.in_ok-entry.entry rest
+    let lowers : LowersBlock c.args.context.now.types.now (record { visible = c.place_formals.new.self; procedures = c.reserve_routine.new.self.procedures }) c.block.new.self c.in_ok-frame.frame (tree_with_labels r (block_of (out-Procedure c.args.p.now).block)) c.in_ok-entry.entry = c.in_ok-entry.ensures in
+    procedure_means c.args.context.now.types.now c.args.self.now c.reserve_routine.new.self c.block.new.self c.set_routine.new.self c.args.depth c.in_ok-index.index c.args.p.now r first c.in_ok-frame.frame c.in_ok-entry.entry rest
     record {
       index_is = c.in_ok-index.ensures.index;
       sites = c.in_ok-index.ensures.sites;
       announced = c.in_ok-index.ensures.follows;
       pushed = c.in_ok-index.ensures.pushed;
       first_is = ap (λ n. record { depth = n; cells = 0; references = 0 }) deep;
-      placed = (c.parameters.new.self, c.in_ok-frame.ensures, lowers);
-      back = subst (IsRestored c.announce.new.self.visible c.block.new.self.visible) (sym c.keep.ensures.visible)
-          (c.back_to.ensures c.announce.new.self.visible (follows_then c.announce.new.self.visible c.parameters.new.self c.block.new.self.visible c.in_ok-frame.ensures.follows lowers.follows) c.mark-outside.ensures);
-      kept = c.keep.ensures.procedures;
+      placed = (c.place_formals.new.self, c.in_ok-frame.ensures, lowers);
+      back = subst (IsRestored c.reserve_routine.new.self.visible c.block.new.self.visible) (sym c.set_routine.ensures.visible)
+          (c.restore_hidden.ensures c.reserve_routine.new.self.visible (follows_then c.reserve_routine.new.self.visible c.place_formals.new.self c.block.new.self.visible c.in_ok-frame.ensures.follows lowers.follows) c.hidden_count-outside.ensures);
+      kept = c.set_routine.ensures.procedures;
     }

@@ -2,16 +2,16 @@ use Rattle.std.proofs.Common.{◌≡◌, IfOk, option_map, refl, sym, ap, ◌∙
 use Rattle.ob0_tree.proofs.Viewed.{designator_made, simple_parts, term_parts}
 use Rattle.ob0_tree.specs.declared.tree.Addend.{out-Addend}
 use Rattle.ob0_tree.specs.declared.tree.Comparison.{out-Comparison}
-use Rattle.ob0_tree.specs.declared.tree.Compound.{out-Compound}
-use Rattle.ob0_tree.specs.declared.tree.Simple.{out-Simple}
+use Rattle.ob0_tree.specs.declared.tree.CompoundExpression.{out-CompoundExpression}
+use Rattle.ob0_tree.specs.declared.tree.SimpleExpression.{out-SimpleExpression}
 use Rattle.ob0_tree.specs.declared.tree.Term.{out-Term}
 use Rattle.ob0_tree.specs.Tree.{compares, one, relates}
 use Rattle.ob0_tree.specs.View.{items_of, compound_of, expression_of, addend_of, multiplier_of, selector_of, factor_of, simple_of}
-use Rattle.ob0_scope_table.specs.InLabels.{in_labels}
+use Rattle.ob0_scope_table.specs.LabelledTrees.{tree_with_labels}
 use Rattle.ob0_types_table.specs.KnownTables.{shapes_of}
 use Rattle.ob0_language_types.proofs.TreeParts.{addend_parts, compound_alone, compound_related}
-use Rattle.ob0_run_lowering.specs.Codes.{added, multiplied, related, signed}
-use Rattle.ob0_run_lowering.specs.Trees.{addends_code, code_of, expression_code, factor_code, found_of, multipliers_code, selected_place, simple_code, term_code}
+use Rattle.ob0_run_lowering.specs.Codes.{addition_code, multiplication_code, related, signed_code}
+use Rattle.ob0_run_lowering.specs.Trees.{addends_code, code_of, expression_code, factor_code, found_place_of, multipliers_code, selected_place, simple_code, term_code}
 use Rattle.ob0_run_lowering.proofs.CodeChains.{added_fold, added_once, fold_ends, fold_goes_on, multiplied_fold, selected_fold}
 use Rattle.ob0_run_lowering.proofs.Rows.{still_flat}
 use Rattle.ob0_run_lowering.proofs.scene.Scene.+lowering.Goals as goal
@@ -19,7 +19,7 @@ use Rattle.ob0_run_lowering.proofs.scene.Scene.+lowering.Goals as goal
 pub factor-returns-in-Designator-clause-code : goal.factor-returns-in-Designator-clause-code
 factor-returns-in-Designator-clause-code t c =
     let scene = c.args.self.now in
-    subst (λ z. IfOk c.lower_designator.result (λ l. code_of l ≡ factor_code scene (in_labels scene.resolved.now z))) (sym (designator_made c.in-Designator.d) ∙ sym (ap factor_of c.in-Designator.is)) c.lower_designator.ensures.code
+    subst (λ z. IfOk c.lower_designator.result (λ l. code_of l ≡ factor_code scene (tree_with_labels scene.resolved.now z))) (sym (designator_made c.in-Designator.d) ∙ sym (ap factor_of c.in-Designator.is)) c.lower_designator.ensures.code
 
 pub locate-loop-selector-preserved : goal.locate-loop-selector-preserved
 locate-loop-selector-preserved t c =
@@ -30,63 +30,63 @@ locate-returns t c =
     let scene = c.args.self.now in
     let r = scene.resolved.now in
     fold_ends (selected_fold scene) c.loop-selector.invariant c.loop-selector-test.false
-    ∙ ap (λ xs. selected_place scene (option_map (found_of (shapes_of scene.types.now)) c.in_ok-at.at) (in_labels r (items_of selector_of xs))) c.deref-selector-items.ensures.value
-    ∙ ap (λ o. selected_place scene o (in_labels r (items_of selector_of c.args.d.now.selectors.items))) c.in_ok-at.ensures
+    ∙ ap (λ xs. selected_place scene (option_map (found_place_of (shapes_of scene.types.now)) c.in_ok-at.at) (tree_with_labels r (items_of selector_of xs))) c.deref-selector-items.ensures.value
+    ∙ ap (λ o. selected_place scene o (tree_with_labels r (items_of selector_of c.args.d.now.selectors.items))) c.in_ok-at.ensures
 
 pub lower_expression-returns-in-Factor-clause-code : goal.lower_expression-returns-in-Factor-clause-code
 lower_expression-returns-in-Factor-clause-code t c =
     let scene = c.args.self.now in
-    subst (λ z. IfOk c.factor.result (λ l. code_of l ≡ expression_code scene (in_labels scene.resolved.now z))) (sym (ap expression_of c.in-Factor.is)) c.factor.ensures.code
+    subst (λ z. IfOk c.factor.result (λ l. code_of l ≡ expression_code scene (tree_with_labels scene.resolved.now z))) (sym (ap expression_of c.in-Factor.is)) c.factor.ensures.code
 
-pub lower_expression-returns-in-Compound-clause-code : goal.lower_expression-returns-in-Compound-clause-code
-lower_expression-returns-in-Compound-clause-code t c =
+pub lower_expression-returns-in-CompoundExpression-clause-code : goal.lower_expression-returns-in-CompoundExpression-clause-code
+lower_expression-returns-in-CompoundExpression-clause-code t c =
     let scene = c.args.self.now in
-    subst (λ z. IfOk c.compound.result (λ l. code_of l ≡ expression_code scene (in_labels scene.resolved.now z)))
-    (ap compound_of c.deref.ensures ∙ sym (ap expression_of c.in-Compound.is)) c.compound.ensures.code
+    subst (λ z. IfOk c.lower_compound.result (λ l. code_of l ≡ expression_code scene (tree_with_labels scene.resolved.now z)))
+    (ap compound_of c.deref.ensures ∙ sym (ap expression_of c.in-CompoundExpression.is)) c.lower_compound.ensures.code
 
-pub compound-returns-in-None-clause-code : goal.compound-returns-in-None-clause-code
-compound-returns-in-None-clause-code t c =
+pub lower_compound-returns-in-None-clause-code : goal.lower_compound-returns-in-None-clause-code
+lower_compound-returns-in-None-clause-code t c =
     let scene = c.args.self.now in
-    c.in_ok-left.ensures.code ∙ sym (ap (λ e. expression_code scene (in_labels scene.resolved.now e)) (compound_alone c.args.c.now c.in-None.is))
+    c.in_ok-left.ensures.code ∙ sym (ap (λ e. expression_code scene (tree_with_labels scene.resolved.now e)) (compound_alone c.args.c.now c.in-None.is))
 
-pub compound-returns-in_ok-right-in-Some-clause-code : goal.compound-returns-in_ok-right-in-Some-clause-code
-compound-returns-in_ok-right-in-Some-clause-code t c =
+pub lower_compound-returns-in_ok-right-in-Some-clause-code : goal.lower_compound-returns-in_ok-right-in-Some-clause-code
+lower_compound-returns-in_ok-right-in-Some-clause-code t c =
     let scene = c.args.self.now in
     let r = scene.resolved.now in
     let compared = out-Comparison c.deref-compared.result.now in
-    let left = simple_of (out-Compound c.args.c.now).left in
+    let left = simple_of (out-CompoundExpression c.args.c.now).left in
     subst (λ z. IfOk c.lower_relation.result (λ l. code_of l ≡ z))
     (ap (λ a. related compared.relation a (code_of c.in_ok-right-in-Some.right)) c.in_ok-left.ensures.code
-    ∙ ap (related compared.relation (simple_code scene (in_labels r left))) c.in_ok-right-in-Some.ensures.code
-    ∙ ap (λ k. expression_code scene (in_labels r (compares left (one (relates (out-Comparison k).relation (simple_of (out-Comparison k).right)))))) c.deref-compared.ensures
-    ∙ sym (ap (λ e. expression_code scene (in_labels r e)) (compound_related c.args.c.now c.in-Some.compared c.in-Some.is)))
+    ∙ ap (related compared.relation (simple_code scene (tree_with_labels r left))) c.in_ok-right-in-Some.ensures.code
+    ∙ ap (λ k. expression_code scene (tree_with_labels r (compares left (one (relates (out-Comparison k).relation (simple_of (out-Comparison k).right)))))) c.deref-compared.ensures
+    ∙ sym (ap (λ e. expression_code scene (tree_with_labels r e)) (compound_related c.args.c.now c.in-Some.compared c.in-Some.is)))
     c.lower_relation.ensures.code
 
-pub simple-loop-addend-init : goal.simple-loop-addend-init
-simple-loop-addend-init t c = record { made = record { so_far = refl }; flat = still_flat c.in_ok-so_far.ensures.flat c.in_ok-first.ensures.flat }
+pub lower_simple-loop-addend-init : goal.lower_simple-loop-addend-init
+lower_simple-loop-addend-init t c = record { made = record { so_far = refl }; flat = still_flat c.in_ok-so_far.ensures.flat c.in_ok-first.ensures.flat }
 
-pub simple-loop-addend-preserved : goal.simple-loop-addend-preserved
-simple-loop-addend-preserved t c =
+pub lower_simple-loop-addend-preserved : goal.lower_simple-loop-addend-preserved
+lower_simple-loop-addend-preserved t c =
     let scene = c.args.self.now in
     let a = c.addend-item.result in
     record {
       made =
           fold_goes_on a _ (added_fold scene) c.loop-addend.invariant.made c.loop-addend-test.true c.addend-item.is
           (c.in_ok-so_far-2.ensures.code
-          ∙ ap (added (out-Addend a).operator (code_of c.loop-addend.so_far)) c.in_ok-term.ensures.code
-          ∙ ap (λ z. added_once scene (code_of c.loop-addend.so_far) (in_labels scene.resolved.now z)) (sym (addend_parts a)));
+          ∙ ap (addition_code (out-Addend a).operator (code_of c.loop-addend.so_far)) c.in_ok-term.ensures.code
+          ∙ ap (λ z. added_once scene (code_of c.loop-addend.so_far) (tree_with_labels scene.resolved.now z)) (sym (addend_parts a)));
       flat = still_flat c.in_ok-so_far-2.ensures.flat c.loop-addend.invariant.flat;
     }
 
-pub simple-returns-clause-code : goal.simple-returns-clause-code
-simple-returns-clause-code t c =
+pub lower_simple-returns-clause-code : goal.lower_simple-returns-clause-code
+lower_simple-returns-clause-code t c =
     let scene = c.args.self.now in
     let r = scene.resolved.now in
-    let s = out-Simple c.args.s.now in
+    let s = out-SimpleExpression c.args.s.now in
     fold_ends (added_fold scene) c.loop-addend.invariant.made c.loop-addend-test.false
-    ∙ ap (λ xs. addends_code scene (code_of c.in_ok-so_far.so_far) (in_labels r (items_of addend_of xs))) c.deref-addend-items.ensures.value
-    ∙ ap (λ k. addends_code scene k (in_labels r (items_of addend_of s.more.items))) (c.in_ok-so_far.ensures.code ∙ ap (signed s.sign) c.in_ok-first.ensures.code)
-    ∙ sym (ap (λ z. simple_code scene (in_labels r z)) (simple_parts c.args.s.now))
+    ∙ ap (λ xs. addends_code scene (code_of c.in_ok-so_far.so_far) (tree_with_labels r (items_of addend_of xs))) c.deref-addend-items.ensures.value
+    ∙ ap (λ k. addends_code scene k (tree_with_labels r (items_of addend_of s.more.items))) (c.in_ok-so_far.ensures.code ∙ ap (signed_code s.sign) c.in_ok-first.ensures.code)
+    ∙ sym (ap (λ z. simple_code scene (tree_with_labels r z)) (simple_parts c.args.s.now))
 
 pub term-loop-multiplier-preserved : goal.term-loop-multiplier-preserved
 term-loop-multiplier-preserved t c =
@@ -95,7 +95,7 @@ term-loop-multiplier-preserved t c =
     record {
       made =
           fold_goes_on a _ (multiplied_fold scene) c.loop-multiplier.invariant.made c.loop-multiplier-test.true c.multiplier-item.is
-          (c.in_ok-so_far-2.ensures.code ∙ ap (multiplied a.operator (code_of c.loop-multiplier.so_far)) c.in_ok-factor.ensures.code);
+          (c.in_ok-so_far-2.ensures.code ∙ ap (multiplication_code a.operator (code_of c.loop-multiplier.so_far)) c.in_ok-factor.ensures.code);
       flat = still_flat c.in_ok-so_far-2.ensures.flat c.loop-multiplier.invariant.flat;
     }
 
@@ -105,6 +105,6 @@ term-returns-clause-code t c =
     let r = scene.resolved.now in
     let s = out-Term c.args.t.now in
     fold_ends (multiplied_fold scene) c.loop-multiplier.invariant.made c.loop-multiplier-test.false
-    ∙ ap (λ xs. multipliers_code scene (code_of c.in_ok-so_far.so_far) (in_labels r (items_of multiplier_of xs))) c.deref-multiplier-items.ensures.value
-    ∙ ap (λ k. multipliers_code scene k (in_labels r (items_of multiplier_of s.more.items))) c.in_ok-so_far.ensures.code
-    ∙ sym (ap (λ z. term_code scene (in_labels r z)) (term_parts c.args.t.now))
+    ∙ ap (λ xs. multipliers_code scene (code_of c.in_ok-so_far.so_far) (tree_with_labels r (items_of multiplier_of xs))) c.deref-multiplier-items.ensures.value
+    ∙ ap (λ k. multipliers_code scene k (tree_with_labels r (items_of multiplier_of s.more.items))) c.in_ok-so_far.ensures.code
+    ∙ sym (ap (λ z. term_code scene (tree_with_labels r z)) (term_parts c.args.t.now))

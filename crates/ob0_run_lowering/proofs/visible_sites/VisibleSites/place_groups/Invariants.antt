@@ -1,11 +1,11 @@
 use Rattle.ob0_tree.specs.View.{items_of, variable_of}
-use Rattle.ob0_scope_table.specs.InLabels.{in_labels}
+use Rattle.ob0_scope_table.specs.LabelledTrees.{tree_with_labels}
 use Rattle.ob0_run_lowering.specs.Placed as placed
-use Rattle.ob0_run_lowering.specs.Placed.{declared_size, slots_at}
+use Rattle.ob0_run_lowering.specs.Placed.{declared_size, variable_slot}
 use Rattle.ob0_run_lowering.proofs.FollowingSites.{InPlaces}
 use Rattle.ob0_run_lowering.proofs.visible_sites.VisibleSites.place_groups.Given as goal
 
 abbrev pub invariant-loop-group : goal.invariant-loop-group
 invariant-loop-group l = record {
-  placed : InPlaces (λ xs. placed.place_groups (slots_at l.fn.frame.depth) (declared_size l.context.types.now) (in_labels l.context.resolved.now (items_of variable_of xs))) l.groups l.fn.self l.self l.fn.frame l.now l.group-index;
+  placed : InPlaces (λ xs. placed.place_groups (variable_slot l.fn.frame.depth) (declared_size l.context.types.now) (tree_with_labels l.context.resolved.now (items_of variable_of xs))) l.groups l.fn.self l.self l.fn.frame l.now l.group-index;
 }

@@ -1,11 +1,11 @@
 use Rattle.std.proofs.Common.{IfOk, sym, subst}
 use Rattle.ob0_tree.specs.View.{variables_of}
 use Rattle.ob0_language_names.specs.Parts.{section_variables}
-use Rattle.ob0_scope_table.specs.InLabels.{in_labels}
+use Rattle.ob0_scope_table.specs.LabelledTrees.{tree_with_labels}
 use Rattle.ob0_run_lowering.specs.Placed as placed
-use Rattle.ob0_run_lowering.specs.Placed.{Places, declared_size, slots_at}
+use Rattle.ob0_run_lowering.specs.Placed.{Places, declared_size, variable_slot}
 use Rattle.ob0_run_lowering.proofs.visible_sites.VisibleSites.variables.Goals as goal
 
 pub returns-in-None : goal.returns-in-None
 returns-in-None c =
-    subst (λ s. IfOk c.place_groups.result (Places c.args.self.now c.place_groups.new.self c.args.frame (placed.place_groups (slots_at c.args.frame.depth) (declared_size c.args.context.now.types.now) (section_variables (in_labels c.args.context.now.resolved.now (variables_of s)))))) (sym c.in-None.is) c.place_groups.ensures
+    subst (λ s. IfOk c.place_groups.result (Places c.args.self.now c.place_groups.new.self c.args.frame (placed.place_groups (variable_slot c.args.frame.depth) (declared_size c.args.context.now.types.now) (section_variables (tree_with_labels c.args.context.now.resolved.now (variables_of s)))))) (sym c.in-None.is) c.place_groups.ensures

@@ -3,11 +3,11 @@ use Rattle.std.specs.Prelude.{slice_range}
 use Rattle.std.specs.List.{replace_range}
 use Rattle.std.proofs.lemmas.Result.{MatchResult-weaker}
 use Rattle.std.proofs.lemmas.List.Folds.{drop_split}
-use Rattle.ob0_scan.specs.Reused.{IsReplaced}
+use Rattle.ob0_scan.specs.Reused.{ReplacesRange}
 use Rattle.ob0_scan.proofs.old_lexemes.ReplacedRange.replace.Goals as goal
 
 -- The old text with the changed bytes replaced by the new ones is the new text.
-put_in : (old new : List ℕ) (from removed added : ℕ) → IsReplaced old new from removed added → replace_range old from (from + removed) (slice_range new from (from + added)) ≡ new
+put_in : (old new : List ℕ) (from removed added : ℕ) → ReplacesRange old new from removed added → replace_range old from (from + removed) (slice_range new from (from + added)) ≡ new
 put_in old new from removed added r =
     ap₂ (λ a b. (a ++ slice_range new from (from + added)) ++ b) r.front r.following
     ∙ append_assoc (take from new) (slice_range new from (from + added)) (drop (from + added) new)

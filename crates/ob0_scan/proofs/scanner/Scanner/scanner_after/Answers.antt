@@ -1,6 +1,6 @@
 use Rattle.std.proofs.Common.{[], ◌∙◌, ◌++◌, ℕ, ap, append-nil, sym, subst}
 use Rattle.ob0_scan.specs.Progress.{ScanProgress}
-use Rattle.ob0_scan.specs.Rescanning.{last_end}
+use Rattle.ob0_scan.specs.RescanState.{last_end}
 use Rattle.ob0_scan.proofs.Steps.{progress_same}
 use Rattle.ob0_scan.proofs.Reusing.{progress_following}
 use Rattle.ob0_scan.proofs.scanner.Scanner.scanner_after.Goals as goal

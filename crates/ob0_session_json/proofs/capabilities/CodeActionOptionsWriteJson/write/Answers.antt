@@ -5,5 +5,5 @@ use Rattle.ob0_session_json.proofs.capabilities.CodeActionOptionsWriteJson.write
 
 pub returns : goal.returns
 returns c =
-    let first = rw c.as_slice.ensures at c.in_ok-first_member.ensures in
+    let first = rw c.as_slice.ensures at c.in_ok-write_first_member.ensures in
     on_ok_weaker c.end_object.result (λ is. object_of _ _ _ _ _ refl refl (_, first, is)) c.end_object.ensures

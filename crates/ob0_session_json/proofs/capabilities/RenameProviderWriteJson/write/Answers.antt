@@ -3,5 +3,5 @@ use Rattle.std.proofs.lemmas.Result.{on_ok_weaker}
 use Rattle.ob0_rpc.proofs.Appending.{object_of}
 use Rattle.ob0_session_json.proofs.capabilities.RenameProviderWriteJson.write.Goals as goal
 
-pub returns-in_ok-first_member : goal.returns-in_ok-first_member
-returns-in_ok-first_member c = rw c.if-self.true (on_ok_weaker c.end_object.result (λ is. object_of _ _ _ _ _ refl refl (_, c.in_ok-first_member.ensures, is)) c.end_object.ensures)
+pub returns-in_ok-write_first_member : goal.returns-in_ok-write_first_member
+returns-in_ok-write_first_member c = rw c.if-self.true (on_ok_weaker c.end_object.result (λ is. object_of _ _ _ _ _ refl refl (_, c.in_ok-write_first_member.ensures, is)) c.end_object.ensures)

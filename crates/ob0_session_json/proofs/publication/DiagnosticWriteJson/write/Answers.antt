@@ -7,5 +7,5 @@ use Rattle.ob0_session_json.proofs.publication.DiagnosticWriteJson.write.Goals a
 
 pub returns : goal.returns
 returns c =
-    let message = subst (λ t. AppendsMember 44 (codes "message") (text t) c.first_member.new.out.items c.next_member.new.out.items) c.as_str.ensures.value c.in_ok-next_member.ensures in
-    on_ok_weaker c.end_object.result (λ is. object_of _ _ _ _ _ refl refl (_, c.in_ok-first_member.ensures, (_, message, (_, c.in_ok-next_member-2.ensures, (_, c.in_ok-next_member-3.ensures, is))))) c.end_object.ensures
+    let message = subst (λ t. AppendsMember 44 (codes "message") (text t) c.write_first_member.new.out.items c.write_next_member.new.out.items) c.as_str.ensures.value c.in_ok-write_next_member.ensures in
+    on_ok_weaker c.end_object.result (λ is. object_of _ _ _ _ _ refl refl (_, c.in_ok-write_first_member.ensures, (_, message, (_, c.in_ok-write_next_member-2.ensures, (_, c.in_ok-write_next_member-3.ensures, is))))) c.end_object.ensures

@@ -8,6 +8,6 @@ use Rattle.ob0_session_server.proofs.session.Session.ask.Goals as goal
 
 pub returns : goal.returns
 returns g c =
-    IfOk-weaker c.reply_with.result _ _ (λ sent replies.
+    IfOk-weaker c.reply_for_outcome.result _ _ (λ sent replies.
     replies_about c.self.inside.phase c.self.inside.client c.self.inside.documents c.ask.new.self c.args.self.now (id_data c.args.id.now) c.args.uri.now (g.Q.DocumentRequest.answers c.args.request.now) c.in_ok-outcome.outcome sent
-    c.self.view_is c.ask.ensures.same c.in_ok-outcome.ensures.outcome replies) c.reply_with.ensures
+    c.self.view_is c.ask.ensures.same c.in_ok-outcome.ensures.outcome replies) c.reply_for_outcome.ensures

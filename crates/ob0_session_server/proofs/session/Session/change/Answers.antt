@@ -2,8 +2,8 @@ use Rattle.std.proofs.Common.{◌≡◌, ap, map, option_map, refl, string_bytes
 use Rattle.std.proofs.Math.Facts.{to_z-of_z}
 use Rattle.std.proofs.lemmas.Result.{IfOk-weaker}
 use Rattle.std.specs.Option.{option_to_list}
-use Rattle.ob0_text.specs.OpenDocuments.{changed, document_at, change_in_text}
-use Rattle.ob0_session_server.specs.Answers.{ServerState, SaysReply, published}
+use Rattle.ob0_text.specs.OpenDocuments.{documents_after_change, document_at, text_change_of}
+use Rattle.ob0_session_server.specs.Answers.{ServerState, AreContentsOfReply, publication_reply}
 use Rattle.ob0_session_server.proofs.Answering.{publishes}
 use Rattle.ob0_session_server.proofs.session.Session.change.Goals as goal
 
@@ -11,10 +11,10 @@ pub returns : goal.returns
 returns g c =
     let uri = string_bytes c.args.uri in
     let reported = c.as_str-2.result.now in
-    let held = changed c.args.self.now.held uri c.args.version (map change_in_text c.args.all.items) in
+    let held = documents_after_change c.args.self.now.held uri c.args.version (map text_change_of c.args.all.items) in
     let is = rw (to_z-of_z c.ranges.version, ap (λ s. s.held) c.self.view_is) at c.in_ok-did_change.ensures.ok in
     let after : c.publish.new.self ≡ record c.args.self.now { held = held } =
     rw (c.publish.ensures.same, is, ap (λ s. s.phase) c.self.view_is, ap (λ s. s.client) c.self.view_is, c.as_str.ensures.value) refl in
     IfOk-weaker c.publish.result _ _ (λ sent said.
     publishes c.args.self.now c.publish.new.self uri reported held sent c.as_str-2.ensures.value after
-    (subst (λ (s : ServerState). SaysReply (published s.held.unit reported (document_at s.held reported)) (option_to_list (option_map (λ v. v.items) sent))) (sym c.publish.ensures.same) said)) c.publish.ensures.says
+    (subst (λ (s : ServerState). AreContentsOfReply (publication_reply s.held.unit reported (document_at s.held reported)) (option_to_list (option_map (λ v. v.items) sent))) (sym c.publish.ensures.same) said)) c.publish.ensures.says

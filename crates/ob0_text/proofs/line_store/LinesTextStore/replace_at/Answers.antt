@@ -12,15 +12,15 @@ use Rattle.ob0_text.proofs.line_store.LinesTextStore.replace_at.Goals as goal
 
 pub replace-requires-clause-start : goal.replace-requires-clause-start
 replace-requires-clause-start c =
-    from_border (width_of c.args.self.now.unit) c.args.self.now.text (string_bytes c.self.inside.text) (IsUtf8-string_bytes c.self.inside.text) (ap (λ (v : TextInUnit). v.text) c.self.view_is) c.args.range c.bounds_in-found.result.start c.bounds_in-found.result.end c.min-from.result c.max-to.result (c.bounds_in-found.ensures.start ∙ ap (λ bs. offset_of (width_of c.self.inside.unit) (chars bs) c.args.range.start) c.as_str.ensures.value ∙ ap (λ (v : TextInUnit). offset_of (width_of v.unit) v.text c.args.range.start) c.self.view_is) (c.bounds_in-found.ensures.end ∙ ap (λ bs. offset_of (width_of c.self.inside.unit) (chars bs) c.args.range.end) c.as_str.ensures.value ∙ ap (λ (v : TextInUnit). offset_of (width_of v.unit) v.text c.args.range.end) c.self.view_is) c.min-from.ensures c.max-to.ensures
+    from_border (width_of c.args.self.now.unit) c.args.self.now.text (string_bytes c.self.inside.text) (IsUtf8-string_bytes c.self.inside.text) (ap (λ (v : TextInUnit). v.text) c.self.view_is) c.args.range c.range_offsets-found.result.start c.range_offsets-found.result.end c.min-from.result c.max-to.result (c.range_offsets-found.ensures.start ∙ ap (λ bs. offset_of (width_of c.self.inside.unit) (chars bs) c.args.range.start) c.as_str.ensures.value ∙ ap (λ (v : TextInUnit). offset_of (width_of v.unit) v.text c.args.range.start) c.self.view_is) (c.range_offsets-found.ensures.end ∙ ap (λ bs. offset_of (width_of c.self.inside.unit) (chars bs) c.args.range.end) c.as_str.ensures.value ∙ ap (λ (v : TextInUnit). offset_of (width_of v.unit) v.text c.args.range.end) c.self.view_is) c.min-from.ensures c.max-to.ensures
 
 pub replace-requires-clause-end : goal.replace-requires-clause-end
 replace-requires-clause-end c =
-    to_border (width_of c.args.self.now.unit) c.args.self.now.text (string_bytes c.self.inside.text) (IsUtf8-string_bytes c.self.inside.text) (ap (λ (v : TextInUnit). v.text) c.self.view_is) c.args.range c.bounds_in-found.result.start c.bounds_in-found.result.end c.min-from.result c.max-to.result (c.bounds_in-found.ensures.start ∙ ap (λ bs. offset_of (width_of c.self.inside.unit) (chars bs) c.args.range.start) c.as_str.ensures.value ∙ ap (λ (v : TextInUnit). offset_of (width_of v.unit) v.text c.args.range.start) c.self.view_is) (c.bounds_in-found.ensures.end ∙ ap (λ bs. offset_of (width_of c.self.inside.unit) (chars bs) c.args.range.end) c.as_str.ensures.value ∙ ap (λ (v : TextInUnit). offset_of (width_of v.unit) v.text c.args.range.end) c.self.view_is) c.min-from.ensures c.max-to.ensures
+    to_border (width_of c.args.self.now.unit) c.args.self.now.text (string_bytes c.self.inside.text) (IsUtf8-string_bytes c.self.inside.text) (ap (λ (v : TextInUnit). v.text) c.self.view_is) c.args.range c.range_offsets-found.result.start c.range_offsets-found.result.end c.min-from.result c.max-to.result (c.range_offsets-found.ensures.start ∙ ap (λ bs. offset_of (width_of c.self.inside.unit) (chars bs) c.args.range.start) c.as_str.ensures.value ∙ ap (λ (v : TextInUnit). offset_of (width_of v.unit) v.text c.args.range.start) c.self.view_is) (c.range_offsets-found.ensures.end ∙ ap (λ bs. offset_of (width_of c.self.inside.unit) (chars bs) c.args.range.end) c.as_str.ensures.value ∙ ap (λ (v : TextInUnit). offset_of (width_of v.unit) v.text c.args.range.end) c.self.view_is) c.min-from.ensures c.max-to.ensures
 
 pub returns-clause-ok : goal.returns-clause-ok
 returns-clause-ok c =
-    replaced_is (width_of c.args.self.now.unit) c.args.self.now.text (string_bytes c.self.inside.text) (IsUtf8-string_bytes c.self.inside.text) (ap (λ (v : TextInUnit). v.text) c.self.view_is) c.args.range c.bounds_in-found.result.start c.bounds_in-found.result.end c.min-from.result c.max-to.result (c.bounds_in-found.ensures.start ∙ ap (λ bs. offset_of (width_of c.self.inside.unit) (chars bs) c.args.range.start) c.as_str.ensures.value ∙ ap (λ (v : TextInUnit). offset_of (width_of v.unit) v.text c.args.range.start) c.self.view_is) (c.bounds_in-found.ensures.end ∙ ap (λ bs. offset_of (width_of c.self.inside.unit) (chars bs) c.args.range.end) c.as_str.ensures.value ∙ ap (λ (v : TextInUnit). offset_of (width_of v.unit) v.text c.args.range.end) c.self.view_is) c.min-from.ensures c.max-to.ensures c.args.text.now (string_bytes c.replace.new.text) c.utf8.text c.in_ok-replace.ensures.ok
+    replaced_is (width_of c.args.self.now.unit) c.args.self.now.text (string_bytes c.self.inside.text) (IsUtf8-string_bytes c.self.inside.text) (ap (λ (v : TextInUnit). v.text) c.self.view_is) c.args.range c.range_offsets-found.result.start c.range_offsets-found.result.end c.min-from.result c.max-to.result (c.range_offsets-found.ensures.start ∙ ap (λ bs. offset_of (width_of c.self.inside.unit) (chars bs) c.args.range.start) c.as_str.ensures.value ∙ ap (λ (v : TextInUnit). offset_of (width_of v.unit) v.text c.args.range.start) c.self.view_is) (c.range_offsets-found.ensures.end ∙ ap (λ bs. offset_of (width_of c.self.inside.unit) (chars bs) c.args.range.end) c.as_str.ensures.value ∙ ap (λ (v : TextInUnit). offset_of (width_of v.unit) v.text c.args.range.end) c.self.view_is) c.min-from.ensures c.max-to.ensures c.args.text.now (string_bytes c.replace.new.text) c.utf8.text c.in_ok-replace.ensures.ok
 
 pub returns-clause-bytes : goal.returns-clause-bytes
 returns-clause-bytes c =
@@ -28,7 +28,7 @@ returns-clause-bytes c =
     let left = string_bytes c.replace.new.text in
     let u = IsUtf8-string_bytes c.self.inside.text in
     let v = IsUtf8-string_bytes c.replace.new.text in
-    let border = to_border (width_of c.args.self.now.unit) c.args.self.now.text bytes u (ap (λ (v : TextInUnit). v.text) c.self.view_is) c.args.range c.bounds_in-found.result.start c.bounds_in-found.result.end c.min-from.result c.max-to.result (c.bounds_in-found.ensures.start ∙ ap (λ bs. offset_of (width_of c.self.inside.unit) (chars bs) c.args.range.start) c.as_str.ensures.value ∙ ap (λ (v : TextInUnit). offset_of (width_of v.unit) v.text c.args.range.start) c.self.view_is) (c.bounds_in-found.ensures.end ∙ ap (λ bs. offset_of (width_of c.self.inside.unit) (chars bs) c.args.range.end) c.as_str.ensures.value ∙ ap (λ (v : TextInUnit). offset_of (width_of v.unit) v.text c.args.range.end) c.self.view_is) c.min-from.ensures c.max-to.ensures in
+    let border = to_border (width_of c.args.self.now.unit) c.args.self.now.text bytes u (ap (λ (v : TextInUnit). v.text) c.self.view_is) c.args.range c.range_offsets-found.result.start c.range_offsets-found.result.end c.min-from.result c.max-to.result (c.range_offsets-found.ensures.start ∙ ap (λ bs. offset_of (width_of c.self.inside.unit) (chars bs) c.args.range.start) c.as_str.ensures.value ∙ ap (λ (v : TextInUnit). offset_of (width_of v.unit) v.text c.args.range.start) c.self.view_is) (c.range_offsets-found.ensures.end ∙ ap (λ bs. offset_of (width_of c.self.inside.unit) (chars bs) c.args.range.end) c.as_str.ensures.value ∙ ap (λ (v : TextInUnit). offset_of (width_of v.unit) v.text c.args.range.end) c.self.view_is) c.min-from.ensures c.max-to.ensures in
     changed_there c.args.self.now.text (chars left) bytes c.args.text.now _ c.max-to.result
     (ap (λ (v : TextInUnit). encode_utf8_all v.text) (sym c.self.view_is) ∙ encodes-chars bytes u)
     (encodes-chars left v ∙ c.in_ok-replace.ensures.ok)
@@ -45,14 +45,14 @@ pub invariant_of-self-2 : goal.invariant_of-self-2
 invariant_of-self-2 c =
     let bytes = string_bytes c.self.inside.text in
     let from = c.min-from.result in
-    let kept = c.up_to-self-inside.result in
-    let border = from_border (width_of c.args.self.now.unit) c.args.self.now.text bytes (IsUtf8-string_bytes c.self.inside.text) (ap (λ (v : TextInUnit). v.text) c.self.view_is) c.args.range c.bounds_in-found.result.start c.bounds_in-found.result.end from c.max-to.result (c.bounds_in-found.ensures.start ∙ ap (λ bs. offset_of (width_of c.self.inside.unit) (chars bs) c.args.range.start) c.as_str.ensures.value ∙ ap (λ (v : TextInUnit). offset_of (width_of v.unit) v.text c.args.range.start) c.self.view_is) (c.bounds_in-found.ensures.end ∙ ap (λ bs. offset_of (width_of c.self.inside.unit) (chars bs) c.args.range.end) c.as_str.ensures.value ∙ ap (λ (v : TextInUnit). offset_of (width_of v.unit) v.text c.args.range.end) c.self.view_is) c.min-from.ensures c.max-to.ensures in
+    let kept = c.kept_if_before-self-inside.result in
+    let border = from_border (width_of c.args.self.now.unit) c.args.self.now.text bytes (IsUtf8-string_bytes c.self.inside.text) (ap (λ (v : TextInUnit). v.text) c.self.view_is) c.args.range c.range_offsets-found.result.start c.range_offsets-found.result.end from c.max-to.result (c.range_offsets-found.ensures.start ∙ ap (λ bs. offset_of (width_of c.self.inside.unit) (chars bs) c.args.range.start) c.as_str.ensures.value ∙ ap (λ (v : TextInUnit). offset_of (width_of v.unit) v.text c.args.range.start) c.self.view_is) (c.range_offsets-found.ensures.end ∙ ap (λ bs. offset_of (width_of c.self.inside.unit) (chars bs) c.args.range.end) c.as_str.ensures.value ∙ ap (λ (v : TextInUnit). offset_of (width_of v.unit) v.text c.args.range.end) c.self.view_is) c.min-from.ensures c.max-to.ensures in
     let width = width_of c.self.inside.unit in
-    let found = c.bounds_in-found.result.counted in
-    let counted = subst (λ bs. IsPieceOfLine width bs found.start found.counted) c.as_str.ensures.value c.bounds_in-found.ensures.counted in
+    let found = c.range_offsets-found.result.counted in
+    let counted = subst (λ bs. IsPieceOfLine width bs found.start found.counted) c.as_str.ensures.value c.range_offsets-found.ensures.counted in
     let left : string_bytes c.replace.new.text ≡ take from bytes ++ (c.args.text.now ++ drop c.max-to.result bytes) = c.in_ok-replace.ensures.ok ∙ append_assoc (take from bytes) c.args.text.now (drop c.max-to.result bytes) in
     record {
       lines = c.replace.ensures.table;
       counted = subst (λ bs. IsPieceOfLine (width_of c.self.inside.unit) bs kept.start kept.counted) (sym left)
-          (c.up_to-self-inside.ensures width bytes (c.args.text.now ++ drop c.max-to.result bytes) counted border.0);
+          (c.kept_if_before-self-inside.ensures width bytes (c.args.text.now ++ drop c.max-to.result bytes) counted border.0);
     }

@@ -2,7 +2,7 @@ use Rattle.std.proofs.Common.{◌≤◌, ap, ◌∙◌, subst}
 use Rattle.ob0_tree.specs.Depth.{capped}
 use Rattle.ob0_tree.specs.Tree.{nesting}
 use Rattle.ob0_tree.specs.View.{block_of}
-use Rattle.ob0_tree.specs.Parsed.{tree_of}
+use Rattle.ob0_tree.specs.ParsedModule.{tree_of}
 use Rattle.ob0_tree.specs.Places.{text_at, value_at}
 use Rattle.ob0_tree.proofs.Mapped.{nesting_mapped}
 use Rattle.ob0_tree.proofs.Deepest.{not_capped}

@@ -1,13 +1,13 @@
 use Rattle.std.proofs.Common.{◌≡◌, suc, IfOk, ◌∷◌, false, true, refl, sym, ap, ◌∙◌, subst, arith}
 use Rattle.std.proofs.lemmas.Result.{IfOk-weaker, on_ok_weaker}
-use Rattle.ob0_tree.proofs.Viewed.{record_made}
+use Rattle.ob0_tree.proofs.Viewed.{made_record_type}
 use Rattle.ob0_tree.specs.View.{expression_of, fields_of, further_fields_of_group, items_of, names_of, type_of}
 use Rattle.ob0_types_check.specs.ExpressionFaults.{reported_expression}
-use Rattle.ob0_types_check.specs.Operations.{ReportsAfter, right, ◌>>=◌}
-use Rattle.ob0_types_check.specs.SoFar.{TypedAfter, facts_at}
-use Rattle.ob0_types_check.specs.SupposedFacts.{operand_of, so_far_in}
-use Rattle.ob0_types_check.specs.TypeFaults.{length_of, type_named}
-use Rattle.ob0_types_check.specs.WrittenTypeFaults.{Gathered, array_made, gathered_after, nothing_gathered, ordinal_here, record_word, reported_fields, reported_groups, reported_type}
+use Rattle.ob0_types_check.specs.Operations.{ReportsAfter, without_fault, ◌>>=◌}
+use Rattle.ob0_types_check.specs.KnownDeclarations.{TypeWithState, facts_at}
+use Rattle.ob0_types_check.specs.CheckerFacts.{operand_of, declarations_in_state}
+use Rattle.ob0_types_check.specs.TypeFaults.{length_of, type_named_at}
+use Rattle.ob0_types_check.specs.WrittenTypeFaults.{KnownFields, made_array_type, with_field_group, no_known_fields, next_type_ordinal, record_keyword, reported_fields, reported_groups, reported_type}
 use Rattle.ob0_types_check.specs.WrittenTypeFaults as spec
 use Rattle.ob0_types_check.proofs.Chains.{chain_ends, steps, reports_nothing, reports_same}
 use Rattle.ob0_types_check.proofs.GatheredFields.{gathers, groups_begin, groups_go_on}
@@ -16,84 +16,84 @@ use Rattle.ob0_types_check.proofs.ReportedDeclarations.{names_are}
 use Rattle.ob0_types_check.proofs.ReportedTypes.{array_reported, fields_reported, groups_chain, named_reported, no_fields_reported, record_reported}
 use Rattle.ob0_types_check.proofs.reporting.Reporter.+types.Goals as goal
 
-pub type_inside-returns-in-Named : goal.type_inside-returns-in-Named
-type_inside-returns-in-Named t c =
-    let s = c.args.self.now.supposed in
-    let p = so_far_in s in
+pub check_nested_type-returns-in-Named : goal.check_nested_type-returns-in-Named
+check_nested_type-returns-in-Named t c =
+    let s = c.args.self.now.checker_state in
+    let p = declarations_in_state s in
     let n = c.args.around in
     let name = c.in-Named.name in
-    IfOk-weaker c.type_named.result _ _ (λ of h. reports_same
-    (steps (λ u. right (record { of = u; following = p })) (reports_same h (ap (λ facts. type_named facts name) (facts_same s false))) (reports_nothing c.type_named.new.faults.items (record { of = of; following = p })))
-    (sym (ap (λ z. reported_type n p (type_of z)) c.in-Named.is ∙ named_reported n p name))) c.type_named.ensures
+    IfOk-weaker c.type_named_at.result _ _ (λ of h. reports_same
+    (steps (λ u. without_fault (record { of = u; following = p })) (reports_same h (ap (λ facts. type_named_at facts name) (facts_same s false))) (reports_nothing c.type_named_at.new.faults.items (record { of = of; following = p })))
+    (sym (ap (λ z. reported_type n p (type_of z)) c.in-Named.is ∙ named_reported n p name))) c.type_named_at.ensures
 
-pub type_inside-returns-in-Record : goal.type_inside-returns-in-Record
-type_inside-returns-in-Record t c =
-    subst (λ z. IfOk c.record.result (λ of. ReportsAfter c.args.self.now.faults.items c.record.new.self.faults.items (record { of = of; following = so_far_in c.record.new.self.supposed }) (reported_type c.args.around (so_far_in c.args.self.now.supposed) z)))
-    (sym (record_made c.in-Record.r) ∙ sym (ap type_of c.in-Record.is)) c.record.ensures
+pub check_nested_type-returns-in-Record : goal.check_nested_type-returns-in-Record
+check_nested_type-returns-in-Record t c =
+    subst (λ z. IfOk c.check_record_type.result (λ of. ReportsAfter c.args.self.now.faults.items c.check_record_type.new.self.faults.items (record { of = of; following = declarations_in_state c.check_record_type.new.self.checker_state }) (reported_type c.args.around (declarations_in_state c.args.self.now.checker_state) z)))
+    (sym (made_record_type c.in-Record.r) ∙ sym (ap type_of c.in-Record.is)) c.check_record_type.ensures
 
-pub array-returns : goal.array-returns
-array-returns t c =
-    let s = c.args.self.now.supposed in
-    let p = so_far_in s in
+pub check_array_type-returns : goal.check_array_type-returns
+check_array_type-returns t c =
+    let s = c.args.self.now.checker_state in
+    let p = declarations_in_state s in
     let around = c.args.around in
     let a = c.args.a.now in
     let e = expression_of a.size in
     let u = type_of a.element.value in
     let o = operand_of c.in_ok-size.size in
     let n = c.in_ok-length.length in
-    let ordinal = ordinal_here around p in
+    let ordinal = next_type_ordinal around p in
     let deeper : c.in_ok-inside.inside ≡ suc around = omega (arith, c.in_ok-inside.ensures) in
     let size = reports_same c.in_ok-size.ensures (ap (λ facts. reported_expression facts e) (facts_same s true)) in
     let length = reports_same c.in_ok-length.ensures (ap (λ facts. length_of facts o) (facts_same s false)) in
     let element = reports_same c.in_ok-element.ensures (λ i. reported_type (deeper i) p (ap type_of c.deref.ensures i)) in
     IfOk-weaker c.make_array.result _ _ (λ of h. reports_same
-    (steps (λ x. length_of (facts_at p false) x >>= (λ k. reported_type (suc around) p u >>= array_made ordinal x k)) size
-    (steps (λ k. reported_type (suc around) p u >>= array_made ordinal o k) length
-    (steps (array_made ordinal o n) element (reports_same h (ap (λ k. array_made k o n (record { of = c.in_ok-element.element; following = so_far_in c.type_inside.new.self.supposed })) c.in_ok-ordinal.ensures)))))
+    (steps (λ x. length_of (facts_at p false) x >>= (λ k. reported_type (suc around) p u >>= made_array_type ordinal x k)) size
+    (steps (λ k. reported_type (suc around) p u >>= made_array_type ordinal o k) length
+    (steps (made_array_type ordinal o n) element (reports_same h (ap (λ k. made_array_type k o n (record { of = c.in_ok-element.element; following = declarations_in_state c.check_nested_type.new.self.checker_state })) c.in_ok-ordinal.ensures)))))
     (sym (array_reported around p e u))) c.make_array.ensures
 
-pub group-returns-in-Empty : goal.group-returns-in-Empty
-group-returns-in-Empty t c = λ g h.
+pub check_optional_field_group-returns-in-Empty : goal.check_optional_field_group-returns-in-Empty
+check_optional_field_group-returns-in-Empty t c = λ g h.
     let now = c.args.self.now.faults.items in
     let n = c.args.around in
     gathers (reports_same (reports_nothing now g) (sym (ap (λ f. reported_fields n g (fields_of f)) c.in-Empty.is ∙ no_fields_reported n g))) h
 
-pub field_group-returns : goal.field_group-returns
-field_group-returns t c =
-    let s = c.args.self.now.supposed in
+pub check_field_group-returns : goal.check_field_group-returns
+check_field_group-returns t c =
+    let s = c.args.self.now.checker_state in
     let n = c.args.around in
     let l = c.args.list.now in
     let xs = l.names.first ∷ l.names.more.items in
-    let following = so_far_in c.type_inside.new.self.supposed in
-    on_ok_weaker c.gather_all.result (λ gathered g h.
-    let next : Gathered = record { fields = g.fields; size = g.size; following = following } in
-    let typed : TypedAfter = record { of = c.in_ok-of.of; following = following } in
+    let following = declarations_in_state c.check_nested_type.new.self.checker_state in
+    on_ok_weaker c.add_known_fields.result (λ gathered g h.
+    let next : KnownFields = record { fields = g.fields; size = g.size; following = following } in
+    let typed : TypeWithState = record { of = c.in_ok-of.of; following = following } in
     gathers (reports_same
-    (steps (λ u. right (gathered_after g xs u)) (reports_same c.in_ok-of.ensures (ap (λ p. reported_type n p (type_of l.written)) h.following)) (reports_nothing c.type_inside.new.self.faults.items (gathered_after g xs typed)))
-    (sym (fields_reported n g (names_of l.names) (type_of l.written) ∙ ap (λ ys. reported_type n g.following (type_of l.written) >>= (λ u. right (gathered_after g ys u))) (names_are l.names))))
-    (gathered next (record { fields = h.fields; size = h.size; following = refl }))) c.gather_all.ensures
+    (steps (λ u. without_fault (with_field_group g xs u)) (reports_same c.in_ok-of.ensures (ap (λ p. reported_type n p (type_of l.written)) h.following)) (reports_nothing c.check_nested_type.new.self.faults.items (with_field_group g xs typed)))
+    (sym (fields_reported n g (names_of l.names) (type_of l.written) ∙ ap (λ ys. reported_type n g.following (type_of l.written) >>= (λ u. without_fault (with_field_group g ys u))) (names_are l.names))))
+    (gathered next (record { fields = h.fields; size = h.size; following = refl }))) c.add_known_fields.ensures
 
-pub groups-loop-group-init : goal.groups-loop-group-init
-groups-loop-group-init t c = groups_begin c.args.self.now.supposed c.new-gathered.result c.new-gathered.ensures.fields c.new-gathered.ensures.size
+pub check_field_groups-loop-group-init : goal.check_field_groups-loop-group-init
+check_field_groups-loop-group-init t c = groups_begin c.args.self.now.checker_state c.new-gathered.result c.new-gathered.ensures.fields c.new-gathered.ensures.size
 
-pub groups-loop-group-preserved : goal.groups-loop-group-preserved
-groups-loop-group-preserved t c =
-    groups_go_on c.group-item.result c.loop-group.invariant c.loop-group-test.true c.group-item.is c.in_ok-group.ensures
+pub check_field_groups-loop-group-preserved : goal.check_field_groups-loop-group-preserved
+check_field_groups-loop-group-preserved t c =
+    groups_go_on c.group-item.result c.loop-group.invariant c.loop-group-test.true c.group-item.is c.in_ok-check_optional_field_group.ensures
 
-pub groups-returns : goal.groups-returns
-groups-returns t c =
+pub check_field_groups-returns : goal.check_field_groups-returns
+check_field_groups-returns t c =
     let i = c.loop-group.invariant in
     gathers (chain_ends (groups_chain c.args.around) i.reported c.loop-group-test.false) i.is
 
-pub record-returns : goal.record-returns
-record-returns t c =
-    let p = so_far_in c.args.self.now.supposed in
+pub check_record_type-returns : goal.check_record_type-returns
+check_record_type-returns t c =
+    let p = declarations_in_state c.args.self.now.checker_state in
     let around = c.args.around in
     let gs = c.args.r.now.groups.items in
     let g = c.in_ok-gathered.ensures in
     let deeper : c.in_ok-inside.inside ≡ suc around = omega (arith, c.in_ok-inside.ensures) in
-    let word = c.record_word-word.ensures ∙ ap (λ fs. record_word (items_of further_fields_of_group fs)) c.deref.ensures.value in
-    let all = reported_groups c.in_ok-inside.inside (nothing_gathered p) (items_of further_fields_of_group c.as_slice.result.now) in
-    let whole = (λ j. reported_groups (deeper j) (nothing_gathered p) (items_of further_fields_of_group (c.as_slice.ensures.value j)) >>= spec.record_made (word j) (c.in_ok-ordinal.ensures j)) ∙ sym (record_reported around p gs) in
-    IfOk-weaker c.make_record.result _ _ (λ of h. reports_same (steps {x = all.known} (spec.record_made c.record_word-word.result c.in_ok-ordinal.ordinal) (record { reported = g.reported; known = refl }) h) whole)
+    let word = c.record_keyword-word.ensures ∙ ap (λ fs. record_keyword (items_of further_fields_of_group fs)) c.deref.ensures.value in
+    let all = reported_groups c.in_ok-inside.inside (no_known_fields p) (items_of further_fields_of_group c.as_slice.result.now) in
+    let whole = (λ j. reported_groups (deeper j) (no_known_fields p) (items_of further_fields_of_group (c.as_slice.ensures.value j)) >>= spec.made_record_type (word j) (c.in_ok-ordinal.ensures j)) ∙ sym (record_reported around p gs) in
+    IfOk-weaker c.make_record.result _ _ (λ of h. reports_same (steps {x = all.known} (spec.made_record_type c.record_keyword-word.result c.in_ok-ordinal.ordinal) (record { reported = g.reported; known = refl }) h) whole)
     (c.make_record.ensures all.known g.now)

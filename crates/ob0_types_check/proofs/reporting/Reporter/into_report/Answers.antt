@@ -1,15 +1,15 @@
 use Rattle.std.proofs.Common.{sym, ◌∙◌, subst, arith}
 use Rattle.std.specs.Vec.{vec_len}
-use Rattle.ob0_tree.specs.Parsed.{named_tree_of}
+use Rattle.ob0_tree.specs.ParsedModule.{named_tree_of}
 use Rattle.ob0_types_check.specs.ModuleLaws.{HasDeclarations}
 use Rattle.ob0_types_check.proofs.Reported.{declares, in_order, is_nothing, is_something, nothing}
 use Rattle.ob0_types_check.proofs.reporting.Reporter.into_report.Goals as goal
 
-pub known_of-requires : goal.known_of-requires
-known_of-requires c =
+pub make_declaration_table-requires : goal.make_declaration_table-requires
+make_declaration_table-requires c =
     let t = c.args.self in
     let ok = t.faults.ok.0 in
-    in_order c.args.resolved.now t.faults.items t.supposed c.args.faulty.items c.requires c.declarations_known.ensures c.module-module.ensures.resolved
+    in_order c.args.resolved.now t.faults.items t.checker_state c.args.faulty.items c.requires c.declarations_known.ensures c.module-module.ensures.resolved
     (is_nothing t.faults.items (vec_len t.faults) c.is_empty.result (omega (arith, ok)) c.is_empty.ensures c.if-is_empty.true)
 
 pub returns-in_ok-known : goal.returns-in_ok-known
@@ -18,10 +18,10 @@ returns-in_ok-known c =
     let t = c.args.self in
     let ok = t.faults.ok.0 in
     let none = is_nothing t.faults.items (vec_len t.faults) c.is_empty.result (omega (arith, ok)) c.is_empty.ensures c.if-is_empty.true in
-    let table = declares r t.faults.items t.supposed c.args.faulty.items c.requires c.declarations_known.ensures c.module-module.ensures.resolved none in
+    let table = declares r t.faults.items t.checker_state c.args.faulty.items c.requires c.declarations_known.ensures c.module-module.ensures.resolved none in
     record {
       faults = c.requires.faults;
-      known = (nothing r t.faults.items t.supposed c.args.faulty.items c.requires c.declarations_known.ensures c.module-module.ensures.resolved none, subst (HasDeclarations (named_tree_of r.module_read)) (sym c.in_ok-known.ensures) table);
+      known = (nothing r t.faults.items t.checker_state c.args.faulty.items c.requires c.declarations_known.ensures c.module-module.ensures.resolved none, subst (HasDeclarations (named_tree_of r.module_read)) (sym c.in_ok-known.ensures) table);
       faulty = c.requires.faulty_are;
     }
 

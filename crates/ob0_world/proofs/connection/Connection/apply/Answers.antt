@@ -1,11 +1,11 @@
 use Rattle.std.proofs.Common.{ap, subst}
 use Rattle.std.specs.Prelude.{is_ok, is_some}
-use Rattle.ob0_world_editor.specs.Moves.{ComesOf}
+use Rattle.ob0_world_editor.specs.Moves.{IsApplyOutcome}
 use Rattle.ob0_world_rules.specs.ClientAndServer.{ClientAndServer}
-use Rattle.ob0_world_rules.specs.Editing.{apply, done_by, kept_answer}
+use Rattle.ob0_world_rules.specs.EditorActs.{apply, act_result, edits_of_answer}
 use Rattle.ob0_world_rules.specs.Happens.{does}
 use Rattle.ob0_world.specs.Queues.{model_from, wire_from}
-use Rattle.ob0_world.specs.Seen.{nothing, applies, drops, Shows}
+use Rattle.ob0_world.specs.Seen.{nothing, applies, drops, HappensWithReport}
 use Rattle.ob0_world.specs.Worlds.{Connection, WritesContent}
 use Rattle.ob0_world.proofs.Moved.{writes_none, writes_one, applied_sound, made_says, made_happens, not_held_happens, dropped_happens, maybe_pushed}
 use Rattle.ob0_world.proofs.connection.Connection.apply.Goals as goal
@@ -25,7 +25,7 @@ invariant_of-self-in_err-push_back-in-Made g c =
     let i = c.self.inside in
     maybe_pushed c.apply.new.self.requested i.to_server.items c.push_back.new.self.items i.to_editor.items i.session c.in-Made.content (is_ok c.push_back.result) c.push_back.ensures.items
     (made_says i.editor c.apply.new.self c.args.k c.in-Made.applied c.in-Made.content
-    (subst (λ x. ComesOf (done_by i.editor (apply c.args.k)) (is_some (kept_answer c.args.k i.editor.answers)) x c.apply.new.self) c.in-Made.is c.in_ok-apply.ensures.ok))
+    (subst (λ x. IsApplyOutcome (act_result i.editor (apply c.args.k)) (is_some (edits_of_answer c.args.k i.editor.answers)) x c.apply.new.self) c.in-Made.is c.in_ok-apply.ensures.ok))
     (applied_sound i.editor c.apply.new.self c.args.k _ i.to_server.items i.to_editor.items i.session c.in_ok-apply.ensures.ok c.self.invariant)
 
 pub invariant_of-self-in_err-push-in-Made : goal.invariant_of-self-in_err-push-in-Made
@@ -33,7 +33,7 @@ invariant_of-self-in_err-push-in-Made g c =
     let i = c.self.inside in
     maybe_pushed c.apply.new.self.requested i.to_server.items c.push_back.new.self.items i.to_editor.items i.session c.in-Made.content (is_ok c.push_back.result) c.push_back.ensures.items
     (made_says i.editor c.apply.new.self c.args.k c.in-Made.applied c.in-Made.content
-    (subst (λ x. ComesOf (done_by i.editor (apply c.args.k)) (is_some (kept_answer c.args.k i.editor.answers)) x c.apply.new.self) c.in-Made.is c.in_ok-apply.ensures.ok))
+    (subst (λ x. IsApplyOutcome (act_result i.editor (apply c.args.k)) (is_some (edits_of_answer c.args.k i.editor.answers)) x c.apply.new.self) c.in-Made.is c.in_ok-apply.ensures.ok))
     (applied_sound i.editor c.apply.new.self c.args.k _ i.to_server.items i.to_editor.items i.session c.in_ok-apply.ensures.ok c.self.invariant)
 
 pub invariant_of-self-in-Made : goal.invariant_of-self-in-Made
@@ -41,15 +41,15 @@ invariant_of-self-in-Made g c =
     let i = c.self.inside in
     maybe_pushed c.apply.new.self.requested i.to_server.items c.push_back.new.self.items i.to_editor.items i.session c.in-Made.content (is_ok c.push_back.result) c.push_back.ensures.items
     (made_says i.editor c.apply.new.self c.args.k c.in-Made.applied c.in-Made.content
-    (subst (λ x. ComesOf (done_by i.editor (apply c.args.k)) (is_some (kept_answer c.args.k i.editor.answers)) x c.apply.new.self) c.in-Made.is c.in_ok-apply.ensures.ok))
+    (subst (λ x. IsApplyOutcome (act_result i.editor (apply c.args.k)) (is_some (edits_of_answer c.args.k i.editor.answers)) x c.apply.new.self) c.in-Made.is c.in_ok-apply.ensures.ok))
     (applied_sound i.editor c.apply.new.self c.args.k _ i.to_server.items i.to_editor.items i.session c.in_ok-apply.ensures.ok c.self.invariant)
 
 pub returns-in-NotHeld-clause-ok : goal.returns-in-NotHeld-clause-ok
 returns-in-NotHeld-clause-ok g c =
     let i = c.self.inside in
-    subst (λ (w : ClientAndServer). Shows w (does (apply c.args.k)) nothing (model_from c.apply.new.self i.to_server.items i.session i.to_editor.items i.applied.items i.made.items)) (ap (λ (w : Connection). w.model) c.self.view_is)
+    subst (λ (w : ClientAndServer). HappensWithReport w (does (apply c.args.k)) nothing (model_from c.apply.new.self i.to_server.items i.session i.to_editor.items i.applied.items i.made.items)) (ap (λ (w : Connection). w.model) c.self.view_is)
     (not_held_happens i.editor c.apply.new.self c.args.k i.to_server.items i.to_editor.items i.session i.applied.items i.made.items
-    (subst (λ x. ComesOf (done_by i.editor (apply c.args.k)) (is_some (kept_answer c.args.k i.editor.answers)) x c.apply.new.self) c.in-NotHeld.is c.in_ok-apply.ensures.ok) c.self.invariant)
+    (subst (λ x. IsApplyOutcome (act_result i.editor (apply c.args.k)) (is_some (edits_of_answer c.args.k i.editor.answers)) x c.apply.new.self) c.in-NotHeld.is c.in_ok-apply.ensures.ok) c.self.invariant)
 
 pub returns-in-NotHeld-clause-wire : goal.returns-in-NotHeld-clause-wire
 returns-in-NotHeld-clause-wire g c =
@@ -60,9 +60,9 @@ returns-in-NotHeld-clause-wire g c =
 pub returns-in-Dropped-clause-ok : goal.returns-in-Dropped-clause-ok
 returns-in-Dropped-clause-ok g c =
     let i = c.self.inside in
-    subst (λ (w : ClientAndServer). Shows w (does (apply c.args.k)) (drops c.args.k) (model_from c.apply.new.self i.to_server.items i.session i.to_editor.items i.applied.items i.made.items)) (ap (λ (w : Connection). w.model) c.self.view_is)
+    subst (λ (w : ClientAndServer). HappensWithReport w (does (apply c.args.k)) (drops c.args.k) (model_from c.apply.new.self i.to_server.items i.session i.to_editor.items i.applied.items i.made.items)) (ap (λ (w : Connection). w.model) c.self.view_is)
     (dropped_happens i.editor c.apply.new.self c.args.k i.to_server.items i.to_editor.items i.session i.applied.items i.made.items
-    (subst (λ x. ComesOf (done_by i.editor (apply c.args.k)) (is_some (kept_answer c.args.k i.editor.answers)) x c.apply.new.self) c.in-Dropped.is c.in_ok-apply.ensures.ok) c.self.invariant)
+    (subst (λ x. IsApplyOutcome (act_result i.editor (apply c.args.k)) (is_some (edits_of_answer c.args.k i.editor.answers)) x c.apply.new.self) c.in-Dropped.is c.in_ok-apply.ensures.ok) c.self.invariant)
 
 pub returns-in-Dropped-clause-wire : goal.returns-in-Dropped-clause-wire
 returns-in-Dropped-clause-wire g c =
@@ -73,9 +73,9 @@ returns-in-Dropped-clause-wire g c =
 pub returns-in_ok-push-in-Made-clause-ok : goal.returns-in_ok-push-in-Made-clause-ok
 returns-in_ok-push-in-Made-clause-ok g c =
     let i = c.self.inside in
-    subst (λ (w : ClientAndServer). Shows w (does (apply c.args.k)) (applies c.args.k) (model_from c.apply.new.self c.push_back.new.self.items i.session i.to_editor.items c.push.new.self.items i.made.items)) (ap (λ (w : Connection). w.model) c.self.view_is)
+    subst (λ (w : ClientAndServer). HappensWithReport w (does (apply c.args.k)) (applies c.args.k) (model_from c.apply.new.self c.push_back.new.self.items i.session i.to_editor.items c.push.new.self.items i.made.items)) (ap (λ (w : Connection). w.model) c.self.view_is)
     (made_happens i.editor c.apply.new.self c.args.k c.in-Made.applied c.in-Made.content i.to_server.items c.push_back.new.self.items i.to_editor.items i.session i.applied.items c.push.new.self.items i.made.items
-    (subst (λ x. ComesOf (done_by i.editor (apply c.args.k)) (is_some (kept_answer c.args.k i.editor.answers)) x c.apply.new.self) c.in-Made.is c.in_ok-apply.ensures.ok)
+    (subst (λ x. IsApplyOutcome (act_result i.editor (apply c.args.k)) (is_some (edits_of_answer c.args.k i.editor.answers)) x c.apply.new.self) c.in-Made.is c.in_ok-apply.ensures.ok)
     c.in_ok-push_back-in-Made.ensures.items c.in_ok-push-in-Made.ensures.items c.self.invariant)
 
 pub returns-in_ok-push-in-Made-clause-wire : goal.returns-in_ok-push-in-Made-clause-wire

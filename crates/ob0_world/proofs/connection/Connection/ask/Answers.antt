@@ -1,7 +1,7 @@
 use Rattle.std.proofs.Common.{refl, ap, subst}
 use Rattle.ob0_world_editor.specs.Code.{ask_of}
 use Rattle.std.specs.Prelude.{OnOk}
-use Rattle.ob0_world_rules.specs.Editing.{ask_about}
+use Rattle.ob0_world_rules.specs.EditorActs.{ask_about}
 use Rattle.ob0_world.specs.Queues.{wire_from}
 use Rattle.ob0_world.specs.Worlds.{Connection, WritesContent}
 use Rattle.ob0_world.proofs.Moved.{sent_sound, sent_shows, writes_sent, ask_applies}

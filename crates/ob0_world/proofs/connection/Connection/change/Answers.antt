@@ -1,7 +1,7 @@
 use Rattle.std.proofs.Common.{refl, ap, subst, map}
-use Rattle.ob0_text.specs.OpenDocuments.{change_in_text}
+use Rattle.ob0_text.specs.OpenDocuments.{text_change_of}
 use Rattle.std.specs.Prelude.{OnOk}
-use Rattle.ob0_world_rules.specs.Editing.{change_document}
+use Rattle.ob0_world_rules.specs.EditorActs.{change_document}
 use Rattle.ob0_world.specs.Queues.{wire_from}
 use Rattle.ob0_world.specs.Worlds.{Connection, WritesContent}
 use Rattle.ob0_world.proofs.Moved.{sent_sound, sent_shows, writes_sent, change_applies}
@@ -10,14 +10,14 @@ use Rattle.ob0_world.proofs.connection.Connection.change.Goals as goal
 pub invariant_of-self-2 : goal.invariant_of-self-2
 invariant_of-self-2 g c =
     let i = c.self.inside in
-    sent_sound (change_document c.args.uri.now (map change_in_text c.args.changes.now)) i.editor c.change.new.self c.in_ok-content.content i.to_server.items c.send.new.queue.items i.to_editor.items i.session c.send.result
+    sent_sound (change_document c.args.uri.now (map text_change_of c.args.changes.now)) i.editor c.change.new.self c.in_ok-content.content i.to_server.items c.send.new.queue.items i.to_editor.items i.session c.send.result
     c.in_ok-content.ensures.ok c.send.ensures.ok c.send.ensures.err c.self.invariant
 
 pub returns-clause-ok : goal.returns-clause-ok
 returns-clause-ok g c =
     let i = c.self.inside in
-    sent_shows (change_document c.args.uri.now (map change_in_text c.args.changes.now)) c.args.self.now.model i.editor c.change.new.self c.in_ok-content.content i.to_server.items c.send.new.queue.items i.to_editor.items i.session i.applied.items i.made.items c.send.result
-    (ap (λ (w : Connection). w.model) c.self.view_is) (change_applies i.editor c.args.uri.now (map change_in_text c.args.changes.now)) refl c.in_ok-content.ensures.ok c.send.ensures.ok c.self.invariant
+    sent_shows (change_document c.args.uri.now (map text_change_of c.args.changes.now)) c.args.self.now.model i.editor c.change.new.self c.in_ok-content.content i.to_server.items c.send.new.queue.items i.to_editor.items i.session i.applied.items i.made.items c.send.result
+    (ap (λ (w : Connection). w.model) c.self.view_is) (change_applies i.editor c.args.uri.now (map text_change_of c.args.changes.now)) refl c.in_ok-content.ensures.ok c.send.ensures.ok c.self.invariant
 
 pub returns-clause-wire : goal.returns-clause-wire
 returns-clause-wire g c =

@@ -1,6 +1,6 @@
 use Rattle.std.proofs.Common.{refl, ap, subst}
 use Rattle.std.specs.Prelude.{OnOk}
-use Rattle.ob0_world_rules.specs.Editing.{close_document}
+use Rattle.ob0_world_rules.specs.EditorActs.{close_document}
 use Rattle.ob0_world.specs.Queues.{wire_from}
 use Rattle.ob0_world.specs.Worlds.{Connection, WritesContent}
 use Rattle.ob0_world.proofs.Moved.{sent_sound, sent_shows, writes_sent, close_applies}

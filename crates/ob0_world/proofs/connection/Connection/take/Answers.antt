@@ -2,7 +2,7 @@ use Rattle.std.proofs.Common.{◌∙◌, ◌∷◌, ap, option_map, sym}
 use Rattle.ob0_world_rules.specs.ClientAndServer.{Editor}
 use Rattle.ob0_world_rules.specs.Edited.{replacements}
 use Rattle.ob0_world_editor.specs.Code.{message_of}
-use Rattle.ob0_world_editor.specs.Understood.{understood}
+use Rattle.ob0_world_editor.specs.MessagesToEditor.{message_to_editor_in}
 use Rattle.ob0_world.proofs.Moved.{first_of, moved_first, taken_says, taken_sound, same_sound, keep_asks}
 use Rattle.ob0_world.proofs.connection.Connection.take.Goals as goal
 
@@ -32,4 +32,4 @@ unreachable-requires g c =
     let i = c.self.inside in
     let first = first_of i.to_editor.items c.in-Some.content.now c.in-Some.ensures.item.3.0 c.in-Some.ensures.item.1 in
     taken_says i.editor.requested i.to_server.items i.to_editor.items first.0 i.session c.in-Some.content.now first.1 c.self.invariant
-    (sym (ap (understood i.editor.requested) c.as_slice.ensures.value) ∙ sym c.in_ok-message.ensures ∙ ap (option_map message_of) c.in_default-2.is)
+    (sym (ap (message_to_editor_in i.editor.requested) c.as_slice.ensures.value) ∙ sym c.in_ok-message.ensures ∙ ap (option_map message_of) c.in_default-2.is)

@@ -9,8 +9,8 @@ use Rattle.ob0_world.proofs.Stepping.{step_made, step_failed}
 -- If memory runs out before the first event, the code returns no results.
 pub returns-in-Err-clause-err : goal.returns-in-Err-clause-err
 returns-in-Err-clause-err g c =
-    let none = c.nothing_played.ensures in
-    plays_nothing c.args.unit c.args.events.now (record { played = c.nothing_played.result; steps = 0 }) refl none.applied none.made none.taken none.got none.unread
+    let none = c.no_results.ensures in
+    plays_nothing c.args.unit c.args.events.now (record { played = c.no_results.result; steps = 0 }) refl none.applied none.made none.taken none.got none.unread
 
 pub loop-event-init : goal.loop-event-init
 loop-event-init g c = (c.in-Ok.world.connection, c.in-Ok.ensures.start.begins, refl, c.in-Ok.ensures.start.none, c.in-Ok.ensures.start.goes_on)

@@ -1,14 +1,14 @@
 use Rattle.std.proofs.Common.{refl, sym, subst}
 use Rattle.std.specs.Prelude.{is_some}
-use Rattle.ob0_world_editor.specs.declared.applied.Applying as applying
-use Rattle.ob0_world_rules.specs.Editing.{apply, done_by, kept_answer}
-use Rattle.ob0_world_editor.specs.Moves.{AreFew, ComesOf}
+use Rattle.ob0_world_editor.specs.declared.applied.ApplyOutcome as applying
+use Rattle.ob0_world_rules.specs.EditorActs.{apply, act_result, edits_of_answer}
+use Rattle.ob0_world_editor.specs.Moves.{AreFew, IsApplyOutcome}
 use Rattle.ob0_world_editor.proofs.Moving.{comes_not_held, few_without}
 use Rattle.ob0_world_editor.proofs.editor.Editor.apply.Goals as goal
 
 pub returns-in_default-clause-ok : goal.returns-in_default-clause-ok
 returns-in_default-clause-ok c =
-    subst (λ e. ComesOf (done_by c.args.self.now (apply c.args.k)) (is_some (kept_answer c.args.k c.args.self.now.answers)) applying.TheVariants.NotHeld e) (sym c.in_default.ensures.after)
+    subst (λ e. IsApplyOutcome (act_result c.args.self.now (apply c.args.k)) (is_some (edits_of_answer c.args.k c.args.self.now.answers)) applying.TheVariants.NotHeld e) (sym c.in_default.ensures.after)
     (comes_not_held c.args.self.now c.args.k _ c.in_default.ensures.edits refl)
 
 pub rewrite-rewritten-requires : goal.rewrite-rewritten-requires

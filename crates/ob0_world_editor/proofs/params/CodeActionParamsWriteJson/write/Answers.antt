@@ -5,5 +5,5 @@ use Rattle.ob0_world_editor.proofs.params.CodeActionParamsWriteJson.write.Goals 
 
 pub returns : goal.returns
 returns c =
-    let members = rw c.as_slice.ensures at c.three_members.ensures in
-    on_ok_weaker c.three_members.result (object_of _ _ _ _ _ refl refl) members
+    let members = rw c.as_slice.ensures at c.write_three_members.ensures in
+    on_ok_weaker c.write_three_members.result (object_of _ _ _ _ _ refl refl) members

@@ -4,4 +4,4 @@ use Rattle.ob0_rpc.proofs.Appending.{object_of}
 use Rattle.ob0_world_editor.proofs.params.FormattingParamsWriteJson.write.Goals as goal
 
 pub returns : goal.returns
-returns c = on_ok_weaker c.two_members.result (object_of _ _ _ _ _ refl refl) c.two_members.ensures
+returns c = on_ok_weaker c.write_two_members.result (object_of _ _ _ _ _ refl refl) c.write_two_members.ensures

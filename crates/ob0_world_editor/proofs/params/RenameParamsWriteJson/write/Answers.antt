@@ -4,4 +4,4 @@ use Rattle.ob0_rpc.proofs.Appending.{object_of}
 use Rattle.ob0_world_editor.proofs.params.RenameParamsWriteJson.write.Goals as goal
 
 pub returns : goal.returns
-returns c = on_ok_weaker c.three_members.result (object_of _ _ _ _ _ refl refl) c.three_members.ensures
+returns c = on_ok_weaker c.write_three_members.result (object_of _ _ _ _ _ refl refl) c.write_three_members.ensures

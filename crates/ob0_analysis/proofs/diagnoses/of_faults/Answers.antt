@@ -1,8 +1,0 @@
-use Rattle.std.proofs.Common.{arith}
-use Rattle.ob0_analysis.specs.Diagnosed.{complaint_in, complaint_of}
-use Rattle.ob0_analysis.proofs.Alike.{maps_more}
-use Rattle.ob0_analysis.proofs.diagnoses.of_faults.Goals as goal
-
-pub loop-fault-preserved : goal.loop-fault-preserved
-loop-fault-preserved c =
-    rw c.in_ok-push.ensures.items (maps_more complaint_in complaint_of c.loop-fault.list.items _ c.args.faults.now c.loop-fault.fault-index _ (omega arith) c.loop-fault.invariant c.in_ok-of_fault.ensures)

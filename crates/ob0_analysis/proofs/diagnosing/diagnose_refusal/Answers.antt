@@ -1,8 +1,0 @@
-use Rattle.std.proofs.Common.{inr}
-use Rattle.ob0_analysis.proofs.Scanning.{finds_parser}
-use Rattle.ob0_analysis.proofs.diagnosing.diagnose_refusal.Goals as goal
-
-pub returns : goal.returns
-returns c =
-    rw (c.in_ok-push.ensures.items, c.new-reported.ensures.items)
-    (inr (finds_parser c.args.tokens.now c.args.refusal.now _ c.one_scan.ensures c.text-text.ensures.scan c.requires c.in_ok-of_refusal.ensures))

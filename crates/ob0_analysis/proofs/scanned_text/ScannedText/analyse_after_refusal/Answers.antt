@@ -1,0 +1,22 @@
+use Rattle.ob0_parse.proofs.Carried.{kept_stay}
+use Rattle.ob0_parse.proofs.Stays.{refusal_stays}
+use Rattle.ob0_analysis.proofs.GivenBack.{refusal_given_back}
+use Rattle.ob0_analysis.proofs.scanned_text.ScannedText.analyse_after_refusal.Goals as goal
+
+pub reanalyse_refused-requires-clause-alike : goal.reanalyse_refused-requires-clause-alike
+reanalyse_refused-requires-clause-alike c =
+    λ alike. (refusal_stays c.args.ill.tokens c.in-Ok.changed.rescan.tokens c.args.ill.refusal (c.in-Ok.ensures.alike alike) c.requires.0.0, c.requires.0.1)
+
+pub reanalyse_refused-requires-clause-before : goal.reanalyse_refused-requires-clause-before
+reanalyse_refused-requires-clause-before c = record {
+  old = c.args.ill.tokens;
+  new_scan = c.in-Ok.ensures.ok.scan;
+  same = c.in-Ok.ensures.same;
+  written = c.in-Ok.ensures.written;
+  kept = c.requires.1;
+  alike = λ alike. kept_stay c.args.ill.tokens.tokens c.in-Ok.changed.rescan.tokens.tokens c.args.ill.kept (c.in-Ok.ensures.alike alike) c.requires.1;
+  was = c.requires.2;
+}
+
+pub failure_after_refusal-requires : goal.failure_after_refusal-requires
+failure_after_refusal-requires c = refusal_given_back c.args.ill.tokens _ c.args.ill.refusal c.args.ill.kept c.args.ill.last _ c.in-Err.ensures.err c.requires.0 c.requires.1 c.requires.2

@@ -1,0 +1,489 @@
+//! A text that has lexemes: its tokens, with its module or the parser's refusal.
+
+ghost use Rattle.std.specs.Prelude.{◌≡◌, [], true, IfErr, IfOk, IfSome, MatchOption, map};
+ghost use Rattle.ob0_scan.specs.Refused.{AreFaults, IsRightRescanRefusal};
+ghost use Rattle.ob0_scan.specs.Reused.{kinds, names_in, words_of_tokens};
+ghost use Rattle.ob0_scan.specs.SameKinds.{HasSameTokens, HasSameWords};
+ghost use Rattle.ob0_scan.specs.TextWithTokens.{IsScan, IsScanOf};
+ghost use Rattle.ob0_tree.specs.ParsedModule.{IsParsed, parsed_module};
+ghost use Rattle.ob0_scope_table.specs.Bindings.{resolution_with};
+ghost use Rattle.ob0_scope_table.specs.Resolution.{IsResolution};
+ghost use Rattle.ob0_parse.specs.KeptTokens.{AreKept};
+ghost use Rattle.ob0_analysis.specs.Found.{IsValidOutcome, IsRefusedByParser, IsReanalysisFailure};
+ghost use Rattle.ob0_analysis.specs.Before.{AreKeptBefore, IsModuleBefore, IsFailureAfterModule, IsFailureAfterRefusal, IsModuleWithSameSpelling};
+ghost use Rattle.ob0_analysis.specs.LastModule.{IsEarlierModule, IsLastModuleOf};
+ghost use Rattle.ob0_analysis.specs.declared.scanned_text.ReanalysisFailure.TheVariants as not_read;
+ghost use Rattle.ob0_analysis.specs.declared.scanned_text.ParseOutcome.TheVariants.{NoTree};
+ghost use Rattle.ob0_analysis.specs.Diagnosed.{IsWellTypedModule, Reports, complaint_of_diagnosis};
+ghost use Rattle.ob0_analysis.specs.OneBody.{IsEarlierModuleWithSameKinds};
+ghost use Rattle.ob0_types.specs.OneBody.{WereTypesBeforeChange};
+
+use crate::diagnoses::Diagnosis;
+use crate::differences::Difference;
+use crate::fault_places::{FaultPlaces, move_binding_faults, move_type_faults};
+use crate::last_module::LastModule;
+use crate::new_body::reuse_last_module;
+use crate::one_body::{differs_in_one_body, rebind_names, recheck_types};
+use crate::parts::ModuleParts;
+use crate::text_errors::{diagnose_module, diagnose_refusal};
+use ob0_parse::{KeptTrees, reparse_tree};
+use ob0_parse_descent::ParseRefusal;
+use ob0_scan::laws::scan_is_unique;
+use ob0_scan::{Fault, RescanInPlace, RescanRefusal, SameTokens, Tokens, rescan_in_place};
+use ob0_scope::laws::{bindings_depend_on_names, bindings_move_with_tokens};
+use ob0_scope_table::Bindings;
+use ob0_tree::ModuleTree;
+use ob0_types::ModuleTypes;
+use ob0_types::laws::types_depend_on_tokens;
+use std::alloc::{AllocError, Global};
+use std::marker::Model;
+
+/// A text that has lexemes and no tree. It is kept as its tokens and the parser's refusal, with procedures that the
+/// next parse can reuse. `last` has the results for the last text that was a module, if that text differs in only one
+/// body.
+#[derive(Drop)]
+pub(crate) struct UnparsableText {
+    tokens: Tokens,
+    refusal: ParseRefusal,
+    kept: KeptTrees,
+    last: Option<LastModule>,
+}
+
+/// The result of parsing a text: the parser's refusal or a module.
+#[derive(Drop)]
+pub(crate) enum ParseOutcome {
+    NoTree(UnparsableText),
+    Module(ModuleParts),
+}
+
+/// The analysis of a text that has lexemes.
+#[derive(Drop)]
+pub(crate) struct ScannedText {
+    reading: ParseOutcome,
+}
+
+impl Model for ScannedText {
+    ghost use Rattle.std.specs.Prelude.{List, ℕ};
+
+    ghost Value = { List ℕ };
+
+    ghost use Rattle.ob0_analysis.specs.Found.{text_of_outcome, IsValidOutcome};
+
+    ghost view = { λ r. text_of_outcome r.reading };
+
+    ghost invariant = { λ r. IsValidOutcome r.reading };
+}
+
+/// The reason why a changed text can't be analysed: its lexical faults, or lack of memory. The
+/// analysis of the previous text is returned with the faults.
+#[derive(Drop)]
+pub(crate) enum ReanalysisFailure {
+    Faults(Vec<Fault>, ScannedText),
+    Memory,
+}
+
+impl From<AllocError> for ReanalysisFailure {
+    ghost from_gives = { λ _ e. e ≡ not_read.Memory };
+
+    fn from(_error: AllocError) -> ReanalysisFailure {
+        ReanalysisFailure::Memory
+    }
+}
+
+impl ScannedText {
+    /// Parses and analyses a text, given its tokens. The procedures in `kept` and the results in
+    /// `last` come from earlier texts and are reused if possible.
+    pub(crate) fn parse_tokens(
+        alloc: Global,
+        tokens: Tokens,
+        kept: KeptTrees,
+        last: Option<LastModule>,
+    ) -> Result<ScannedText, AllocError>
+        requires kept { AreKept tokens.tokens kept }
+        requires last { IfSome last (IsLastModuleOf tokens) }
+        ensures { IfOk result (λ r. r ≡ tokens.text) }
+    {
+        let mut kept = kept;
+        match reparse_tree(alloc, &tokens, &mut kept) {
+            Ok(tree) => ScannedText::analyse_tree(alloc, tokens, tree, last),
+            Err(ParseRefusal::Memory) => Err(AllocError),
+            Err(refusal) => Ok(ScannedText {
+                reading: ParseOutcome::NoTree(UnparsableText {
+                    tokens,
+                    refusal,
+                    kept,
+                    last,
+                }),
+            }),
+        }
+    }
+
+    /// Binds the names and checks the types of a text that has this tree. The results for the last
+    /// module (`last`) are reused if there are any.
+    fn analyse_tree(
+        alloc: Global,
+        tokens: Tokens,
+        tree: ModuleTree,
+        last: Option<LastModule>,
+    ) -> Result<ScannedText, AllocError>
+        requires parsed { IsParsed (parsed_module tokens tree) }
+        requires last { IfSome last (IsLastModuleOf tokens) }
+        ensures { IfOk result (λ r. r ≡ tokens.text) }
+    {
+        let parts = match last {
+            Some(last) => reuse_last_module(alloc, tokens, tree, last)?,
+            None => ModuleParts::of(alloc, tokens, tree)?,
+        };
+        Ok(ScannedText::from_module(parts))
+    }
+
+    /// Returns the analysis of a text that is this module.
+    fn from_module(parts: ModuleParts) -> ScannedText
+        ensures { result ≡ parts.module_read.source.text }
+    {
+        ScannedText {
+            reading: ParseOutcome::Module(parts),
+        }
+    }
+
+    /// Analyses a changed text. These results for the previous text are reused:
+    /// - always the tokens and procedures that both texts have in common;
+    /// - if all tokens have the same kinds as before, the tree or the parser's refusal;
+    /// - if also all identifiers have the same spelling and no name has a fault, their bindings;
+    /// - if all tokens have the same spelling, everything, with the faults at the same tokens.
+    ///
+    /// If the new text has lexical faults, the error has these and the analysis of the previous
+    /// text.
+    pub(crate) fn after(self, alloc: Global, text: &str) -> Result<ScannedText, ReanalysisFailure>
+        ensures ok { IfOk result (λ r. r ≡ text.now) }
+        ensures err { IfErr result (IsReanalysisFailure text.now) }
+    {
+        let ScannedText { reading } = self;
+        match reading {
+            ParseOutcome::NoTree(ill) => ScannedText::analyse_after_refusal(alloc, ill, text),
+            ParseOutcome::Module(parts) => ScannedText::analyse_after_module(alloc, parts, text),
+        }
+    }
+
+    /// Scans and analyses a changed text if the parser refused the previous text.
+    fn analyse_after_refusal(
+        alloc: Global,
+        ill: UnparsableText,
+        text: &str,
+    ) -> Result<ScannedText, ReanalysisFailure>
+        requires { IsValidOutcome (NoTree ill) }
+        ensures ok { IfOk result (λ r. r ≡ text.now) }
+        ensures err { IfErr result (IsReanalysisFailure text.now) }
+    {
+        let UnparsableText {
+            tokens,
+            refusal,
+            kept,
+            last,
+        } = ill;
+        match rescan_text(alloc, tokens, text) {
+            Ok(changed) => Ok(ScannedText::reanalyse_refused(alloc, changed, refusal, kept, last)?),
+            Err(unread) => Err(ScannedText::failure_after_refusal(
+                text, unread, refusal, kept, last,
+            )),
+        }
+    }
+
+    /// Returns the error for a changed text that can't be scanned, if the parser refused the
+    /// previous text. If the reason is lexical faults, the error also has the analysis of the
+    /// previous text.
+    fn failure_after_refusal(
+        _text: &str,
+        unread: RescanRefusal,
+        refusal: ParseRefusal,
+        kept: KeptTrees,
+        last: Option<LastModule>,
+    ) -> ReanalysisFailure
+        requires { IsFailureAfterRefusal _text.now refusal kept last unread }
+        ensures { IsReanalysisFailure _text.now result }
+    {
+        match unread {
+            RescanRefusal::Faults(faults, tokens) => {
+                let before = ScannedText {
+                    reading: ParseOutcome::NoTree(UnparsableText {
+                        tokens,
+                        refusal,
+                        kept,
+                        last,
+                    }),
+                };
+                ReanalysisFailure::Faults(faults, before)
+            }
+            RescanRefusal::Memory => ReanalysisFailure::Memory,
+        }
+    }
+
+    /// Analyses a changed and scanned text if the parser refused the previous text. If all tokens
+    /// have the same kinds as before, the refusal is kept. Otherwise the text is parsed, and the
+    /// kept procedures and the results for the last module are reused if possible.
+    fn reanalyse_refused(
+        alloc: Global,
+        changed: RescanInPlace,
+        refusal: ParseRefusal,
+        kept: KeptTrees,
+        last: Option<LastModule>,
+    ) -> Result<ScannedText, AllocError>
+        requires alike { changed.alike ≡ true → IsRefusedByParser changed.rescan.tokens refusal }
+        requires before { AreKeptBefore changed kept last }
+        ensures { IfOk result (λ r. r ≡ changed.rescan.tokens.text) }
+    {
+        let RescanInPlace {
+            rescan,
+            same,
+            alike,
+            same_names: _,
+            same_words: _,
+        } = changed;
+        let tokens = rescan.tokens;
+        let last = LastModule::after(last, same);
+        if !alike {
+            let kept = kept.relocate(alloc, same)?;
+            return ScannedText::parse_tokens(alloc, tokens, kept, last);
+        }
+        Ok(ScannedText {
+            reading: ParseOutcome::NoTree(UnparsableText {
+                tokens,
+                refusal,
+                kept,
+                last,
+            }),
+        })
+    }
+
+    /// Scans and analyses a changed text if the previous text was a module.
+    fn analyse_after_module(
+        alloc: Global,
+        old: ModuleParts,
+        text: &str,
+    ) -> Result<ScannedText, ReanalysisFailure>
+        ensures ok { IfOk result (λ r. r ≡ text.now) }
+        ensures err { IfErr result (IsReanalysisFailure text.now) }
+    {
+        let (tokens, tree, bindings, types) = old.into_parts();
+        let places = FaultPlaces::of(alloc, &tokens, &bindings, &types)?;
+        // The contract of this call gives the proof the invariant of the tokens.
+        let _text = tokens.text();
+        match rescan_text(alloc, tokens, text) {
+            Ok(changed) => Ok(ScannedText::reanalyse_module(
+                alloc, changed, tree, bindings, types, places,
+            )?),
+            Err(unread) => Err(ScannedText::failure_after_module(
+                text, unread, tree, bindings, types,
+            )),
+        }
+    }
+
+    /// Returns the error for a changed text that can't be scanned, if the previous text was a
+    /// module. If the reason is lexical faults, the error also has the analysis of that module.
+    fn failure_after_module(
+        _text: &str,
+        unread: RescanRefusal,
+        tree: ModuleTree,
+        bindings: Bindings,
+        types: ModuleTypes,
+    ) -> ReanalysisFailure
+        requires { IsFailureAfterModule _text.now tree bindings types unread }
+        ensures { IsReanalysisFailure _text.now result }
+    {
+        match unread {
+            RescanRefusal::Faults(faults, tokens) => {
+                let last = ModuleParts::from_parts(tokens, tree, bindings, types);
+                ReanalysisFailure::Faults(faults, ScannedText::from_module(last))
+            }
+            RescanRefusal::Memory => ReanalysisFailure::Memory,
+        }
+    }
+
+    /// Analyses a changed and scanned text if the previous text was a module, with faults at the
+    /// tokens in `places`. If all tokens have the same kinds as before, the tree is kept. The
+    /// bindings and types are reused if possible.
+    fn reanalyse_module(
+        alloc: Global,
+        changed: RescanInPlace,
+        tree: ModuleTree,
+        bindings: Bindings,
+        types: ModuleTypes,
+        places: FaultPlaces,
+    ) -> Result<ScannedText, AllocError>
+        requires { IsModuleBefore changed tree bindings types places }
+        ensures { IfOk result (λ r. r ≡ changed.rescan.tokens.text) }
+    {
+        bindings_depend_on_names();
+        let RescanInPlace {
+            rescan,
+            same,
+            alike: same_kinds,
+            same_names,
+            same_words,
+        } = changed;
+        let tokens = rescan.tokens;
+        if !same_kinds {
+            return ScannedText::reanalyse_changed_kinds(alloc, tokens, tree, bindings, types, same);
+        }
+        if same_words {
+            if places.has_same_front(&tokens) {
+                return ScannedText::reanalyse_same_words(
+                    alloc, tokens, tree, bindings, types, places,
+                );
+            }
+        }
+        ScannedText::reanalyse_same_tree(alloc, tokens, tree, bindings, types, same, same_names)
+    }
+
+    /// Parses and analyses a changed text in which a token has another kind. Procedures of the
+    /// previous tree are reused. If both modules differ in only one body, the names and types
+    /// outside it are also reused.
+    fn reanalyse_changed_kinds(
+        alloc: Global,
+        tokens: Tokens,
+        tree: ModuleTree,
+        bindings: Bindings,
+        types: ModuleTypes,
+        same: SameTokens,
+    ) -> Result<ScannedText, AllocError>
+        requires { IsEarlierModule tokens tree bindings types same }
+        ensures { IfOk result (λ r. r ≡ tokens.text) }
+    {
+        let last = LastModule::of(&tokens, &tree, bindings, types, same);
+        let kept = KeptTrees::from_tree(alloc, tree).relocate(alloc, same)?;
+        ScannedText::parse_tokens(alloc, tokens, kept, last)
+    }
+
+    /// Analyses a text with the same tree as the previous text. If the identifiers have the same
+    /// spelling (`same_names`) and no name has a fault, the bindings are kept. Otherwise names are
+    /// bound again, because the spans of the faults of names may have changed.
+    fn reanalyse_same_tree(
+        alloc: Global,
+        tokens: Tokens,
+        tree: ModuleTree,
+        bindings: Bindings,
+        types: ModuleTypes,
+        same: SameTokens,
+        same_names: bool,
+    ) -> Result<ScannedText, AllocError>
+        requires parsed { IsParsed (parsed_module tokens tree) }
+        requires before { IsEarlierModuleWithSameKinds tokens tree bindings types same }
+        requires resolved { same_names ≡ true
+            → bindings.faults.items ≡ []
+            → IsResolution (resolution_with (parsed_module tokens tree) bindings) }
+        ensures { IfOk result (λ r. r ≡ tokens.text) }
+    {
+        let in_body = differs_in_one_body(&tokens, &tree, same);
+        if same_names && bindings.faults.is_empty() {
+            return ScannedText::reanalyse_with_bindings(
+                alloc, tokens, tree, bindings, types, same, in_body,
+            );
+        }
+        let names = rebind_names(alloc, &tokens, &tree, bindings, same, in_body)?;
+        ScannedText::reanalyse_with_bindings(alloc, tokens, tree, names, types, same, in_body)
+    }
+
+    /// Checks the types of a text that has the previous tree and these bindings. If the texts
+    /// differ in only one body (`in_body`), the previous types outside it are reused.
+    fn reanalyse_with_bindings(
+        alloc: Global,
+        tokens: Tokens,
+        tree: ModuleTree,
+        bindings: Bindings,
+        types: ModuleTypes,
+        same: SameTokens,
+        in_body: bool,
+    ) -> Result<ScannedText, AllocError>
+        requires parsed { IsParsed (parsed_module tokens tree) }
+        requires resolved { IsResolution (resolution_with (parsed_module tokens tree) bindings) }
+        requires before { in_body ≡ true
+            → WereTypesBeforeChange (resolution_with (parsed_module tokens tree) bindings) types same.prefix }
+        ensures { IfOk result (λ r. r ≡ tokens.text) }
+    {
+        let types = recheck_types(alloc, &tokens, &tree, &bindings, types, same, in_body)?;
+        let parts = ModuleParts::from_parts(tokens, tree, bindings, types);
+        Ok(ScannedText::from_module(parts))
+    }
+
+    /// Analyses a text whose tokens have the same spelling as the previous text's. All results are kept, with the
+    /// faults at the same tokens.
+    fn reanalyse_same_words(
+        alloc: Global,
+        tokens: Tokens,
+        tree: ModuleTree,
+        bindings: Bindings,
+        types: ModuleTypes,
+        places: FaultPlaces,
+    ) -> Result<ScannedText, AllocError>
+        requires { IsModuleWithSameSpelling tokens tree bindings types places }
+        ensures { IfOk result (λ r. r ≡ tokens.text) }
+    {
+        bindings_move_with_tokens();
+        types_depend_on_tokens();
+        let bindings = move_binding_faults(alloc, &tokens, bindings, &places)?;
+        let types = move_type_faults(alloc, &tokens, types, &places)?;
+        let parts = ModuleParts::from_parts(tokens, tree, bindings, types);
+        Ok(ScannedText::from_module(parts))
+    }
+
+    /// Returns the text that was analysed.
+    pub(crate) fn text(&self) -> &str
+        ensures { result.now ≡ self.now }
+    {
+        match &self.reading {
+            ParseOutcome::NoTree(ill) => ill.tokens.text(),
+            ParseOutcome::Module(parts) => parts.tokens().text(),
+        }
+    }
+
+    /// Returns the module of the text with its tokens, tree, bindings and types. Returns None if
+    /// the text has no tree.
+    pub(crate) fn module_parts(&self) -> Option<&ModuleParts>
+        ensures { MatchOption result (¬ IsWellTypedModule self.now)
+            (λ m. IsScanOf self.now m.now.module_read.source) }
+    {
+        scan_is_unique();
+        match &self.reading {
+            ParseOutcome::NoTree(ill) => {
+                // The contract of this call gives the proof the invariant of the tokens.
+                let _text = ill.tokens.text();
+                None
+            }
+            ParseOutcome::Module(parts) => {
+                // The contract of this call gives the proof the invariant of the tokens.
+                let _text = parts.tokens().text();
+                Some(parts)
+            }
+        }
+    }
+
+    /// Returns the errors of the text: the parser's refusal, or the faults of names and types.
+    pub(crate) fn diagnoses(&self, alloc: Global) -> Result<Vec<Diagnosis>, AllocError>
+        ensures { IfOk result (λ list. Reports self.now (map complaint_of_diagnosis list.items)) }
+    {
+        match &self.reading {
+            ParseOutcome::NoTree(ill) => diagnose_refusal(alloc, &ill.tokens, &ill.refusal),
+            ParseOutcome::Module(parts) => diagnose_module(alloc, parts),
+        }
+    }
+}
+
+/// Scans a changed text, and reuses the tokens of the old text outside the change. If the new text
+/// has lexical faults, the error has these faults and the old tokens.
+fn rescan_text(alloc: Global, old: Tokens, text: &str) -> Result<RescanInPlace, RescanRefusal>
+    ensures ok { IfOk result (λ r. IsScanOf text.now r.rescan.tokens) }
+    ensures same { IfOk result (λ r. HasSameTokens r.same old.tokens r.rescan.tokens.tokens) }
+    ensures written { IfOk result (λ r. HasSameWords r.same old r.rescan.tokens) }
+    ensures alike { IfOk result
+        (λ r. r.alike ≡ true → kinds r.rescan.tokens.tokens ≡ kinds old.tokens) }
+    ensures same_names { IfOk result
+        (λ r. r.same_names ≡ true → names_in r.rescan.tokens.text r.rescan.tokens.tokens
+        ≡ names_in old.text old.tokens) }
+    ensures same_words { IfOk result
+        (λ r. r.same_words ≡ true → words_of_tokens r.rescan.tokens.text r.rescan.tokens.tokens
+        ≡ words_of_tokens old.text old.tokens) }
+    ensures err { IfErr result (IsRightRescanRefusal old text.now) }
+{
+    let change = Difference::between(old.text(), text);
+    rescan_in_place(alloc, old, text, change.from, change.removed, change.added)
+}

@@ -1,0 +1,46 @@
+//! The errors of a text that has lexemes.
+
+ghost use Rattle.std.specs.Prelude.{IfOk, map};
+ghost use Rattle.ob0_parse.specs.IsRightParseRefusal.{IsRightParseRefusal};
+ghost use Rattle.ob0_analysis.specs.Diagnosed.{Reports, complaint_of_diagnosis};
+
+use crate::diagnoses::{Diagnosis, diagnoses_of_faults, diagnosis_of_refusal};
+use crate::parts::ModuleParts;
+use ob0_parse::tree_is_unique;
+use ob0_parse_descent::ParseRefusal;
+use ob0_scan::Tokens;
+use ob0_scan::laws::scan_is_unique;
+use std::alloc::{AllocError, Global};
+
+/// Returns the only error of a text without a tree: the parser's refusal, at the token that was refused.
+pub(crate) fn diagnose_refusal(
+    alloc: Global,
+    tokens: &Tokens,
+    refusal: &ParseRefusal,
+) -> Result<Vec<Diagnosis>, AllocError>
+    requires { IsRightParseRefusal tokens.now refusal.now }
+    ensures { IfOk result (λ list. Reports tokens.now.text (map complaint_of_diagnosis list.items)) }
+{
+    scan_is_unique();
+    // The contract of this call gives the proof the invariant of the tokens.
+    let _text = tokens.text();
+    let mut reported = Vec::new(alloc);
+    reported.push(diagnosis_of_refusal(alloc, tokens, refusal)?)?;
+    Ok(reported)
+}
+
+/// Returns the faults of names and types of a text that has a tree.
+pub(crate) fn diagnose_module(
+    alloc: Global,
+    parts: &ModuleParts,
+) -> Result<Vec<Diagnosis>, AllocError>
+    ensures { IfOk result
+        (λ list. Reports parts.now.module_read.source.text (map complaint_of_diagnosis list.items)) }
+{
+    scan_is_unique();
+    tree_is_unique();
+    // The contract of this call gives the proof the invariant of the tokens.
+    let _text = parts.tokens().text();
+    let reported = diagnoses_of_faults(alloc, parts.faults())?;
+    Ok(reported)
+}

@@ -1,0 +1,156 @@
+//! Prints whole texts.
+//!
+//! The commands print to an `Output`: a writer that remembers whether it has been flushed since the
+//! last write, and whether it has failed. std's contracts of `Write` mention neither fact, but the
+//! contract of `print` needs both. `TrackedWriter` makes an `Output` of any writer, including
+//! standard error. `O.contents` is None for a writer whose bytes aren't known, as in `Write`. The
+//! clauses then say nothing about the bytes.
+//!
+//! After a command has printed, its output is flushed. If a name is refused, the output is unchanged, and whether it is
+//! flushed isn't known (`IsFlushedOrUnchanged`). `check_file` and `rename` print only once, so their contracts follow from
+//! one call of `print`. The contracts say nothing about the bytes after a failed write, because std's `write_all`
+//! doesn't.
+
+ghost use Rattle.std.specs.Prelude.{◌≡◌, ◌≢◌, ◌||◌, [], Bool, Some, true, false, is_err, OnOk, OnErr, IfErr};
+ghost use Rattle.std.specs.Io.{WritesAtMost};
+ghost use Rattle.std.specs.Io.KnownBytes.{Appends, Keeps, WriteAppends};
+ghost use Rattle.ob0_commands.specs.declared.faults.FileFault.TheVariants as faults;
+ghost use Rattle.ob0_commands.specs.Outputs.{wrapped_writer, output_failed, has_flushed};
+ghost use Rattle.ob0_commands.specs.StderrLines.{PrintsLine};
+
+use crate::faults::FileFault;
+use std::io::{self, Write};
+
+/// The size of the two buffers, in bytes: the one into which a file or an input is read, and the
+/// one in which output is collected before it is written.
+pub(crate) const PIECE_SIZE: usize = 8192;
+
+/// A writer that remembers whether it has been flushed since the last write, and whether it has failed.
+pub trait Output: Write {
+    // Returns true if a flush has succeeded since the last write of at least one byte.
+    ghost is_flushed: { Self → Bool };
+
+    // Returns true if a call of `write_tracked` or `flush_tracked` has failed.
+    ghost has_failed: { Self → Bool };
+
+    /// Writes all the bytes. If that fails, the failure is remembered.
+    fn write_tracked(&mut self, bytes: &[u8]) -> io::Result<()>
+        ensures bytes { OnOk result
+            (Appends (Self.contents self.old) (Self.contents self.new) bytes.now) }
+        ensures unflushed { bytes.now ≢ [] → is_flushed self.new ≡ false }
+        ensures kept { bytes.now ≡ [] → is_flushed self.new ≡ is_flushed self.old }
+        ensures failed { has_failed self.new ≡ (has_failed self.old || is_err result) };
+
+    /// Flushes. The success or the failure is remembered.
+    fn flush_tracked(&mut self) -> io::Result<()>
+        ensures bytes { Keeps (Self.contents self.old) (Self.contents self.new) }
+        ensures flushed { OnOk result (is_flushed self.new ≡ true) }
+        ensures kept { OnErr result (is_flushed self.new ≡ is_flushed self.old) }
+        ensures failed { has_failed self.new ≡ (has_failed self.old || is_err result) };
+}
+
+/// A writer that remembers flushes and failures, and so is an `Output`.
+#[derive(Drop)]
+pub struct TrackedWriter<W> {
+    device: W,
+    has_flushed: bool,
+    has_failed: bool,
+}
+
+impl<W> TrackedWriter<W> {
+    /// Wraps a writer. It counts as not flushed and not failed.
+    pub fn new(device: W) -> TrackedWriter<W>
+        ensures device { wrapped_writer result ≡ device }
+        ensures fresh { has_flushed result ≡ false }
+        ensures works { output_failed result ≡ false }
+    {
+        TrackedWriter {
+            device,
+            has_flushed: false,
+            has_failed: false,
+        }
+    }
+}
+
+impl<W: Write> Write for TrackedWriter<W> {
+    ghost contents = { λ output. W.contents (wrapped_writer output) };
+
+    fn write(&mut self, buf: &[u8]) -> io::Result<usize>
+        ensures bound { WritesAtMost result buf.now }
+        ensures bytes { WriteAppends (W.contents (wrapped_writer self.old))
+            (W.contents (wrapped_writer self.new)) result buf.now }
+        ensures flushed { has_flushed self.new ≡ false }
+        ensures kept { output_failed self.new ≡ output_failed self.old }
+    {
+        self.has_flushed = false;
+        self.device.write(buf)
+    }
+
+    fn flush(&mut self) -> io::Result<()>
+        ensures bytes { Keeps (W.contents (wrapped_writer self.old))
+            (W.contents (wrapped_writer self.new)) }
+        ensures flushed { has_flushed self.new ≡ has_flushed self.old }
+        ensures kept { output_failed self.new ≡ output_failed self.old }
+    {
+        self.device.flush()
+    }
+}
+
+impl<W: Write> Output for TrackedWriter<W> {
+    ghost is_flushed = { λ output. has_flushed output };
+
+    ghost has_failed = { λ output. output_failed output };
+
+    fn write_tracked(&mut self, bytes: &[u8]) -> io::Result<()> {
+        self.has_flushed = self.has_flushed && bytes.is_empty();
+        match self.device.write_all(bytes) {
+            Ok(()) => Ok(()),
+            Err(error) => {
+                self.has_failed = true;
+                Err(error)
+            }
+        }
+    }
+
+    fn flush_tracked(&mut self) -> io::Result<()> {
+        match self.device.flush() {
+            Ok(()) => {
+                self.has_flushed = true;
+                Ok(())
+            }
+            Err(unflushed) => {
+                self.has_failed = true;
+                Err(unflushed)
+            }
+        }
+    }
+}
+
+/// Writes a whole text, without a flush. If that fails, the fault is `Write`.
+pub(crate) fn write<W: Output>(out: &mut W, text: &str) -> Result<(), FileFault>
+    ensures written { OnOk result (Appends (W.contents out.old) (W.contents out.new) text.now) }
+    ensures unfailed { OnOk result (W.has_failed out.new ≡ W.has_failed out.old) }
+    ensures fault { IfErr result (λ fault. fault ≡ faults.Write) }
+    ensures failed { OnErr result (W.has_failed out.new ≡ true) }
+{
+    match out.write_tracked(text.as_bytes()) {
+        Ok(()) => Ok(()),
+        Err(_) => Err(FileFault::Write),
+    }
+}
+
+/// Writes a whole text, and flushes. If either fails, the fault is `Write`.
+pub fn print<W: Output>(out: &mut W, text: &str) -> Result<(), FileFault>
+    ensures printed { OnOk result (Appends (W.contents out.old) (W.contents out.new) text.now) }
+    ensures flushed { OnOk result (W.is_flushed out.new ≡ true) }
+    ensures unfailed { OnOk result (W.has_failed out.new ≡ W.has_failed out.old) }
+    ensures fault { IfErr result (λ fault. fault ≡ faults.Write) }
+    ensures failed { OnErr result (W.has_failed out.new ≡ true) }
+    ensures said { PrintsLine W.contents W.is_flushed W.has_failed out.old out.new (Some text.now) }
+{
+    write(out, text)?;
+    match out.flush_tracked() {
+        Ok(()) => Ok(()),
+        Err(_) => Err(FileFault::Write),
+    }
+}

@@ -1,0 +1,150 @@
+//! Tests whether TRUE and FALSE, written at a place, would be the predeclared names.
+
+ghost use Rattle.std.specs.Prelude.{◌≡◌, IfOk, ◌==◌, ◌&&◌, not, length, option_and_then, slice_get};
+ghost use Rattle.std.specs.List.{list_any, range_with_len};
+ghost use Rattle.ob0_tree.specs.ParsedModule.{named_tree_of};
+ghost use Rattle.ob0_language_names.specs.Occurrences.{bindings, binds};
+ghost use Rattle.ob0_language_names.specs.Scopes.{same_ordinal};
+ghost use Rattle.ob0_language_names.specs.OccurrenceLookup.{resolve_at_occurrence};
+ghost use Rattle.ob0_inline.specs.Everywhere.{any_use_shadowed};
+ghost use Rattle.ob0_inline.specs.Uses.{is_predeclared_truth};
+
+use crate::constants::NamedConstant;
+use ob0_language_values::Scalar;
+use ob0_scope::resolve_at_occurrences;
+use ob0_scope_table::{FALSE_ORDINAL, Resolved, TRUE_ORDINAL, same_ordinal};
+use std::alloc::{AllocError, Global};
+
+/// Returns true if TRUE or FALSE, written for a truth value in place of an occurrence, would be the
+/// predeclared name. For a number the result is true.
+pub(crate) fn is_predeclared_truth(
+    alloc: Global,
+    names: &Resolved,
+    occurrence: usize,
+    value: Scalar,
+) -> Result<bool, AllocError>
+    ensures { IfOk result (λ shown. shown
+        ≡ is_predeclared_truth (named_tree_of names.now.module_read) occurrence value) }
+{
+    match value {
+        Scalar::Number(_) => Ok(true),
+        Scalar::Truth(true) => would_bind_to(alloc, names, occurrence, "TRUE", TRUE_ORDINAL),
+        Scalar::Truth(false) => would_bind_to(alloc, names, occurrence, "FALSE", FALSE_ORDINAL),
+    }
+}
+
+/// Returns true if a name, written in place of an occurrence, would be bound to the declaration with this ordinal.
+fn would_bind_to(
+    alloc: Global,
+    names: &Resolved,
+    occurrence: usize,
+    name: &str,
+    ordinal: usize,
+) -> Result<bool, AllocError>
+    ensures { IfOk result (λ is. is
+        ≡ same_ordinal (resolve_at_occurrence (named_tree_of names.now.module_read) occurrence name.now) ordinal) }
+{
+    let bound = resolve_at_occurrences(alloc, names, name)?;
+    Ok(has_ordinal_at(&bound, occurrence, ordinal))
+}
+
+/// Returns true if the list `bound` has this ordinal for an occurrence.
+fn has_ordinal_at(bound: &[Option<usize>], occurrence: usize, ordinal: usize) -> bool
+    ensures { result
+        ≡ same_ordinal (option_and_then (λ found. found) (slice_get bound.now occurrence)) ordinal }
+{
+    match bound.get(occurrence) {
+        Some(found) => same_ordinal(*found, ordinal),
+        None => false,
+    }
+}
+
+/// Returns true if TRUE or FALSE, written for the constant's value at some use, wouldn't be the
+/// predeclared name. For a number the result is false.
+pub(crate) fn any_use_shadowed(
+    alloc: Global,
+    names: &Resolved,
+    constant: NamedConstant,
+) -> Result<bool, AllocError>
+    ensures { IfOk result
+        (λ hidden. hidden ≡ any_use_shadowed (named_tree_of names.now.module_read) constant) }
+{
+    let value = constant.value;
+    match value {
+        Scalar::Number(_) => Ok(false),
+        Scalar::Truth(true) => any_use_rebound(
+            alloc,
+            names,
+            constant.ordinal,
+            "TRUE",
+            TRUE_ORDINAL,
+        ),
+        Scalar::Truth(false) => any_use_rebound(
+            alloc,
+            names,
+            constant.ordinal,
+            "FALSE",
+            FALSE_ORDINAL,
+        ),
+    }
+}
+
+/// Returns true if a name, written in place of some use of a constant, wouldn't be bound to the declaration with this
+/// ordinal.
+fn any_use_rebound(
+    alloc: Global,
+    names: &Resolved,
+    constant: usize,
+    name: &str,
+    ordinal: usize,
+) -> Result<bool, AllocError>
+    ensures { IfOk result (λ hidden.
+        hidden
+        ≡ list_any (λ k. same_ordinal (binds (named_tree_of names.now.module_read) k) constant
+        && not (same_ordinal (resolve_at_occurrence (named_tree_of names.now.module_read) k name.now) ordinal))
+        (range_with_len 0 (length (bindings (named_tree_of names.now.module_read))))) }
+{
+    // The proof needs the contract of this call.
+    let _module = names.module();
+    let bound = resolve_at_occurrences(alloc, names, name)?;
+    Ok(any_use_differs(names, &bound, constant, ordinal))
+}
+
+/// Returns true if some occurrence is a use of the constant for which the list `bound` doesn't have
+/// this ordinal.
+fn any_use_differs(
+    names: &Resolved,
+    bound: &[Option<usize>],
+    constant: usize,
+    ordinal: usize,
+) -> bool
+    ensures { result
+        ≡ list_any (λ k. same_ordinal (binds (named_tree_of names.now.module_read) k) constant
+        && not (same_ordinal (option_and_then (λ found. found) (slice_get bound.now k)) ordinal))
+        (range_with_len 0 (length names.now.uses)) }
+{
+    for occurrence in 0..names.occurrences().len() {
+        if is_differing_use(names, bound, occurrence, constant, ordinal) {
+            return true;
+        }
+    }
+    false
+}
+
+/// Returns true if this occurrence is a use of the constant for which the list `bound` doesn't have
+/// this ordinal.
+fn is_differing_use(
+    names: &Resolved,
+    bound: &[Option<usize>],
+    occurrence: usize,
+    constant: usize,
+    ordinal: usize,
+) -> bool
+    ensures { result
+        ≡ (same_ordinal (binds (named_tree_of names.now.module_read) occurrence) constant
+        && not (same_ordinal (option_and_then (λ found. found) (slice_get bound.now occurrence))
+        ordinal)) }
+{
+    same_ordinal(names.declaration_of(occurrence), constant)
+        && !has_ordinal_at(bound, occurrence, ordinal)
+}

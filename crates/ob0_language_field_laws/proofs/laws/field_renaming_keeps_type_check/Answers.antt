@@ -1,0 +1,5 @@
+use Rattle.ob0_language_field_laws.proofs.RefieldedModules.{field_renaming_keeps_type_check-holds}
+use Rattle.ob0_language_field_laws.proofs.laws.field_renaming_keeps_type_check.Goals as goal
+
+pub returns : goal.returns
+returns c = field_renaming_keeps_type_check-holds

@@ -1,0 +1,5 @@
+use Rattle.ob0_language_types.proofs.ConstantsAlone.{constant_uses_are_factors-holds}
+use Rattle.ob0_language_types.proofs.laws.constant_uses_are_factors.Goals as goal
+
+pub returns : goal.returns
+returns c = constant_uses_are_factors-holds

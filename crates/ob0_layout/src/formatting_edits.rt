@@ -1,0 +1,117 @@
+//! Formats a module's text by edits.
+
+ghost use Rattle.std.specs.Prelude.{◌≡◌, ◌≤◌, ◌<◌, ◌⊎◌, ◌↔◌, IsTrue, Some, IfOk, IfErr, IsErrOf, map, length};
+ghost use Rattle.std.specs.List.{All};
+ghost use Rattle.std.specs.Str.{chars};
+ghost use Rattle.ob0_scan.specs.TextWithTokens.{IsScan, max_text};
+ghost use Rattle.ob0_text.specs.Patches.{patched};
+ghost use Rattle.ob0_text.specs.Units.{width_of};
+ghost use Rattle.ob0_text.specs.declared.refusals.EditRefusal.TheVariants.{TooLong, Memory};
+ghost use Rattle.ob0_tree.specs.ParsedModule.{named_tree_of};
+ghost use Rattle.ob0_layout.specs.Layout.{layout};
+ghost use Rattle.ob0_layout.specs.LineRoles.{line_roles};
+ghost use Rattle.ob0_layout.specs.Cuts.{gap_cut, LiesIn};
+ghost use Rattle.ob0_layout.specs.Gaps.{all_gaps, changed_gaps, edit_content, edit_of, formatted_len_from};
+
+use crate::sites::{GapSite, changed_sites};
+use crate::walk::line_roles;
+use ob0_scan::MAX_TEXT;
+use ob0_text::{Edit, EditRefusal, Indent, Range, TextStore};
+use ob0_tree::Module;
+use std::alloc::{AllocError, Global};
+
+/// Returns one edit for each gap that formatting changes, in text order. Each edit replaces a whole
+/// gap. If `store` holds the text of the module, applying all the edits to it gives the formatted
+/// text. Fails with `TooLong` if the formatted text would be longer than a text may be, and with
+/// `Memory` if an allocation fails.
+pub fn format<T: TextStore>(
+    alloc: Global,
+    store: &T,
+    module: &Module,
+    indent: Indent,
+) -> Result<Vec<Edit>, EditRefusal>
+    ensures edits { (scan : IsScan module.now.source)
+        → IfOk result (λ edits. map edit_content edits.items ≡
+        map (edit_of (width_of (T.unit_of store.now)) (T.content store.now))
+        (changed_gaps module.now.source.text (all_gaps indent module.now.source.text
+        (line_roles 0 (named_tree_of module.now)) scan.lexemes))) }
+    ensures fits { (scan : IsScan module.now.source)
+        → IfOk result
+        (λ _. length (layout indent (named_tree_of module.now) scan.lexemes) ≤ max_text) }
+    ensures too_long { (scan : IsScan module.now.source)
+        → IsErrOf result TooLong
+        → max_text < length (layout indent (named_tree_of module.now) scan.lexemes) }
+    ensures patched { (scan : IsScan module.now.source)
+        → T.content store.now ≡ chars module.now.source.text → IfOk result (λ edits.
+        patched (width_of (T.unit_of store.now)) (T.content store.now) edits.items
+        ≡ Some (chars (layout indent (named_tree_of module.now) scan.lexemes))) }
+    ensures refusals { IfErr result (λ refusal. (refusal ≡ TooLong) ⊎ (refusal ≡ Memory)) }
+{
+    let tokens = module.tokens();
+    let roles = line_roles(alloc, module)?;
+    let sites = changed_sites(alloc, tokens, &roles, indent)?;
+    if !is_within_limit(&sites, tokens.text().len(), indent) {
+        return Err(EditRefusal::TooLong);
+    }
+    Ok(edits(alloc, store, &sites, indent)?)
+}
+
+/// Returns true if a text of `len` bytes is short enough after these gaps are formatted.
+fn is_within_limit(sites: &[GapSite], len: usize, indent: Indent) -> bool
+    requires length { len ≤ max_text }
+    requires within { All (LiesIn len) sites.now }
+    ensures { IsTrue result
+        ↔ formatted_len_from len 0 (map (gap_cut indent) sites.now) ≤ max_text }
+{
+    let mut made = 0;
+    let mut at = 0;
+    for site in sites {
+        made += site.start.saturating_sub(at) + site.gap.len(indent);
+        if made > MAX_TEXT {
+            return false;
+        }
+        at = site.end;
+    }
+    made + len.saturating_sub(at) <= MAX_TEXT
+}
+
+/// Returns the edits that format these gaps, in the same order.
+fn edits<T: TextStore>(
+    alloc: Global,
+    store: &T,
+    sites: &[GapSite],
+    indent: Indent,
+) -> Result<Vec<Edit>, AllocError>
+    ensures { IfOk result (λ edits. map edit_content edits.items
+        ≡ map (λ site. edit_of (width_of (T.unit_of store.now)) (T.content store.now)
+        (gap_cut indent site)) sites.now) }
+{
+    let starts = starts(alloc, sites)?;
+    let ends = ends(alloc, sites)?;
+    let from = store.positions(alloc, &starts)?;
+    let to = store.positions(alloc, &ends)?;
+    let mut edits = Vec::with_capacity(alloc, sites.len())?;
+    for (i, site) in sites.iter().enumerate() {
+        let range = Range {
+            start: from[i],
+            end: to[i],
+        };
+        let text = site.gap.text(alloc, indent)?;
+        edits.push(Edit { range, text })?;
+    }
+    Ok(edits)
+}
+
+/// Returns the byte offset at which each gap starts, in order.
+fn starts(alloc: Global, sites: &[GapSite]) -> Result<Vec<usize>, AllocError>
+    ensures { IfOk result (λ offsets. offsets.items ≡ map (λ site. site.start) sites.now) }
+{
+    sites.iter().map(|site| site.start).collect(alloc)
+}
+
+/// Returns the byte offset at which each gap ends, in order.
+fn ends(alloc: Global, sites: &[GapSite]) -> Result<Vec<usize>, AllocError>
+    ensures { IfOk result (λ offsets. offsets.items ≡ map (λ site. site.end) sites.now) }
+{
+    sites.iter().map(|site| site.end).collect(alloc)
+}

@@ -1,5 +1,0 @@
-use Rattle.ob0_parse.proofs.Whole.{descends_module}
-use Rattle.ob0_parse.proofs.laws.modules_are_read.Goals as goal
-
-pub returns : goal.returns
-returns c = descends_module

@@ -1,5 +1,0 @@
-use Rattle.ob0_refs.proofs.AtFields.{fields_are_defined-holds}
-use Rattle.ob0_refs.proofs.laws.fields_are_defined.Goals as goal
-
-pub returns : goal.returns
-returns c = fields_are_defined-holds

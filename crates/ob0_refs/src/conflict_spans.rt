@@ -1,0 +1,43 @@
+//! Finds the spans of identifiers at which a new name for a declaration isn't free.
+
+ghost use Rattle.std.specs.Prelude.{◌≡◌};
+ghost use Rattle.ob0_scope.specs.Renames.{conflict_of};
+ghost use Rattle.ob0_refs.specs.Captured.{conflict_span, occurrence_span, span_or_text_start};
+
+use crate::declaration_spans::declaration_span;
+use ob0_scan::Span;
+use ob0_scope::FirstConflict;
+use ob0_scope_table::{Resolved, token_span};
+
+/// Returns the span of a conflict of a new name for `declaration`. This is the span of the
+/// identifier that declares `declaration`, or of the occurrence that would be bound to another
+/// declaration. If this identifier isn't found, the span is empty and at the text's start.
+pub(crate) fn conflict_span(names: &Resolved, declaration: usize, capture: FirstConflict) -> Span
+    ensures { result ≡ conflict_span names.now.module_read declaration (conflict_of capture) }
+{
+    match capture {
+        FirstConflict::Duplicate(_) => span_or_text_start(declaration_span(names, declaration)),
+        FirstConflict::Occurrence(k) => span_or_text_start(occurrence_span(names, k)),
+    }
+}
+
+/// Returns the span, or for None an empty span at the text's start.
+fn span_or_text_start(span: Option<Span>) -> Span
+    ensures { result ≡ span_or_text_start span }
+{
+    match span {
+        Some(span) => span,
+        None => Span { start: 0, end: 0 },
+    }
+}
+
+/// Returns the span of the occurrence with this number, counted from 0, or None if there is none.
+fn occurrence_span(names: &Resolved, k: usize) -> Option<Span>
+    ensures { result ≡ occurrence_span names.now.module_read k }
+{
+    let tokens = names.module().tokens();
+    match names.occurrences().get(k) {
+        Some(token) => Some(token_span(tokens, *token)),
+        None => None,
+    }
+}

@@ -1,0 +1,10 @@
+use Rattle.ob0_rpc.proofs.Appending.{range_read, range_text}
+use Rattle.ob0_rpc.proofs.ranges.write_range_before.Goals as goal
+
+pub returns-clause-text : goal.returns-clause-text
+returns-clause-text c =
+    range_text c.args.start c.args.end _ _ _ _ _ _ c.write_piece_before-following_start.ensures.text c.write_position_before-at_start.ensures.text c.write_piece_before-following_end.ensures.text
+    c.write_position_before-at_end.ensures.text c.write_piece_before.ensures.text
+
+pub returns-clause-reads : goal.returns-clause-reads
+returns-clause-reads c = range_read c.args.start c.args.end c.write_position_before-at_start.ensures.reads c.write_position_before-at_end.ensures.reads

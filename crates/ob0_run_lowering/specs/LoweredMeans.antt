@@ -1,0 +1,85 @@
+-- The meaning of the code of expressions, designators and arguments, if a scene is right.
+-- Rule: none; for contracts of lowering.
+use Rattle.std.specs.Prelude.{◌≡◌, ℕ, true, Some}
+use Rattle.ob0_tree.specs.Tree.{Tree, expression, items, selector}
+use Rattle.ob0_language_names.specs.Names.{Label}
+use Rattle.ob0_types_table.specs.KnownTables.{shapes_of}
+use Rattle.ob0_types_table.specs.Tables.{formal_view, type_shape}
+use Rattle.ob0_types_table.specs.declared.known.FormalParameter.{FormalParameter}
+use Rattle.ob0_scope_table.specs.LabelledTrees.{tree_with_labels, label_at_token}
+use Rattle.ob0_language_types.specs.Typing.{lone_designator, type_of}
+use Rattle.ob0_language_types.specs.WellTyped.{TypeMeanings, argument_fits, variable_type}
+use Rattle.ob0_language_values.specs.Values.{Shape, Value, boolean_shape, integer_shape}
+use Rattle.ob0_run_machine.specs.View.{argument_of, number_of, place_of, truth_of}
+use Rattle.ob0_run_machine.specs.declared.code.Argument.{Argument}
+use Rattle.ob0_run_machine.specs.declared.code.Number.{Number}
+use Rattle.ob0_run_machine.specs.declared.code.Truth.{Truth}
+use Rattle.ob0_run_cells.specs.LoweredStatements.{ArgumentMeans, IsAt, Target}
+use Rattle.ob0_run_cells.specs.Lowering.{OutcomeByMoment, NumberMeans, PlaceMeans, Slot, TruthMeans, place_of_designator, value_of_expression}
+use Rattle.ob0_run_lowering.specs.Codes.{CodeMeans}
+use Rattle.ob0_run_lowering.specs.Scenes.{Sees}
+use Rattle.ob0_run_lowering.specs.Trees.{code_of}
+use Rattle.ob0_run_lowering.specs.declared.lowered.TypedPlace.{TypedPlace}
+use Rattle.ob0_run_lowering.specs.declared.lowered.Lowered.{Lowered}
+use Rattle.ob0_run_lowering.specs.declared.scene.Scene.{Scene}
+
+-- States that a `Lowered` means an evaluated value of a type.
+abbrev pub LoweredMeans : TypeMeanings Label → (Label → Slot) → Lowered → Shape → OutcomeByMoment Label Value → Type 0
+LoweredMeans checked slots l s value = CodeMeans checked slots (code_of l) s value
+
+-- States P for all checked names and slots that a scene sees.
+abbrev pub ForAllSeen : Scene → (TypeMeanings Label → (Label → Slot) → Type 0) → Type 0
+ForAllSeen scene P =
+    (checked : TypeMeanings Label) (slots : Label → Slot) (targets : Label → Target)
+    → Sees scene checked slots targets
+    → P checked slots
+
+-- States that code means an expression in a scene. Claims nothing if the expression has no type.
+abbrev pub Lowers : Scene → Tree ℕ expression → Lowered → Type 0
+Lowers scene e l =
+    ForAllSeen scene (λ checked slots. (s : Shape)
+    → type_of checked (tree_with_labels scene.resolved.now e) ≡ Some s
+    → LoweredMeans checked slots l s (value_of_expression (tree_with_labels scene.resolved.now e)))
+
+-- states that a number means an expression in a scene, if the expression is an INTEGER
+abbrev pub LowersNumber : Scene → Tree ℕ expression → Number → Type 0
+LowersNumber scene e n =
+    ForAllSeen scene (λ checked slots. type_of checked (tree_with_labels scene.resolved.now e)
+    ≡ Some integer_shape
+    → NumberMeans checked slots (number_of n)
+    (value_of_expression (tree_with_labels scene.resolved.now e)))
+
+-- states that a truth means an expression in a scene, if the expression is a BOOLEAN
+abbrev pub LowersTruth : Scene → Tree ℕ expression → Truth → Type 0
+LowersTruth scene e t =
+    ForAllSeen scene (λ checked slots. type_of checked (tree_with_labels scene.resolved.now e)
+    ≡ Some boolean_shape
+    → TruthMeans checked slots (truth_of t)
+    (value_of_expression (tree_with_labels scene.resolved.now e)))
+
+-- states that a place and its type are the place and the type of a variable with its selectors
+abbrev pub Locates : Scene → ℕ → Tree ℕ (items selector) → TypedPlace → Type 0
+Locates scene x path l =
+    ForAllSeen scene (λ checked slots. (s : Shape)
+    → variable_type checked
+    (Some (label_at_token scene.resolved.now x, tree_with_labels scene.resolved.now path)) ≡ Some s
+    → (type_shape (shapes_of scene.types.now) l.of ≡ s)
+    × PlaceMeans checked slots (place_of l.place) s
+    (place_of_designator (label_at_token scene.resolved.now x) (tree_with_labels scene.resolved.now path)))
+
+-- states that a place and its type are the place and the type of an expression that is only a
+-- designator; claims nothing about other expressions
+abbrev pub LocatesLoneDesignator : Scene → Tree ℕ expression → TypedPlace → Type 0
+LocatesLoneDesignator scene e l =
+    ForAllSeen scene (λ checked slots. (s : Shape)
+    → variable_type checked (lone_designator (tree_with_labels scene.resolved.now e)) ≡ Some s
+    → (type_shape (shapes_of scene.types.now) l.of ≡ s)
+    × IsAt checked slots (place_of l.place) s (tree_with_labels scene.resolved.now e))
+
+-- states that a lowered argument means an argument, if the argument fits its parameter
+abbrev pub LowersArgument : Scene → FormalParameter → Tree ℕ expression → Argument → Type 0
+LowersArgument scene f e a =
+    ForAllSeen scene (λ checked slots. argument_fits checked
+    (formal_view (shapes_of scene.types.now) f) (tree_with_labels scene.resolved.now e) ≡ true
+    → ArgumentMeans checked slots (formal_view (shapes_of scene.types.now) f) (argument_of a)
+    (tree_with_labels scene.resolved.now e))

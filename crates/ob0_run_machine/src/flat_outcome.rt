@@ -1,0 +1,50 @@
+//! The result of an evaluation, in a form that is returned in registers.
+//!
+//! A `Result` of a number or an address is returned through memory, an enum with one payload in
+//! registers. So the functions that aren't inlined (`operation`, `evaluate_truth_flat`, ..) return the type
+//! `FlatOutcome`. The inlined ones return a `Result` and use `?`. `into_flat` and `into_result` convert
+//! between the two. The steps of statements return `Result<(), Stop>`. A `Stop` is only a tag, so
+//! this result is also returned in registers. `end_of_stop` gives the end of the run for a `Stop`, or
+//! None if an allocation failed.
+
+ghost use Rattle.std.specs.Prelude.{◌≡◌};
+ghost use Rattle.ob0_run_machine.specs.Answers.{outcome_of, outcome_of_result};
+
+use crate::ending::EvaluationFault;
+
+/// The value of an evaluation, or the fault that ends the run. One tag distinguishes all cases.
+#[derive(Clone, Copy, PartialEq, Eq, Debug)]
+pub(crate) enum FlatOutcome<T> {
+    Value(T),
+    Overflow,
+    Divisor,
+    Index,
+}
+
+/// Returns a `Result` as a value with one tag: with the same value or the same fault.
+#[inline(always)]
+pub(crate) fn into_flat<T: Copy>(given: Result<T, EvaluationFault>) -> FlatOutcome<T>
+    ensures { outcome_of result ≡ outcome_of_result given }
+{
+    match given {
+        Ok(value) => FlatOutcome::Value(value),
+        Err(ending) => match ending {
+            EvaluationFault::Overflow => FlatOutcome::Overflow,
+            EvaluationFault::Divisor => FlatOutcome::Divisor,
+            EvaluationFault::Index => FlatOutcome::Index,
+        },
+    }
+}
+
+/// Returns an evaluation as a `Result`: with the same value or the same fault.
+#[inline(always)]
+pub(crate) fn into_result<T: Copy>(given: FlatOutcome<T>) -> Result<T, EvaluationFault>
+    ensures { outcome_of_result result ≡ outcome_of given }
+{
+    match given {
+        FlatOutcome::Value(value) => Ok(value),
+        FlatOutcome::Overflow => Err(EvaluationFault::Overflow),
+        FlatOutcome::Divisor => Err(EvaluationFault::Divisor),
+        FlatOutcome::Index => Err(EvaluationFault::Index),
+    }
+}

@@ -1,0 +1,104 @@
+-- Defines the tokens and comments of a text, with their places.
+-- Rule: docs/LANGUAGE.md, Lexemes 6.
+use Rattle.std.specs.Prelude.{◌≡◌, ℕ, ◌+◌, ◌≤◌, List, [], ◌∷◌, ◌++◌, length, slice_range}
+use Rattle.std.specs.Str.{IsCharBoundary, IsUtf8}
+use Rattle.std.specs.List.{flat_map}
+use Rattle.ob0_scan.specs.declared.lexeme.TokenKind.{TokenKind}
+use Rattle.ob0_scan.specs.declared.lexeme.LexemeKind.{LexemeKind}
+use Rattle.ob0_scan.specs.declared.lexeme.LexemeKind.TheVariants as lexeme
+use Rattle.ob0_scan.specs.declared.lexeme.Span.{Span}
+use Rattle.ob0_scan.specs.declared.lexeme.Token.{Token}
+use Rattle.ob0_scan.specs.Lexed.{Lexeme, Lexed}
+
+-- A token as the grammar sees it: its kind and its spelling.
+pub record Word : Type 0 where
+  pub kind : TokenKind
+  pub text : List ℕ
+
+-- Returns a list of the lexeme's kind and text if this kind of lexeme is a token. For white space
+-- and comments the list is empty.
+abbrev pub word_of : Lexeme → LexemeKind → List Word
+word_of l lexeme.Space = []
+word_of l lexeme.Comment = []
+word_of l (lexeme.Token kind) = record { kind = kind; text = l.text } ∷ []
+
+-- Returns the tokens of the lexemes, without white space and comments.
+abbrev pub words_of_lexemes : List Lexeme → List Word
+words_of_lexemes lexemes = flat_map (λ l. word_of l l.kind) lexemes
+
+-- Returns the bytes of a text in a span.
+abbrev pub text_in_span : List ℕ → Span → List ℕ
+text_in_span text span = slice_range text span.start span.end
+
+-- Returns a token of a text as the grammar sees it: its kind and its spelling.
+abbrev pub word_of_token : List ℕ → Token → Word
+word_of_token text token = record { kind = token.kind; text = text_in_span text token.span }
+
+-- Returns the span of `len` bytes starting at `start`.
+abbrev pub span_from : ℕ → ℕ → Span
+span_from start len = record { start = start; end = start + len }
+
+-- Returns a list of the token with this kind and span if this kind of lexeme is a token. For white
+-- space and comments the list is empty.
+abbrev pub token_at : LexemeKind → Span → List Token
+token_at lexeme.Space span = []
+token_at lexeme.Comment span = []
+token_at (lexeme.Token kind) span = record { kind = kind; span = span } ∷ []
+
+-- Returns a list of the span if this kind of lexeme is a comment, otherwise an empty list.
+abbrev pub comment_at : LexemeKind → Span → List Span
+comment_at lexeme.Space span = []
+comment_at lexeme.Comment span = span ∷ []
+comment_at (lexeme.Token kind) span = []
+
+-- Returns the tokens, with their spans, of lexemes that begin at `start`.
+abbrev pub tokens_from : ℕ → List Lexeme → List Token
+tokens_from start [] = []
+tokens_from start (l ∷ lexemes) =
+    token_at l.kind (span_from start (length l.text)) ++ tokens_from (start + length l.text) lexemes
+
+-- Returns the spans of the comments among lexemes that begin at `start`.
+abbrev pub comments_from : ℕ → List Lexeme → List Span
+comments_from start [] = []
+comments_from start (l ∷ lexemes) =
+    comment_at l.kind (span_from start (length l.text))
+    ++ comments_from (start + length l.text) lexemes
+
+-- The greatest length in bytes of a text that is scanned.
+abbrev pub max_text : ℕ
+max_text = 1048576
+
+-- The greatest number of faults that are reported for a text.
+abbrev pub max_faults : ℕ
+max_faults = 100
+
+-- Holds if the text isn't too long and can be cut into lexemes.
+abbrev pub IsScannable : List ℕ → Type 0
+IsScannable text = (length text ≤ max_text) × ((lexemes : List Lexeme) × Lexed text lexemes)
+
+-- A text with its tokens and comments.
+pub record TextWithTokens : Type 0 where
+  pub text : List ℕ
+  pub tokens : List Token
+  pub comments : List Span
+
+-- Holds if the tokens and comments are exactly the tokens and comments of the text's lexemes, in
+-- text order.
+pub record IsScan (s : TextWithTokens) : Type 0 where
+  pub utf8 : IsUtf8 s.text
+  pub short : length s.text ≤ max_text
+  pub lexemes : List Lexeme
+  pub lexed : Lexed s.text lexemes
+  pub tokens : s.tokens ≡ tokens_from 0 lexemes
+  pub comments : s.comments ≡ comments_from 0 lexemes
+
+-- Holds if both ends of the span are in the text, in order and at character borders.
+pub record IsRangeOf (text : List ℕ) (span : Span) : Type 0 where
+  pub ordered : span.start ≤ span.end
+  pub start : IsCharBoundary text span.start
+  pub end : IsCharBoundary text span.end
+
+-- Holds if `s` is a scan of this text.
+pub record IsScanOf (text : List ℕ) (s : TextWithTokens) : Type 0 where
+  pub of : s.text ≡ text
+  pub scan : IsScan s

@@ -1,0 +1,233 @@
+//! Reads the first lexeme of a text, or finds the error that the text begins with.
+
+ghost use Rattle.std.specs.Prelude.{◌≡◌, ◌≢◌, ◌<◌, ◌≤◌, ◌++◌, ◌∷◌, [], List, ℕ, length, take, IsTrue, IfSome, IfNone, SomeIff, slice_index, codes};
+ghost use Rattle.std.specs.List.{AllPass, prefix_len};
+ghost use Rattle.std.specs.Char.{is_ascii_alphabetic, is_ascii_alphanumeric, is_ascii_digit};
+ghost use Rattle.std.specs.Str.{IsCharBoundary};
+ghost use Rattle.ob0_scan.specs.Comments.{IsComment};
+ghost use Rattle.ob0_scan.specs.Classes.{is_space, max_integer, symbol_text, IsWord, IsLexemeOfKind, decimal_value};
+ghost use Rattle.ob0_scan.specs.TextStart.{IsLongestSymbol, StartsWithNoSymbol};
+ghost use Rattle.ob0_scan.specs.Begins.{StartsWith};
+ghost use Rattle.ob0_scan.specs.Faults.{IsCharOf};
+
+use crate::fault::FaultCode;
+use crate::lexeme::{LexemeKind, ReservedWord, Symbol, TokenKind};
+
+/// The largest integer that a text may contain.
+const MAX_INTEGER: u64 = 2147483647;
+
+/// The beginning of a non-empty text: a lexeme or a fault.
+pub enum TextStart {
+    /// A lexeme, and its length in bytes.
+    Lexeme(LexemeKind, usize),
+    /// A fault, and its length in bytes.
+    Fault(FaultCode, usize),
+}
+
+/// Returns true if a byte is white space: a space, a tab, CR or LF.
+pub fn is_space(byte: u8) -> bool
+    ensures { result ≡ is_space byte }
+{
+    byte == b' ' || byte == b'\t' || byte == b'\n' || byte == b'\r'
+}
+
+/// Returns the number of leading bytes that are white space.
+fn space_len(bytes: &[u8]) -> usize
+    ensures { result ≡ prefix_len is_space bytes.now }
+{
+    bytes.iter().take_while(|byte| is_space(**byte)).count()
+}
+
+/// Returns the number of leading bytes that are digits.
+fn digits_len(bytes: &[u8]) -> usize
+    ensures { result ≡ prefix_len is_ascii_digit bytes.now }
+{
+    bytes
+        .iter()
+        .take_while(|byte| byte.is_ascii_digit())
+        .count()
+}
+
+/// Returns the number of leading bytes that are letters or digits.
+fn word_len(bytes: &[u8]) -> usize
+    ensures { result ≡ prefix_len is_ascii_alphanumeric bytes.now }
+{
+    bytes
+        .iter()
+        .take_while(|byte| byte.is_ascii_alphanumeric())
+        .count()
+}
+
+/// Returns the value of a sequence of digits, or None if the value is over 2147483647.
+fn integer_value(digits: &[u8]) -> Option<u32>
+    requires { AllPass is_ascii_digit digits.now }
+    ensures { SomeIff result (decimal_value digits.now ≤ max_integer) (decimal_value digits.now) }
+{
+    let mut value: u64 = 0;
+    for digit in digits {
+        value = 10 * value + u64::from(*digit - b'0');
+        if value > MAX_INTEGER {
+            return None;
+        }
+    }
+    Some(value as u32)
+}
+
+/// Returns the length in bytes of the comment at the beginning of the bytes, or None if that
+/// comment isn't closed.
+fn comment_len(bytes: &[u8]) -> Option<usize>
+    requires { take 2 bytes.now ≡ codes "(*" }
+    ensures in_range { IfSome result (λ len. len ≤ length bytes.now) }
+    ensures closed { IfSome result (λ len. IsComment (take len bytes.now)) }
+    ensures unclosed { IfNone result
+        ((prefix following : List ℕ) → IsComment prefix → prefix ++ following ≢ bytes.now) }
+{
+    let mut depth: usize = 1;
+    let mut len = 2;
+    while len + 1 < bytes.len() {
+        if bytes[len] == b'(' && bytes[len + 1] == b'*' {
+            depth += 1;
+            len += 2;
+        } else if bytes[len] == b'*' && bytes[len + 1] == b')' {
+            depth -= 1;
+            len += 2;
+            if depth == 0 {
+                return Some(len);
+            }
+        } else {
+            len += 1;
+        }
+    }
+    None
+}
+
+/// Returns the longest symbol at the beginning of the bytes with its length in bytes, or None if
+/// they begin with no symbol.
+fn first_symbol(bytes: &[u8]) -> Option<(Symbol, usize)>
+    ensures found { IfSome result (λ found. IsLongestSymbol bytes.now found.0 found.1) }
+    ensures none { IfNone result (StartsWithNoSymbol bytes.now) }
+{
+    match bytes {
+        [b'<', b'=', ..] => Some((Symbol::LessEqual, 2)),
+        [b'>', b'=', ..] => Some((Symbol::GreaterEqual, 2)),
+        [b':', b'=', ..] => Some((Symbol::Becomes, 2)),
+        [byte, ..] => one_byte_symbol(*byte).map(|symbol| (symbol, 1)),
+        [] => None,
+    }
+}
+
+/// Returns the symbol that consists of this byte only, or None if no symbol begins with this byte.
+fn one_byte_symbol(byte: u8) -> Option<Symbol>
+    ensures found { IfSome result (λ symbol. symbol_text symbol ≡ byte ∷ []) }
+    ensures none { IfNone result ((symbol : Symbol) → slice_index (symbol_text symbol) 0 ≢ byte) }
+{
+    match byte {
+        b'&' => Some(Symbol::And),
+        b'*' => Some(Symbol::Times),
+        b'+' => Some(Symbol::Plus),
+        b'-' => Some(Symbol::Minus),
+        b'=' => Some(Symbol::Equal),
+        b'#' => Some(Symbol::NotEqual),
+        b'<' => Some(Symbol::Less),
+        b'>' => Some(Symbol::Greater),
+        b'~' => Some(Symbol::Not),
+        b'.' => Some(Symbol::Dot),
+        b',' => Some(Symbol::Comma),
+        b';' => Some(Symbol::Semicolon),
+        b':' => Some(Symbol::Colon),
+        b'(' => Some(Symbol::LeftParen),
+        b')' => Some(Symbol::RightParen),
+        b'[' => Some(Symbol::LeftBracket),
+        b']' => Some(Symbol::RightBracket),
+        _ => None,
+    }
+}
+
+/// Returns the kind of a word: the reserved word that it spells, or otherwise an identifier.
+#[inline(always)]
+fn word_kind(word: &[u8]) -> TokenKind
+    requires { IsWord word.now }
+    ensures { IsLexemeOfKind (LexemeKind.Token result) word.now }
+{
+    match ReservedWord::from_bytes(word) {
+        Some(reserved) => TokenKind::ReservedWord(reserved),
+        None => TokenKind::Identifier,
+    }
+}
+
+/// Returns the word at the beginning of a text that begins with a letter.
+#[inline(always)]
+fn first_word(text: &str) -> TextStart
+    requires { IsTrue (is_ascii_alphabetic (slice_index text.now 0)) }
+    ensures { StartsWith text.now result }
+{
+    let bytes = text.as_bytes();
+    let len = word_len(bytes);
+    TextStart::Lexeme(LexemeKind::Token(word_kind(&bytes[..len])), len)
+}
+
+/// Returns the integer at the beginning of a text that begins with a digit. If a letter follows the
+/// digits or the value is too large, returns that fault.
+#[inline(always)]
+fn first_integer(text: &str) -> TextStart
+    requires { IsTrue (is_ascii_digit (slice_index text.now 0)) }
+    ensures { StartsWith text.now result }
+{
+    let bytes = text.as_bytes();
+    let len = digits_len(bytes);
+    if len < bytes.len() && bytes[len].is_ascii_alphabetic() {
+        return TextStart::Fault(FaultCode::NumberJoinsLetter, word_len(bytes));
+    }
+    match integer_value(&bytes[..len]) {
+        Some(value) => TextStart::Lexeme(LexemeKind::Token(TokenKind::Integer(value)), len),
+        None => TextStart::Fault(FaultCode::NumberTooLarge, len),
+    }
+}
+
+/// Returns the comment at the beginning of a text that begins with `(*`. If the comment isn't
+/// closed, returns that fault.
+fn first_comment(text: &str) -> TextStart
+    requires { take 2 text.now ≡ codes "(*" }
+    ensures { StartsWith text.now result }
+{
+    match comment_len(text.as_bytes()) {
+        Some(len) => TextStart::Lexeme(LexemeKind::Comment, len),
+        None => TextStart::Fault(FaultCode::OpenComment, 2),
+    }
+}
+
+/// Returns the lexeme or the fault at the beginning of a non-empty text.
+#[inline(always)]
+pub fn leading_lexeme(text: &str) -> TextStart
+    requires { 0 < length text.now }
+    ensures { StartsWith text.now result }
+{
+    let bytes = text.as_bytes();
+    let byte = bytes[0];
+    if is_space(byte) {
+        TextStart::Lexeme(LexemeKind::Space, space_len(bytes))
+    } else if byte.is_ascii_alphabetic() {
+        first_word(text)
+    } else if byte.is_ascii_digit() {
+        first_integer(text)
+    } else if bytes.starts_with(b"(*") {
+        first_comment(text)
+    } else if let Some((symbol, len)) = first_symbol(bytes) {
+        TextStart::Lexeme(LexemeKind::Token(TokenKind::Symbol(symbol)), len)
+    } else {
+        TextStart::Fault(FaultCode::BadChar, first_char_len(text))
+    }
+}
+
+/// Returns the length in bytes of the first character of a non-empty text.
+fn first_char_len(text: &str) -> usize
+    requires { 0 < length text.now }
+    ensures nonempty { 0 < result }
+    ensures boundary { IsCharBoundary text.now result }
+    ensures character { IsCharOf result text.now }
+{
+    match text.chars().next() {
+        Some(c) => c.len_utf8(),
+        None => unreachable!(),
+    }
+}

@@ -1,7 +1,0 @@
-use Rattle.ob0_tree.specs.View.{items_of, procedure_of}
-use Rattle.ob0_scope.specs.Searching.{found_in_procedures}
-use Rattle.ob0_scope.proofs.Finding.{Finding}
-use Rattle.ob0_scope.proofs.capturing.Sought.+blocks.Given as goal
-
-abbrev pub invariant-block-loop-p : goal.invariant-block-loop-p
-invariant-block-loop-p l = Finding (λ xs. found_in_procedures l.self (items_of procedure_of xs)) l.p-items l.initial.found l.p-index l.found

@@ -1,7 +1,0 @@
-use Rattle.ob0_scope_table.specs.DeclaredTwice.{procedures_twice}
-use Rattle.ob0_tree.specs.View.{items_of, procedure_of}
-use Rattle.ob0_scope.proofs.Checking.{Gathering}
-use Rattle.ob0_scope.proofs.checks.Checks.+blocks.Given as goal
-
-abbrev pub invariant-block-loop-p : goal.invariant-block-loop-p
-invariant-block-loop-p l = Gathering (λ xs. procedures_twice l.tokens (items_of procedure_of xs)) l.p-items l.initial.self l.p-index l.self

@@ -1,0 +1,7 @@
+use Rattle.ob0_scope_table.specs.DeclaredTwice.{procedures_declaration_faults}
+use Rattle.ob0_tree.specs.View.{items_of, procedure_of}
+use Rattle.ob0_scope.proofs.Checking.{Gathering}
+use Rattle.ob0_scope.proofs.checks.FoundFaults.+blocks.Given as goal
+
+abbrev pub invariant-block-loop-p : goal.invariant-block-loop-p
+invariant-block-loop-p l = Gathering (λ xs. procedures_declaration_faults l.tokens (items_of procedure_of xs)) l.p-items l.initial.self l.p-index l.self

@@ -1,7 +1,0 @@
-use Rattle.std.proofs.Common.{◌≡◌, drop, map}
-use Rattle.ob0_scope_numbering.specs.Marks.{with_marks}
-use Rattle.ob0_scope_numbering.specs.Marks.{first_at}
-use Rattle.ob0_scope.proofs.in_sight.occurrence_marks.Given as goal
-
-abbrev pub invariant-loop-token : goal.invariant-loop-token
-invariant-loop-token l = with_marks l.table.items (map first_at (drop l.token-index l.token-items)) ≡ with_marks l.initial.table.items (map first_at l.token-items)

@@ -1,0 +1,66 @@
+-- The search for another declaration with a name in a block, over the indexes of tokens.
+-- Rule: none; for private contracts: the search for another declaration.
+use Rattle.std.specs.Prelude.{ℕ, Bool, not, ◌&&◌, if◌then◌else◌, List, [], ◌∷◌, ◌++◌, Option, None}
+use Rattle.std.specs.List.{list_any}
+use Rattle.std.specs.Option.{option_or}
+use Rattle.ob0_scan.specs.TextWithTokens.{TextWithTokens}
+use Rattle.ob0_tree.specs.Places.{text_at}
+use Rattle.ob0_tree.specs.Tree.{Tree, block, declares, declares_procedure, end, has_body, item, items, more, procedure}
+use Rattle.ob0_language_names.specs.DeclaredOnce.{block_names}
+use Rattle.ob0_language_names.specs.Names.{Name, same_name}
+use Rattle.ob0_language_names.specs.Parts.{formal_names, formal_sections}
+use Rattle.ob0_scope_table.specs.Resolution.{ordinal_in}
+use Rattle.ob0_language_names.specs.Scopes.{same_ordinal}
+
+-- A search: a text with the ordinals of its identifiers by token, the declaration whose block is
+-- searched, and the sought name.
+pub record BlockSearch : Type 0 where
+  pub source : TextWithTokens
+  pub ordinals : List (Option ℕ)
+  pub declaration : ℕ
+  pub new : Name
+
+-- returns the ordinal at a token in the table of a search
+abbrev pub ordinal_in_search : BlockSearch → ℕ → Option ℕ
+ordinal_in_search s i = ordinal_in s.ordinals i
+
+-- returns true for a token that is bound to the declaration whose block is searched
+abbrev pub is_bound_to_declaration : BlockSearch → ℕ → Bool
+is_bound_to_declaration s i = same_ordinal (ordinal_in_search s i) s.declaration
+
+-- returns true for a token that has the sought name and isn't bound to the declaration whose block
+-- is searched
+abbrev pub has_name_and_other_binding : BlockSearch → ℕ → Bool
+has_name_and_other_binding s i = same_name (text_at s.source i) s.new && not (is_bound_to_declaration s i)
+
+-- returns the ordinal of the last of these tokens that has the sought name and isn't bound to the
+-- declaration itself; `found` if there is none
+abbrev pub last_namesake : BlockSearch → Option ℕ → List ℕ → Option ℕ
+last_namesake s found [] = found
+last_namesake s found (i ∷ is) = last_namesake s (if has_name_and_other_binding s i then ordinal_in_search s i else found) is
+
+-- Returns the last other declaration with the sought name among these tokens of a block. Returns
+-- None if there is none, or if the declaration itself isn't among them.
+abbrev pub namesake_among : BlockSearch → List ℕ → Option ℕ
+namesake_among s is = if list_any (is_bound_to_declaration s) is then last_namesake s None is else None
+
+-- Returns the ordinal of the declaration that the search finds: in the block itself, otherwise in
+-- the blocks inside it.
+abbrev mutual
+  -- returns the result for a block: among its procedure's parameters `own` and its names, otherwise
+  -- in the blocks inside it
+  pub found_in_block : BlockSearch → List ℕ → Tree ℕ block → Option ℕ
+  found_in_block s own (has_body (declares cs ts vs ps) statements) =
+      option_or (namesake_among s (own ++ block_names (has_body (declares cs ts vs ps) statements)))
+      (found_in_procedures s ps)
+
+  -- returns the result for the first procedure in which the search finds a declaration
+  pub found_in_procedures : BlockSearch → Tree ℕ (items procedure) → Option ℕ
+  found_in_procedures s end = None
+  found_in_procedures s (more p rest) =
+      option_or (found_in_procedure s p) (found_in_procedures s rest)
+
+  -- returns the result for the block of a procedure, whose parameters count as the block's names
+  pub found_in_procedure : BlockSearch → Tree ℕ (item procedure) → Option ℕ
+  found_in_procedure s (declares_procedure x fs b closing) =
+      found_in_block s (formal_names (formal_sections fs)) b

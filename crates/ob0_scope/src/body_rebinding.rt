@@ -1,0 +1,111 @@
+//! Binds the names of a module again after the tokens of one body changed or its statements were
+//! replaced.
+
+ghost use Rattle.std.specs.Prelude.{IfOk};
+ghost use Rattle.ob0_scope_table.specs.Resolution.{IsResolution};
+ghost use Rattle.ob0_scope_table.specs.Bindings.{resolution_with};
+ghost use Rattle.ob0_scope.specs.Rebound.{WasBound};
+ghost use Rattle.ob0_scope.specs.NewBody.{WasBoundElsewhere};
+ghost use Rattle.ob0_scope.specs.Carried.{IsNewBody};
+
+use crate::body_range::{BodyNames, BodyRange, body_in, old_closing_token};
+use crate::checks::recheck_declarations;
+use crate::module_resolution::bindings_of;
+use crate::table::report_undeclared;
+use ob0_scan::SameTokens;
+use ob0_scope_numbering::renumber_body;
+use ob0_scope_table::Bindings;
+use ob0_tree::Module;
+use ob0_tree::walk::walk_body;
+use std::alloc::{AllocError, Global};
+
+/// Returns the bindings of a module after tokens of one body changed: from `low` up to, but not
+/// including, `high`. `old` has the bindings before. Only that body is numbered again.
+pub fn rebind_body(
+    alloc: Global,
+    read: &Module<'_>,
+    old: Bindings,
+    low: usize,
+    _high: usize,
+) -> Result<Bindings, AllocError>
+    requires { WasBound read.now old low _high }
+    ensures { IfOk result (λ b. IsResolution (resolution_with read.now b)) }
+{
+    let tokens = read.tokens();
+    if old.ordinals.len() < tokens.tokens().len() {
+        return bindings_of(alloc, read);
+    }
+    let Bindings {
+        ordinals,
+        declarations,
+        occurrences,
+        faults: known,
+    } = old;
+    let ordinals = renumber_body(alloc, read, ordinals, &declarations, low)?;
+    let mut faults = recheck_declarations(alloc, read, &known)?;
+    report_undeclared(&mut faults, tokens, &ordinals, &occurrences)?;
+    Ok(Bindings {
+        ordinals,
+        declarations,
+        occurrences,
+        faults,
+    })
+}
+
+/// Returns the bindings of a module after the statements of one body were replaced. `old` has the
+/// bindings before. Only that body is numbered again; everything else is kept.
+pub fn rebind_new_body(
+    alloc: Global,
+    read: &Module<'_>,
+    old: Bindings,
+    same: SameTokens,
+) -> Result<Bindings, AllocError>
+    requires { WasBoundElsewhere read.now old same }
+    ensures { IfOk result (λ b. IsResolution (resolution_with read.now b)) }
+{
+    let found = body_in(read.block(), read.closing_name(), same.prefix);
+    let mut names = BodyNames {
+        first: None,
+        uses: Vec::new(alloc),
+    };
+    walk_body(&mut names, found.statements)?;
+    let Some(first) = names.first else {
+        return bindings_of(alloc, read);
+    };
+    let range = BodyRange {
+        first,
+        old_closing: old_closing_token(same, found.closing),
+        closing: found.closing,
+    };
+    carry_unchanged_bindings(alloc, read, &old, range, &names.uses)
+}
+
+/// Returns the bindings of a module after the statements in a range of tokens were replaced. `old` has the bindings
+/// before, and `own` the occurrences in the new statements. The new body's entries in the table are None.
+fn carry_unchanged_bindings(
+    alloc: Global,
+    read: &Module<'_>,
+    old: &Bindings,
+    range: BodyRange,
+    own: &[usize],
+) -> Result<Bindings, AllocError>
+    requires { IsNewBody read.now old.now range own.now }
+    ensures { IfOk result (λ b. IsResolution (resolution_with read.now b)) }
+{
+    let tokens = read.tokens();
+    let table = range.carry_ordinals(alloc, &old.ordinals)?;
+    if table.len() < tokens.tokens().len() {
+        return bindings_of(alloc, read);
+    }
+    let declarations = range.carry_tokens(alloc, &old.declarations, &[])?;
+    let ordinals = renumber_body(alloc, read, table, &declarations, range.first)?;
+    let occurrences = range.carry_tokens(alloc, &old.occurrences, own)?;
+    let mut faults = recheck_declarations(alloc, read, &old.faults)?;
+    report_undeclared(&mut faults, tokens, &ordinals, &occurrences)?;
+    Ok(Bindings {
+        ordinals,
+        declarations,
+        occurrences,
+        faults,
+    })
+}

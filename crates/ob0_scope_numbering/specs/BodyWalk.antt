@@ -1,0 +1,76 @@
+-- The walk over a module's identifiers to the body that contains a token. It visits the
+-- declarations on the way to the body, and the body's statements.
+-- Rule: none; for contracts of the walk over identifiers.
+use Rattle.std.specs.Prelude.{ℕ, ◌+◌, nat_lt, List, [], ◌∷◌, ◌++◌, Option, length, drop, if◌then◌else◌}
+use Rattle.ob0_tree.specs.Tree.{Tree, block, body, declares, declares_procedure, end, has_body, is_module, item, items, maybe, module_text, more, procedure}
+use Rattle.ob0_language_names.specs.Names.{naming_by_spelling}
+use Rattle.ob0_language_names.specs.Parts.{procedure_name}
+use Rattle.ob0_language_names.specs.Scopes.{predeclared_count, predeclared_scope}
+use Rattle.ob0_scope_numbering.specs.TableWalk as tabling
+use Rattle.ob0_scope_numbering.specs.IdentifierWalk.{WalkState, state_after_heading, number_declaration, visit_part, show_declaration, visit_constant_section, visit_formals, visit_type_section, visit_variable_section}
+use Rattle.ob0_scope_numbering.specs.Written.{Spellings}
+use Rattle.ob0_scope_table.specs.OneBody.{closing_name}
+
+-- returns the longest prefix of a list whose tokens are all before this one
+abbrev pub prefix_before : ℕ → List ℕ → List ℕ
+prefix_before token [] = []
+prefix_before token (x ∷ xs) = if nat_lt x token then x ∷ prefix_before token xs else []
+
+-- counts the module's declarations before a token as declared, without visiting them; `all` has all
+-- declaring tokens
+abbrev pub with_declarations_before : {M : Type 0} → List ℕ → ℕ → WalkState M → WalkState M
+with_declarations_before all token v =
+    record v {
+      declarations = v.declarations ++ prefix_before token (drop (length v.declarations) all);
+    }
+
+-- counts a declaration, without visiting it
+abbrev pub with_declaration : {M : Type 0} → ℕ → WalkState M → WalkState M
+with_declaration token v = record v { declarations = v.declarations ++ (token ∷ []) }
+
+-- makes the name `x` of a procedure visible with the next ordinal, and skips the procedure itself
+abbrev pub with_procedure_skipped : {M : Type 0} → ℕ → WalkState M → WalkState M
+with_procedure_skipped x v = show_declaration x (predeclared_count + length v.declarations) v
+
+-- `put_ordinal` adds an identifier's ordinal to the others, and `all` has the module's declaring tokens.
+-- The body that is visited again contains the token `low`.
+module _ {M : Type 0} (put_ordinal : ℕ → Option ℕ → M → M) (all : List ℕ) (low : ℕ) where
+  abbrev mutual
+    -- visits a block: its sections, then its statements or the procedure that contains the token
+    -- `low`
+    pub renumber_block : Tree ℕ block → WalkState M → WalkState M
+    renumber_block (has_body (declares cs ts vs ps) statements) v =
+        renumber_procedures ps statements
+        (visit_variable_section put_ordinal vs (visit_type_section put_ordinal ts (visit_constant_section put_ordinal cs v)))
+
+    -- visits the first procedure whose closing name isn't before `low`, after passing over the
+    -- procedures before it; if there is none, visits the statements
+    pub renumber_procedures : Tree ℕ (items procedure) → Tree ℕ (maybe body) → WalkState M → WalkState M
+    renumber_procedures end statements v = visit_part put_ordinal statements v
+    renumber_procedures (more p ps) statements v =
+        if nat_lt (closing_name p) low
+        then renumber_procedures ps statements
+        (with_procedure_skipped (procedure_name p) (with_declarations_before all (procedure_name p) v))
+        else renumber_procedure p (with_declarations_before all (procedure_name p) v)
+
+    -- visits a procedure's name, its parameters and its block, but not its closing name
+    pub renumber_procedure : Tree ℕ (item procedure) → WalkState M → WalkState M
+    renumber_procedure (declares_procedure x fs b closing) v =
+        renumber_block b (state_after_heading (length v.declarations) (length v.scope)
+        (visit_formals put_ordinal fs (number_declaration put_ordinal x v)))
+
+-- returns the state before the first identifier of a module, with this table of ordinals
+abbrev pub initial_walk_over : Spellings → List (Option ℕ) → tabling.WalkState
+initial_walk_over writing table =
+    record {
+      writing = writing;
+      scope = predeclared_scope naming_by_spelling;
+      declarations = [];
+      uses = [];
+      marks = table;
+    }
+
+-- returns the state after the visit of the body that contains the token `low`; `all` has the
+-- module's declaring tokens
+abbrev pub renumber_module : List ℕ → ℕ → Tree ℕ module_text → tabling.WalkState → tabling.WalkState
+renumber_module all low (is_module x b closing) v = renumber_block tabling.put_ordinal all low b v

@@ -1,0 +1,161 @@
+-- The walk over a module's identifiers in text order: the state after each part. How the ordinals
+-- are collected is left open.
+-- Rule: none; for contracts of the walk over identifiers.
+use Rattle.std.specs.Prelude.{ℕ, ◌+◌, ◌-◌, List, [], ◌∷◌, ◌++◌, Option, Some, None, map, length, drop}
+use Rattle.ob0_tree.specs.declared.tree.Role.{Role}
+use Rattle.ob0_tree.specs.declared.tree.Role.TheVariants as role
+use Rattle.ob0_tree.specs.Tree.{Sort, Tree, block, constant, constants, declares, declares_constant, declares_constants, declares_procedure, declares_type, declares_types, declares_variable, declares_variables, end, formals, further_section, has_body, is_module, item, items, maybe, module_text, more, no_formals, none, one, procedure, section, some_formals, then_section, type_name, type_names, value_section, variable, variable_section, variables}
+use Rattle.ob0_tree.specs.Visited.{state_after_visit, state_after_identifiers}
+use Rattle.ob0_scope_numbering.specs.Written.{Spellings, spelling_at}
+use Rattle.ob0_language_names.specs.Names.{Name, naming_by_spelling}
+use Rattle.ob0_language_names.specs.Parts.{names_in_list}
+use Rattle.ob0_language_names.specs.Scopes.{Scope, declare_names, ordinal_of, predeclared_count}
+
+-- The state of the walk. It has the spellings of all identifiers and the visible names. It also has
+-- the declaring tokens, the tokens of the occurrences and the ordinals of the identifiers that were
+-- visited.
+pub record WalkState (M : Type 0) : Type 0 where
+  pub writing : Spellings
+  pub scope : Scope Name
+  pub declarations : List ℕ
+  pub uses : List ℕ
+  pub marks : M
+
+-- makes the name of the declaration with this ordinal visible
+abbrev pub show_declaration : {M : Type 0} → ℕ → ℕ → WalkState M → WalkState M
+show_declaration i ordinal v = record v { scope = (spelling_at v.writing i, ordinal) ∷ v.scope }
+
+-- makes the names of the declarations visible, starting at the declaration with the index `first`
+abbrev pub show_declarations_from : {M : Type 0} → ℕ → WalkState M → WalkState M
+show_declarations_from first v =
+    record v {
+      scope
+          = declare_names (predeclared_count + first) (map (spelling_at v.writing) (drop first v.declarations)) v.scope;
+    }
+
+-- keeps only the oldest `len` bindings of the scope
+abbrev pub truncate_scope : {M : Type 0} → ℕ → WalkState M → WalkState M
+truncate_scope len v = record v { scope = drop (length v.scope - len) v.scope }
+
+-- Returns the state after the heading of a procedure. `own` is the number of declarations before
+-- the procedure, and `outside` the number of bindings. The bindings of the parameters are removed.
+-- Then the procedure and its parameters are bound, in this order.
+abbrev pub state_after_heading : {M : Type 0} → ℕ → ℕ → WalkState M → WalkState M
+state_after_heading own outside v = show_declarations_from own (truncate_scope outside v)
+
+-- Returns the state after the block of a procedure with the name `x`. The scope is cut back to its
+-- `outside` oldest bindings, and then the procedure is visible.
+abbrev pub leave_block : {M : Type 0} → ℕ → ℕ → ℕ → WalkState M → WalkState M
+leave_block x ordinal outside v = show_declaration x ordinal (truncate_scope outside v)
+
+-- The following definitions are for any `put_ordinal`, which adds an identifier's ordinal to the others.
+module _ {M : Type 0} (put_ordinal : ℕ → Option ℕ → M → M) where
+  -- gives an identifier this ordinal
+  abbrev pub with_mark : ℕ → Option ℕ → WalkState M → WalkState M
+  with_mark i ordinal v = record v { marks = put_ordinal i ordinal v.marks }
+
+  -- gives a declaring name the next ordinal
+  abbrev pub number_declaration : ℕ → WalkState M → WalkState M
+  number_declaration i v =
+      record v {
+        declarations = v.declarations ++ (i ∷ []);
+        marks = put_ordinal i (Some (predeclared_count + length v.declarations)) v.marks;
+      }
+
+  abbrev pub number_declarations : List ℕ → WalkState M → WalkState M
+  number_declarations [] v = v
+  number_declarations (i ∷ is) v = number_declarations is (number_declaration i v)
+
+  -- visits an identifier in a part that declares nothing; a looked-up name gets the ordinal of its
+  -- declaration, any other name none
+  abbrev pub visit_identifier : Role → ℕ → WalkState M → WalkState M
+  visit_identifier role.LookedUp i v =
+      record v {
+        uses = v.uses ++ (i ∷ []);
+        marks = put_ordinal i (ordinal_of naming_by_spelling v.scope (spelling_at v.writing i)) v.marks;
+      }
+  visit_identifier role.Declaring i v = with_mark i None v
+  visit_identifier role.ClosingName i v = with_mark i None v
+  visit_identifier role.FieldName i v = with_mark i None v
+  visit_identifier role.ModuleName i v = with_mark i None v
+
+  abbrev pub visit_identifiers : List (Role × ℕ) → WalkState M → WalkState M
+  visit_identifiers xs v = state_after_identifiers visit_identifier xs v
+
+  -- visits a part that declares nothing
+  abbrev pub visit_part : {s : Sort} → Tree ℕ s → WalkState M → WalkState M
+  visit_part t v = state_after_visit visit_identifier t v
+
+  -- visits the declaration of a constant, whose name is visible after it
+  abbrev pub visit_constant : Tree ℕ (item constant) → WalkState M → WalkState M
+  visit_constant (declares_constant x e) v =
+      show_declarations_from (length v.declarations) (visit_part e (number_declaration x v))
+
+  abbrev pub visit_constants : Tree ℕ (items constant) → WalkState M → WalkState M
+  visit_constants end v = v
+  visit_constants (more c cs) v = visit_constants cs (visit_constant c v)
+
+  abbrev pub visit_type : Tree ℕ (item type_name) → WalkState M → WalkState M
+  visit_type (declares_type x t) v = show_declarations_from (length v.declarations) (visit_part t (number_declaration x v))
+
+  abbrev pub visit_types : Tree ℕ (items type_name) → WalkState M → WalkState M
+  visit_types end v = v
+  visit_types (more t ts) v = visit_types ts (visit_type t v)
+
+  abbrev pub visit_variable : Tree ℕ (item variable) → WalkState M → WalkState M
+  visit_variable (declares_variable ns t) v =
+      show_declarations_from (length v.declarations) (visit_part t (number_declarations (names_in_list ns) v))
+
+  abbrev pub visit_variables : Tree ℕ (items variable) → WalkState M → WalkState M
+  visit_variables end v = v
+  visit_variables (more g gs) v = visit_variables gs (visit_variable g v)
+
+  abbrev pub visit_section : Tree ℕ section → WalkState M → WalkState M
+  visit_section (value_section ns t) v =
+      show_declarations_from (length v.declarations) (visit_part t (number_declarations (names_in_list ns) v))
+  visit_section (variable_section ns t) v =
+      show_declarations_from (length v.declarations) (visit_part t (number_declarations (names_in_list ns) v))
+
+  abbrev pub visit_sections : Tree ℕ (items further_section) → WalkState M → WalkState M
+  visit_sections end v = v
+  visit_sections (more (then_section s) rest) v = visit_sections rest (visit_section s v)
+
+  abbrev pub visit_formals : Tree ℕ (maybe formals) → WalkState M → WalkState M
+  visit_formals none v = v
+  visit_formals (one no_formals) v = v
+  visit_formals (one (some_formals s rest)) v = visit_sections rest (visit_section s v)
+
+  abbrev pub visit_constant_section : Tree ℕ (maybe constants) → WalkState M → WalkState M
+  visit_constant_section none v = v
+  visit_constant_section (one (declares_constants cs)) v = visit_constants cs v
+
+  abbrev pub visit_type_section : Tree ℕ (maybe type_names) → WalkState M → WalkState M
+  visit_type_section none v = v
+  visit_type_section (one (declares_types ts)) v = visit_types ts v
+
+  abbrev pub visit_variable_section : Tree ℕ (maybe variables) → WalkState M → WalkState M
+  visit_variable_section none v = v
+  visit_variable_section (one (declares_variables vs)) v = visit_variables vs v
+
+  abbrev mutual
+    -- visits a block: its sections, its procedures and its statements, in text order
+    pub visit_block : Tree ℕ block → WalkState M → WalkState M
+    visit_block (has_body (declares cs ts vs ps) statements) v =
+        visit_part statements (visit_procedures ps
+        (visit_variable_section vs (visit_type_section ts (visit_constant_section cs v))))
+
+    -- visits the procedures of a block, in order
+    pub visit_procedures : Tree ℕ (items procedure) → WalkState M → WalkState M
+    visit_procedures end v = v
+    visit_procedures (more p ps) v = visit_procedures ps (visit_procedure p v)
+
+    -- visits a procedure: its name, its parameters, its block and its closing name
+    pub visit_procedure : Tree ℕ (item procedure) → WalkState M → WalkState M
+    visit_procedure (declares_procedure x fs b closing) v =
+        with_mark closing (Some (predeclared_count + length v.declarations))
+        (leave_block x (predeclared_count + length v.declarations) (length v.scope)
+        (visit_block b (state_after_heading (length v.declarations) (length v.scope)
+        (visit_formals fs (number_declaration x v)))))
+
+  abbrev pub visit_module : Tree ℕ module_text → WalkState M → WalkState M
+  visit_module (is_module x b closing) v = with_mark closing None (visit_block b (with_mark x None v))

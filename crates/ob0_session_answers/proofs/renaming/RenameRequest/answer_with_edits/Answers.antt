@@ -1,0 +1,11 @@
+use Rattle.std.proofs.Math.Facts.{to_z-of_z}
+use Rattle.std.proofs.lemmas.Result.{IfOk-weaker}
+use Rattle.ob0_session_answers.specs.Renamed.{rename_request_view}
+use Rattle.ob0_session_json.proofs.Plain.{workspace_edit_can_be_sent}
+use Rattle.ob0_session_answers.proofs.renaming.RenameRequest.answer_with_edits.Goals as goal
+
+pub returns : goal.returns
+returns c =
+    let requested = rename_request_view c.args.self.now c.args.version in
+    let there = rw (to_z-of_z c.ranges.version, c.as_str.ensures.value) at c.result_of.ensures in
+    IfOk-weaker c.result_of.result _ _ (λ bytes sent. sent (workspace_edit_can_be_sent requested.client requested.at.uri requested.version c.args.edits.now)) there

@@ -1,7 +1,0 @@
-use Rattle.ob0_text.specs.Units.{width_of}
-use Rattle.ob0_text.proofs.PlaceSteps.{sought_later}
-use Rattle.ob0_text.proofs.line_lookups.bounds_in.Goals as goal
-
-pub onward_to_position-end-requires : goal.onward_to_position-end-requires
-onward_to_position-end-requires c =
-    record { place = sought_later (width_of c.args.unit) c.args.text.now c.args.range.start _ _ _ _ c.place_after_counted-start.ensures.place c.args.range.end (c.is_from.ensures.0 c.if-is_from.true) }

@@ -1,0 +1,145 @@
+//! Applies several edits of one text at once.
+
+ghost use Rattle.std.specs.Prelude.{◌≡◌, Some, None, map, min, max, IfOk, IsErrOf, string_bytes};
+ghost use Rattle.std.specs.Str.{chars};
+ghost use Rattle.ob0_text.specs.Texts.{offset_of};
+ghost use Rattle.ob0_text.specs.Units.{width_of};
+ghost use Rattle.ob0_text.specs.Patches.{cuts_of, in_text_order, patched};
+ghost use Rattle.ob0_text.specs.StoredCuts.{stored_cut, cut_in_bytes};
+ghost use Rattle.ob0_text.specs.declared.byte_edits.PatchFault.TheVariants.{Memory};
+
+use crate::edits::Edit;
+use crate::position_types::Position;
+use crate::stores::TextStore;
+use std::alloc::{AllocError, Global};
+use thiserror::Error;
+
+/// The reason why edits can't be applied at once: two ranges share a character, or an allocation
+/// failed.
+#[derive(Clone, Copy, Debug, PartialEq, Eq, Error)]
+pub enum PatchFault {
+    #[error("two edits touch the same character")]
+    Overlap,
+    #[error("out of memory")]
+    Memory,
+}
+
+impl From<AllocError> for PatchFault {
+    ghost from_gives = { λ _ fault. fault ≡ Memory };
+
+    fn from(_error: AllocError) -> PatchFault {
+        PatchFault::Memory
+    }
+}
+
+/// An edit with byte offsets: the start and the end of the removed text, and the text that replaces
+/// it.
+#[derive(Drop)]
+struct ByteEdit<'e> {
+    start: usize,
+    end: usize,
+    text: &'e str,
+}
+
+/// Returns the store's text with all edits applied. The range of each edit refers to the text
+/// before all edits. If two ranges share a character, the fault is `Overlap`.
+pub fn patch<T: TextStore>(alloc: Global, store: &T, edits: &[Edit]) -> Result<String, PatchFault>
+    ensures ok { IfOk result (λ text. patched (width_of (T.unit_of store.now)) (T.content store.now)
+        edits.now
+        ≡ Some (chars (string_bytes text))) }
+    ensures overlap { IsErrOf result PatchFault.Overlap
+        → patched (width_of (T.unit_of store.now)) (T.content store.now) edits.now ≡ None }
+{
+    let cuts = sorted_cuts(alloc, store, edits)?;
+    let text = store.as_str();
+    let mut patched = String::new(alloc);
+    let mut kept = 0;
+    for cut in &cuts {
+        if cut.start < kept {
+            return Err(PatchFault::Overlap);
+        }
+        patched.push_str(&text[kept..cut.start])?;
+        patched.push_str(cut.text)?;
+        kept = cut.end;
+    }
+    patched.push_str(&text[kept..])?;
+    Ok(patched)
+}
+
+/// Returns the edits with byte offsets, in text order.
+fn sorted_cuts<'e, T: TextStore>(
+    alloc: Global,
+    store: &T,
+    edits: &'e [Edit],
+) -> Result<Vec<ByteEdit<'e>>, AllocError>
+    ensures { let text = T.content store.now in
+        IfOk result (λ cuts. map stored_cut cuts.items
+        ≡ map (cut_in_bytes text) (in_text_order
+        (cuts_of (width_of (T.unit_of store.now)) text edits.now))) }
+{
+    let mut cuts = unsorted_cuts(alloc, store, edits)?;
+    cuts.sort_by_key(|cut| (cut.start, cut.end))?;
+    Ok(cuts)
+}
+
+/// Returns the edits with byte offsets, in the order of the list.
+fn unsorted_cuts<'e, T: TextStore>(
+    alloc: Global,
+    store: &T,
+    edits: &'e [Edit],
+) -> Result<Vec<ByteEdit<'e>>, AllocError>
+    ensures { let text = T.content store.now in
+        IfOk result (λ cuts. map stored_cut cuts.items
+        ≡ map (cut_in_bytes text) (cuts_of (width_of (T.unit_of store.now)) text edits.now)) }
+{
+    let starts = starts(alloc, edits)?;
+    let from = offsets_of_positions(alloc, store, starts)?;
+    let ends = ends(alloc, edits)?;
+    let to = offsets_of_positions(alloc, store, ends)?;
+    let mut cuts = Vec::new(alloc);
+    for (i, edit) in edits.iter().enumerate() {
+        cuts.push(cut_between(from[i], to[i], edit.text.as_str()))?;
+    }
+    Ok(cuts)
+}
+
+/// Returns the byte offsets of positions. The positions are dropped here, so the caller owns one
+/// list instead of two.
+fn offsets_of_positions<T: TextStore>(
+    alloc: Global,
+    store: &T,
+    positions: Vec<Position>,
+) -> Result<Vec<usize>, AllocError>
+    ensures { IfOk result (λ offsets. offsets.items
+        ≡ map (offset_of (width_of (T.unit_of store.now)) (T.content store.now)) positions.items) }
+{
+    store.offsets(alloc, &positions)
+}
+
+/// Returns the starts of the edits' ranges.
+fn starts(alloc: Global, edits: &[Edit]) -> Result<Vec<Position>, AllocError>
+    ensures { IfOk result
+        (λ positions. positions.items ≡ map (λ edit. edit.range.start) edits.now) }
+{
+    edits.iter().map(|edit| edit.range.start).collect(alloc)
+}
+
+/// Returns the ends of the edits' ranges.
+fn ends(alloc: Global, edits: &[Edit]) -> Result<Vec<Position>, AllocError>
+    ensures { IfOk result (λ positions. positions.items ≡ map (λ edit. edit.range.end) edits.now) }
+{
+    edits.iter().map(|edit| edit.range.end).collect(alloc)
+}
+
+/// Returns the edit that replaces the bytes between two offsets by `text`. The offsets are swapped
+/// if the first is greater.
+fn cut_between(start: usize, end: usize, text: &str) -> ByteEdit<'_>
+    ensures { stored_cut result
+        ≡ record { from = min start end; to = max start end; new = chars text.now } }
+{
+    ByteEdit {
+        start: start.min(end),
+        end: start.max(end),
+        text,
+    }
+}

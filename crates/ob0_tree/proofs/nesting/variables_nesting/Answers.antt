@@ -1,0 +1,14 @@
+use Rattle.std.proofs.Common.{sym, ap, ◌∙◌}
+use Rattle.ob0_tree.specs.Depth.{capped}
+use Rattle.ob0_tree.specs.Tree.{nesting}
+use Rattle.ob0_tree.specs.View.{variable_of, items_of, variables_of}
+use Rattle.ob0_tree.proofs.Deepest.{deeper_on, list_ends}
+use Rattle.ob0_tree.proofs.nesting.variables_nesting.Goals as goal
+
+pub loop-v-preserved : goal.loop-v-preserved
+loop-v-preserved c = deeper_on variable_of c.v-item.result c.loop-v.invariant c.loop-v-test.true c.v-item.is c.type_nesting.ensures c.max-deepest.ensures
+
+pub returns : goal.returns
+returns c =
+    list_ends c.loop-v.invariant c.loop-v-test.false
+    ∙ ap capped (ap (λ xs. nesting (items_of variable_of xs)) c.deref-v-items.ensures.value ∙ sym (ap (λ o. nesting (variables_of o)) c.in-Some.is))

@@ -1,0 +1,17 @@
+use Rattle.std.proofs.Common.{◌≡◌, ◌↔◌, ◌++◌, [], sym, subst, ap}
+use Rattle.std.specs.List.{filter}
+use Rattle.ob0_scope_table.specs.Resolution.{is_declaration_fault}
+use Rattle.ob0_types.specs.FaultOrder.{AreFirstOf}
+use Rattle.ob0_types_check.specs.SomeBodies.{AllPass, faulty_bodies, is_among}
+use Rattle.ob0_types.proofs.Among.{all_among}
+use Rattle.ob0_types.proofs.AllReported.{checked_reported}
+use Rattle.ob0_types.proofs.checked.types_from_report.Goals as goal
+
+pub returns : goal.returns
+returns c =
+    let r = c.args.resolved.now in
+    let faults = c.in_ok-faults.faults.items in
+    let found = ap (λ fs. fs ++ filter is_declaration_fault r.faults) c.requires.report.faults in
+    let is = checked_reported r faults c.modules_fit.ensures c.no_fault_in_modules.ensures c.module-module.ensures.resolved (subst (λ fs. (faults ≡ []) ↔ (fs ≡ [])) found c.in_ok-faults.ensures.none) c.args.report.known c.requires.report.known c.in_ok-faults.ensures.few
+    (subst (λ fs. AreFirstOf fs faults) found c.in_ok-faults.ensures.first) in
+    record { checked = is; fields = λ none. c.requires.fields (is.reported.0 none); faulty = subst (λ bodies. AllPass (is_among bodies) (faulty_bodies r)) (sym c.requires.report.faulty) (all_among (faulty_bodies r)) }

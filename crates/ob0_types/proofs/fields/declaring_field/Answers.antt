@@ -1,9 +1,0 @@
-use Rattle.std.proofs.Common.{◌∙◌, ap}
-use Rattle.ob0_scope_table.specs.Resolution.{Resolution}
-use Rattle.ob0_types_fields.specs.Identifiers.{first, tokens_among}
-use Rattle.ob0_types.proofs.fields.declaring_field.Goals as goal
-
-pub returns : goal.returns
-returns c =
-    let source = c.tokens.ensures ∙ ap (λ (r : Resolution). r.module_read.source) c.resolved-names.ensures.value in
-    c.declaring.ensures ∙ (λ i. first (tokens_among (source i) c.args.owner c.args.name.now (c.fields.ensures.0 i)))

@@ -1,0 +1,34 @@
+-- The meanings of the identifiers in a module's text: names, or else fields.
+-- Rule: docs/PROTOCOL.md, Requests on documents 3 to 6.
+use Rattle.std.specs.Prelude.{⊤, ℕ, Option, Some, None, option_map}
+use Rattle.ob0_scope_table.specs.Resolution.{Resolution}
+use Rattle.ob0_scope.specs.NamesAtPlaces.{name_on}
+use Rattle.ob0_scope.specs.declared.naming.Named as named
+use Rattle.ob0_types_fields.specs.declared.field_name.FieldName.{FieldName}
+use Rattle.ob0_types_fields.specs.Identifiers.{field_at}
+use Rattle.ob0_types.specs.declared.meant.ResolvedIdentifier.{ResolvedIdentifier}
+use Rattle.ob0_types.specs.declared.meant.IdentifierMeaning.{IdentifierMeaning}
+use Rattle.ob0_types.specs.declared.meant.IdentifierMeaning.TheVariants.{Name, Field}
+
+-- returns the identifier of a bound name with its meaning: the declaration
+abbrev pub resolved_name : named.Named → ResolvedIdentifier
+resolved_name n = record { token = n.token; means = Name n.ordinal }
+
+-- returns the identifier of a field with its meaning: the ordinal of the field's record
+abbrev pub resolved_field : FieldName → ResolvedIdentifier
+resolved_field x = record { token = x.token; means = Field x.owner }
+
+-- returns the identifier of the name with its meaning if there is a name, otherwise the identifier
+-- of the field with its meaning
+abbrev pub meaning_of_name_or_field : Option named.Named → Option FieldName → Option ResolvedIdentifier
+meaning_of_name_or_field (Some n) f = Some (resolved_name n)
+meaning_of_name_or_field None f = option_map resolved_field f
+
+-- returns the identifier at a byte offset with its meaning; None if there is no name and no field
+abbrev pub identifier_meaning_at : Resolution → ℕ → Option ResolvedIdentifier
+identifier_meaning_at r offset = meaning_of_name_or_field (name_on r.module_read offset) (field_at r offset)
+
+-- holds if the meaning is a field
+abbrev pub IsField : IdentifierMeaning → Type 0
+IsField (Name ordinal) = ⊥
+IsField (Field k) = ⊤

@@ -1,0 +1,178 @@
+-- The state of the code's reporting walk as a state of the definitions.
+-- Rule: none; for contracts: what the reporting walk knows.
+use Rattle.std.specs.Prelude.{◌≡◌, ℕ, ◌-◌, ◌^◌, Bool, List, map, ◌++◌, min, slice_get, slice_index_or, slice_set, string_bytes, Option, Some, None, option_and_then, option_map}
+use Rattle.ob0_scan.specs.declared.fault.Fault.{Fault}
+use Rattle.ob0_language_names.specs.Names.{Name}
+use Rattle.ob0_scope_table.specs.Resolution.{ordinal_in}
+use Rattle.ob0_types_table.specs.FieldIndex.{first_field_type}
+use Rattle.ob0_types_table.specs.declared.known.Field.{Field}
+use Rattle.ob0_types_table.specs.declared.known.FormalParameter as formal
+use Rattle.ob0_types_table.specs.declared.known.TypeEntry.{TypeEntry}
+use Rattle.ob0_types_table.specs.declared.known.TypeEntry.TheVariants as made
+use Rattle.ob0_types_table.specs.KnownTables.{Tables}
+use Rattle.ob0_types_table.specs.declared.known.Object as object
+use Rattle.ob0_types_table.specs.declared.known.Object.TheVariants as kind
+use Rattle.ob0_types_table.specs.declared.known.StandardProcedure.TheVariants as standards
+use Rattle.ob0_types_table.specs.declared.types.TypeId.{TypeId}
+use Rattle.ob0_types_table.specs.declared.types.TypeId.TheVariants as type
+use Rattle.ob0_language_values.specs.Scalars.{scalar_value}
+use Rattle.ob0_types_check.specs.declared.reporting.expressions.Operand as operand
+use Rattle.ob0_types_check.specs.declared.reporting.checker_state.Meaning as meaning
+use Rattle.ob0_types_check.specs.declared.reporting.checker_state.Meaning.TheVariants as declared
+use Rattle.ob0_types_check.specs.declared.reporting.checker_state.Size as code_size
+use Rattle.ob0_types_check.specs.declared.reporting.checker_state.CheckerState.{CheckerState}
+use Rattle.ob0_types_check.specs.declared.reporting.written_types.KnownFields as gathering
+use Rattle.ob0_types_check.specs.Known.{Facts, Form, KnownFormal, Meaning, Operand, Reported, Types, a_constant, a_procedure, a_record, a_scalar, a_type, a_variable, an_array, unknown_form}
+use Rattle.ob0_types_check.specs.DeclarationFaults.{KnownHeading}
+use Rattle.ob0_types_check.specs.KnownDeclarations.{CompositeType, Size, KnownDeclarations, KnownField, of_elements, of_fields, same_type}
+use Rattle.ob0_types_check.specs.WrittenTypeFaults.{KnownFields}
+
+-- returns the type of an array's elements; unknown if there is no array
+abbrev pub entry_element_type : Option TypeEntry → TypeId
+entry_element_type None = type.Unknown
+entry_element_type (Some (made.Array a)) = a.element
+entry_element_type (Some (made.Record r)) = type.Unknown
+
+-- returns the type of a record's first field with this name; None if there is no record or no such
+-- field
+abbrev pub entry_field_type : Option TypeEntry → Name → Option TypeId
+entry_field_type None x = None
+entry_field_type (Some (made.Array a)) x = None
+entry_field_type (Some (made.Record r)) x = first_field_type r.fields x
+
+-- returns the form of a type, given the code's list of arrays and records
+abbrev pub form_in : List TypeEntry → TypeId → Form TypeId
+form_in composites type.Integer = a_scalar
+form_in composites type.Boolean = a_scalar
+form_in composites (type.Array i) = an_array (entry_element_type (slice_get composites i))
+form_in composites (type.Record i) = a_record (entry_field_type (slice_get composites i))
+form_in composites type.Unknown = unknown_form
+
+-- returns the code's types, with its list of arrays and records, as a representation of types
+abbrev pub known_types : List TypeEntry → Types TypeId
+known_types composites =
+    record {
+      integer = type.Integer;
+      boolean = type.Boolean;
+      unknown = type.Unknown;
+      same = same_type;
+      form = form_in composites;
+    }
+
+-- returns a formal parameter of the code as a formal parameter of the definitions
+abbrev pub formal_of : formal.FormalParameter → KnownFormal TypeId
+formal_of f = record { by_place = f.by_place; of = f.of }
+
+-- returns the meaning of a declaration in the code as a meaning of the definitions
+abbrev pub known_meaning : meaning.Meaning → Meaning TypeId
+known_meaning (declared.Named t) = a_type t
+known_meaning (declared.Constant v) = a_constant (option_map scalar_value v)
+known_meaning (declared.Variable t) = a_variable t
+known_meaning (declared.Procedure fs) = a_procedure (map formal_of fs.items)
+
+-- returns the meaning of the name at a token; None if it is unbound or its declaration isn't known yet
+abbrev pub meaning_in_state : CheckerState → ℕ → Option meaning.Meaning
+meaning_in_state s token =
+    option_and_then (λ k. slice_index_or s.meanings.items k None)
+    (ordinal_in s.resolved.now.ordinals token)
+
+-- returns the facts at a place according to the state of the code; if the Bool is true, names may
+-- only refer to constants
+abbrev pub facts_in : CheckerState → Bool → Facts TypeId
+facts_in s only_constants = record {
+  source = s.resolved.now.module_read.source;
+  types = known_types s.composites.items;
+  object_for = λ token. option_map known_meaning (meaning_in_state s token);
+  only_constants = only_constants;
+}
+
+-- returns an operand of the code as an operand of the definitions
+abbrev pub operand_of : operand.Operand → Operand TypeId
+operand_of o =
+    record {
+      of = o.of;
+      value = option_map scalar_value o.value;
+      is_place = o.is_place;
+      first = o.first;
+      last = o.last;
+    }
+
+-- returns a size of the code as a size of the definitions
+abbrev pub size_of : code_size.Size → Size
+size_of z = record { scalars = z.scalars; depth = z.depth }
+
+-- returns the fields of the code as fields of the definitions
+abbrev pub fields_in : List Field → List KnownField
+fields_in fields = map (λ f. record { name = string_bytes f.name; of = f.of }) fields
+
+-- returns an array or record of the code as an array or record of the definitions
+abbrev pub composite_type_of : TypeEntry → CompositeType
+composite_type_of (made.Array a) =
+    record {
+      ordinal = a.ordinal;
+      parts = of_elements a.length a.element;
+      size = record { scalars = a.scalars; depth = a.depth };
+    }
+composite_type_of (made.Record r) =
+    record {
+      ordinal = r.ordinal;
+      parts = of_fields (fields_in r.fields);
+      size = record { scalars = r.scalars; depth = r.depth };
+    }
+
+-- returns the state of the code's walk as a state of the definitions
+abbrev pub declarations_in_state : CheckerState → KnownDeclarations
+declarations_in_state s = record {
+  source = s.resolved.now.module_read.source;
+  ordinals = s.resolved.now.ordinals;
+  declared = map (option_map known_meaning) s.meanings.items;
+  made = map composite_type_of s.composites.items;
+}
+
+-- returns the parameters of a heading and the state after them, from values of the code
+abbrev pub heading_in : CheckerState → List formal.FormalParameter → KnownHeading
+heading_in s formals = record { formals = map formal_of formals; following = declarations_in_state s }
+
+-- caps both numbers of a size at 2^64 - 1, because the code's operations saturate
+abbrev pub capped_size : Size → Size
+capped_size z = record { scalars = min z.scalars (2 ^ 64 - 1); depth = min z.depth (2 ^ 64 - 1) }
+
+-- holds if the code's state `now` has the fields `g` and their size, capped at 2^64 - 1, and `s` is
+-- the state after them
+pub record HasKnownFields (g : KnownFields) (s : CheckerState) (now : gathering.KnownFields) : Type 0 where
+  pub fields : fields_in now.fields.items ≡ g.fields
+  pub size : size_of now.size ≡ capped_size g.size
+  pub following : declarations_in_state s ≡ g.following
+
+-- holds if the code has gathered the fields of `t`, and has appended the faults of `t` to the
+-- faults `before`
+pub record AddsKnownFields
+    (before after : List Fault) (s : CheckerState) (gathered : gathering.KnownFields)
+    (t : Reported KnownFields) : Type 0 where
+  pub reported : after ≡ before ++ t.faults
+  pub now : HasKnownFields t.known s gathered
+
+-- returns the object of a declaration in the code's table; a constant without a value becomes
+-- `FaultyConstant`
+abbrev pub table_object : meaning.Meaning → object.Object
+table_object (declared.Named t) = kind.Named t
+table_object (declared.Constant (Some v)) = kind.Constant v
+table_object (declared.Constant None) = kind.FaultyConstant
+table_object (declared.Variable t) = kind.Variable t
+table_object (declared.Procedure fs) = kind.Procedure fs
+
+-- replaces the objects at the ordinals of Read, Write and WriteLn by the standard procedures
+abbrev pub with_standard_procedures : List (Option object.Object) → List (Option object.Object)
+with_standard_procedures objects =
+    slice_set
+    (slice_set (slice_set objects 4 (Some (kind.StandardProcedure standards.Read))) 5
+    (Some (kind.StandardProcedure standards.Write)))
+    6 (Some (kind.StandardProcedure standards.WriteLn))
+
+-- returns the table that the code makes from its state
+abbrev pub table_in : CheckerState → Tables
+table_in s =
+    record {
+      shapes = s.composites.items;
+      objects = with_standard_procedures (map (option_map table_object) s.meanings.items);
+    }

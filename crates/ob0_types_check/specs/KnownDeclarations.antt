@@ -1,0 +1,212 @@
+-- The state at a place of a module while its faults are reported: the declarations before the place, and the arrays and
+-- records before it.
+-- Rule: docs/LANGUAGE.md, Scopes 2, Faults of scopes and types 2.
+use Rattle.std.specs.Prelude.{ℕ, nat_le, Bool, true, false, ◌==◌, ◌&&◌, List, [], ◌∷◌, ◌++◌, length, map, slice_get, slice_index_or, slice_set, if◌then◌else◌, Option, Some, None, option_and_then}
+use Rattle.ob0_scan.specs.declared.fault.FaultCode.TheVariants as code
+use Rattle.ob0_scan.specs.TextWithTokens.{TextWithTokens}
+use Rattle.ob0_language_names.specs.Names.{Name, same_name}
+use Rattle.ob0_scope_table.specs.Resolution.{Resolution, ordinal_in}
+use Rattle.ob0_language_types.specs.Typing.{max_depth, max_scalars}
+use Rattle.ob0_types_table.specs.declared.types.TypeId.{TypeId}
+use Rattle.ob0_types_table.specs.declared.types.TypeId.TheVariants as type
+use Rattle.ob0_language_values.specs.Values.{truth}
+use Rattle.ob0_types_check.specs.Known.{Facts, Form, Meaning, Reported, Types, a_constant, a_procedure, a_record, a_scalar, a_type, an_array, unknown_form}
+use Rattle.ob0_types_check.specs.Operations.{fault_at_token, without_fault}
+
+-- the size of a type: the number of its scalars, and the depth to which its arrays and records are nested
+pub record Size : Type 0 where
+  pub scalars : ℕ
+  pub depth : ℕ
+
+-- a field of a record, with its name and type
+pub record KnownField : Type 0 where
+  pub name : Name
+  pub of : TypeId
+
+-- the parts of an array or a record: the number and type of its elements, or its fields in order
+pub data PartTypes : Type 0 where
+  of_elements : ℕ → TypeId → PartTypes
+  of_fields : List KnownField → PartTypes
+
+-- an array or record: the ordinal of its word ARRAY or RECORD, its parts and its size
+pub record CompositeType : Type 0 where
+  pub ordinal : ℕ
+  pub parts : PartTypes
+  pub size : Size
+
+-- The declarations found so far, by ordinal, and the arrays and records found so far. Types refer to arrays and records
+-- by their indexes in the list. A declaration later in the text has no meaning yet.
+pub record KnownDeclarations : Type 0 where
+  pub source : TextWithTokens
+  pub ordinals : List (Option ℕ)
+  pub declared : List (Option (Meaning TypeId))
+  pub made : List CompositeType
+
+-- returns true if two types are the same; an array or record equals only the one with its own index
+abbrev pub same_type : TypeId → TypeId → Bool
+same_type type.Integer type.Integer = true
+same_type type.Boolean type.Boolean = true
+same_type type.Unknown type.Unknown = true
+same_type (type.Array i) (type.Array j) = i == j
+same_type (type.Record i) (type.Record j) = i == j
+same_type _ _ = false
+
+-- returns the type of an array's elements, given its parts; for a record's parts, the unknown type
+abbrev pub element_type_in : PartTypes → TypeId
+element_type_in (of_elements n t) = t
+element_type_in (of_fields fields) = type.Unknown
+
+-- returns the type of an array's elements; the unknown type if there is no array
+abbrev pub made_element_type : Option CompositeType → TypeId
+made_element_type None = type.Unknown
+made_element_type (Some m) = element_type_in m.parts
+
+-- returns the type of the first field with this name, or None if the list has no such field
+abbrev pub type_of_first_field : List KnownField → Name → Option TypeId
+type_of_first_field [] x = None
+type_of_first_field (f ∷ fields) x = if same_name x f.name then Some f.of else type_of_first_field fields x
+
+-- returns the type of a field in a record's parts; None if there is none
+abbrev pub field_type_in : PartTypes → Name → Option TypeId
+field_type_in (of_elements n t) x = None
+field_type_in (of_fields fields) x = type_of_first_field fields x
+
+-- returns the type of a record's field; None if there is no record or no such field
+abbrev pub made_field_type : Option CompositeType → Name → Option TypeId
+made_field_type None x = None
+made_field_type (Some m) x = field_type_in m.parts x
+
+-- returns the form of a type: a scalar, an array, a record, or unknown
+abbrev pub form_at : List CompositeType → TypeId → Form TypeId
+form_at made type.Integer = a_scalar
+form_at made type.Boolean = a_scalar
+form_at made (type.Array i) = an_array (made_element_type (slice_get made i))
+form_at made (type.Record i) = a_record (made_field_type (slice_get made i))
+form_at made type.Unknown = unknown_form
+
+-- returns the types found so far as a representation of types
+abbrev pub types_so_far : List CompositeType → Types TypeId
+types_so_far made =
+    record {
+      integer = type.Integer;
+      boolean = type.Boolean;
+      unknown = type.Unknown;
+      same = same_type;
+      form = form_at made;
+    }
+
+-- returns the meaning of the name at a token; None if it is unbound or its declaration isn't known yet
+abbrev pub meaning_at : KnownDeclarations → ℕ → Option (Meaning TypeId)
+meaning_at p token =
+    option_and_then (λ k. slice_index_or p.declared k None) (ordinal_in p.ordinals token)
+
+-- returns the facts at a place; if the Bool is true, names may only refer to constants there
+abbrev pub facts_at : KnownDeclarations → Bool → Facts TypeId
+facts_at p only_constants =
+    record {
+      source = p.source;
+      types = types_so_far p.made;
+      object_for = meaning_at p;
+      only_constants = only_constants;
+    }
+
+-- returns the state in which the declaration with this ordinal has this meaning; without an ordinal it is unchanged
+abbrev pub with_meaning : KnownDeclarations → Meaning TypeId → Option ℕ → KnownDeclarations
+with_meaning p m None = p
+with_meaning p m (Some k) =
+    record {
+      source = p.source;
+      ordinals = p.ordinals;
+      declared = slice_set p.declared k (Some m);
+      made = p.made;
+    }
+
+-- returns the state in which the declaration at a token has this meaning
+abbrev pub define : KnownDeclarations → Meaning TypeId → ℕ → KnownDeclarations
+define p m token = with_meaning p m (ordinal_in p.ordinals token)
+
+-- returns the state in which the declarations at these tokens all have this meaning
+abbrev pub define_all : KnownDeclarations → Meaning TypeId → List ℕ → KnownDeclarations
+define_all p m [] = p
+define_all p m (x ∷ xs) = define_all (define p m x) m xs
+
+-- returns the size of INTEGER and BOOLEAN
+abbrev pub scalar_size : Size
+scalar_size = record { scalars = 1; depth = 0 }
+
+-- returns the size of an unknown type, which is also the size of no fields
+abbrev pub empty_size : Size
+empty_size = record { scalars = 0; depth = 0 }
+
+-- returns the size of an array or record; for None, the size of one scalar
+abbrev pub composite_size : Option CompositeType → Size
+composite_size None = scalar_size
+composite_size (Some m) = m.size
+
+-- returns the size of a type; an unknown type has no scalars
+abbrev pub size_at : List CompositeType → TypeId → Size
+size_at made type.Integer = scalar_size
+size_at made type.Boolean = scalar_size
+size_at made (type.Array i) = composite_size (slice_get made i)
+size_at made (type.Record i) = composite_size (slice_get made i)
+size_at made type.Unknown = empty_size
+
+-- returns true if a type has at most 65,536 scalars, and its arrays and records are nested at most 100 deep
+abbrev pub is_within_limits : Size → Bool
+is_within_limits z = nat_le z.scalars max_scalars && nat_le z.depth max_depth
+
+-- a type, and the state after its text
+pub record TypeWithState : Type 0 where
+  pub of : TypeId
+  pub following : KnownDeclarations
+
+-- returns the type of an array or record with these parts at index `k` of the list
+abbrev pub type_at_index : PartTypes → ℕ → TypeId
+type_at_index (of_elements n t) k = type.Array k
+type_at_index (of_fields fields) k = type.Record k
+
+-- Appends a new array or record, and returns its type with the new state.
+abbrev pub made : KnownDeclarations → ℕ → PartTypes → Size → TypeWithState
+made p ordinal parts size = record {
+  of = type_at_index parts (length p.made);
+  following =
+      record {
+        source = p.source;
+        ordinals = p.ordinals;
+        declared = p.declared;
+        made = p.made ++ record { ordinal = ordinal; parts = parts; size = size } ∷ [];
+      };
+}
+
+-- reports `TypeTooLarge` at the word ARRAY or RECORD, and returns an unknown type
+abbrev pub type_too_large : KnownDeclarations → ℕ → Reported TypeWithState
+type_too_large p word =
+    record {
+      known = record { of = type.Unknown; following = p };
+      faults = fault_at_token (facts_at p false) code.TypeTooLarge word;
+    }
+
+-- appends a new array or record and returns its type, or reports `TypeTooLarge` at its word
+abbrev pub make_type : KnownDeclarations → ℕ → ℕ → PartTypes → Size → Reported TypeWithState
+make_type p word ordinal parts size =
+    if is_within_limits size then without_fault (made p ordinal parts size) else type_too_large p word
+
+-- returns the meanings of the predeclared names, by ordinal: INTEGER, BOOLEAN, TRUE, FALSE, Read,
+-- Write, WriteLn
+abbrev pub predeclared_meanings : List (Option (Meaning TypeId))
+predeclared_meanings =
+    Some (a_type type.Integer) ∷ Some (a_type type.Boolean)
+    ∷ Some (a_constant (Some (truth true))) ∷ Some (a_constant (Some (truth false)))
+    ∷ Some (a_procedure (record { by_place = true; of = type.Integer } ∷ []))
+    ∷ Some (a_procedure (record { by_place = false; of = type.Integer } ∷ []))
+    ∷ Some (a_procedure []) ∷ []
+
+-- returns the state at the beginning of a module, in which only the predeclared names are known
+abbrev pub state_at_start : Resolution → KnownDeclarations
+state_at_start r =
+    record {
+      source = r.module_read.source;
+      ordinals = r.ordinals;
+      declared = predeclared_meanings ++ map (λ token. None) r.declarations;
+      made = [];
+    }

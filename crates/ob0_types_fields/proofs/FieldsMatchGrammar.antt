@@ -1,0 +1,433 @@
+-- Each identifier in the place of a field of a well-typed module is one of its fields. The proof rewrites all fields. A
+-- table of owners rewrites the identifiers with an owner, and the definition of rewriting rewrites each identifier in
+-- the place of a field.
+use Rattle.std.proofs.Common.{◌≡◌, ℕ, suc, ◌+◌, true, ◌&&◌, List, [], ◌∷◌, ◌++◌, map, length, Some, None, Option, option_and_then, option_map, unwrap_or, refl, sym, ap, ◌∙◌, subst, arith}
+use Rattle.ob0_scan.specs.TextWithTokens.{TextWithTokens}
+use Rattle.ob0_tree.specs.declared.tree.Role.{Role}
+use Rattle.ob0_tree.specs.declared.tree.Role.TheVariants as role
+use Rattle.ob0_tree.specs.Order.{names_without_roles}
+use Rattle.ob0_tree.specs.ParsedModule.{ParsedModule, named_tree_of, tree_of}
+use Rattle.ob0_tree.specs.Places.{text_at, value_at}
+use Rattle.ob0_tree.specs.Tree.{Sort, Tree, addend, adds, arguments, array_type, assigns, begins, block, body, branches, calls, compares, constant, constants, declares, declares_constant, declares_constants, declares_procedure, declares_type, declares_types, declares_variable, declares_variables, designator, else_branch, else_part, elsif_branch, elsif_part, empty, end, expression, factor, field, fields, formals, further_argument, further_fields, further_name, further_section, further_statement, has_body, identifiers, index, integer, is_module, item, items, listed, mapped, maybe, module_text, more, multiplier, multiplies, named_type, names, negation, no_arguments, no_fields, no_formals, none, one, parenthesised, procedure, product, record_type, relates, repeat_loop, runs, section, selector, sequence, simple, some_arguments, some_fields, some_formals, statement, sum, term, then_argument, then_fields, then_name, then_section, then_statement, type_name, type_names, value_section, variable, variable_section, variables, while_loop, written_type}
+use Rattle.ob0_language_names.specs.Mapping.{map_names}
+use Rattle.ob0_language_names.specs.Names.{Name, naming_by_spelling}
+use Rattle.ob0_language_names.specs.Parts.{formal_sections, names_in_list, procedure_formals, procedure_name, section_constants, section_names, section_type, section_types, section_variables}
+use Rattle.ob0_language_names.proofs.Peeling.{heads}
+use Rattle.ob0_scope_table.specs.Resolution.{ordinal_in}
+use Rattle.ob0_language_types.specs.Declarations.{constructor_after_formals, constructor_after_types, constructor_after_variables, declare_constants, declare_first, declare_types, procedure_constructor_count}
+use Rattle.ob0_language_types.specs.Environments.{meanings, outermost}
+use Rattle.ob0_language_types.specs.Expressions.{Meanings, Object, a_constant, a_procedure, a_standard, a_type, a_variable, evaluate}
+use Rattle.ob0_language_types.specs.Typing.{addition_type, array_length, negation_type, constant_of, constant_value, constant_meanings, constructor_count, denoted, denoted_group, denoted_groups, element_type, outcome_value, group_constructor_count, multiplication_type, object_type, relation_type, sign_type, type_at, type_of, type_of_addends, type_of_factor, type_of_multipliers, type_of_simple, type_of_term, value_type, prepend_fields, check_limits}
+use Rattle.ob0_language_types.specs.WellTyped.{Signature, TypeEnvironment, TypeMeanings, TypedParameter, WellTyped, bind_names, bind_typed_parameters, block_fits, declare_typed, fits_over, bind_procedure, procedure_fits, procedures_fit, section_mode, typed_parameters}
+use Rattle.ob0_language_values.specs.Values.{FieldShapes, Shape, Value, array_shape, boolean_shape, elements, integer_shape, members, number, record_shape, truth}
+use Rattle.ob0_language_fields.specs.Fields.{FieldRenaming, select_type, rename_fields, rename_fields_in_block, rename_fields_in_formals, rename_fields_in_group, rename_fields_in_groups, rename_fields_in_procedure, rename_fields_in_procedures, rename_fields_in_section, rename_fields_in_sections, rename_fields_in_type, rename_fields_in_type_section, rename_fields_in_types, rename_fields_in_variable_section, rename_fields_in_variables, rename_fields_in_module}
+use Rattle.ob0_types_fields.specs.Owners.{field_names_by_record}
+use Rattle.ob0_language_fields.specs.Renaming.{RecordFields, records}
+use Rattle.ob0_language_fields.proofs.AgreeingFields.{NamesAgree, RecordsAgree}
+use Rattle.ob0_language_fields.proofs.AgreeingModules.{module-alike}
+use Rattle.ob0_language_fields.proofs.NamesMeant.{parameter_of}
+use Rattle.ob0_language_types.specs.Bindings.{declared_object}
+use Rattle.ob0_language_types.proofs.Conditions.{both_true, hold-true, of_some}
+use Rattle.ob0_language_types.proofs.TypedElsewhere.{then_some}
+use Rattle.ob0_types_fields.specs.Identifiers.{FieldsMatchGrammar, tokens_of, field_role_tokens}
+use Rattle.ob0_types_fields.specs.Owned.{GivesListedOwners, fields_with_owners, owners_in_resolution, meanings_by_token}
+use Rattle.ob0_tree.proofs.MappedIdentifiers.{beside_role, both, identifiers-mapped}
+use Rattle.ob0_types_fields.proofs.OwnedModules.{listed_owners_are_complete-holds}
+use Rattle.ob0_types_fields.proofs.OwnedTokens.{fields_have-owners, module-tokens, tokens, with_owners}
+
+-- ---- a name that no field had, used for each field
+
+abbrev again : Name → Name
+again x = 0 ∷ x
+
+abbrev mark : Role → Name → Name
+mark role.FieldName x = again x
+mark role.Declaring x = x
+mark role.LookedUp x = x
+mark role.ClosingName x = x
+mark role.ModuleName x = x
+
+abbrev mark_at : Role × Name → Role × Name
+mark_at x = (x.0, mark x.0 x.1)
+
+abbrev marked : List (Role × Name) → List (Role × Name)
+marked xs = map mark_at xs
+
+abbrev every : FieldRenaming
+every k x = again x
+
+abbrev ids : {s : Sort} → Tree Name s → List (Role × Name)
+ids t = identifiers role.Declaring t
+
+-- ---- statements: each selected field is rewritten
+
+mutual
+  expression-marked : (m : TypeMeanings Name) (e : Tree Name expression) → ids (rename_fields every m None e) ≡ marked (ids e)
+  expression-marked m (compares a none) = both mark_at (ids a) [] (simple-marked m a) refl
+  expression-marked m (compares a (one (relates r b))) = both mark_at (ids a) (ids b) (simple-marked m a) (simple-marked m b)
+
+  simple-marked : (m : TypeMeanings Name) (a : Tree Name simple) → ids (rename_fields every m None a) ≡ marked (ids a)
+  simple-marked m (sum s t rest) = both mark_at (ids t) (ids rest) (term-marked m t) (addends-marked m rest)
+
+  addends-marked : (m : TypeMeanings Name) (a : Tree Name (items addend)) → ids (rename_fields every m None a) ≡ marked (ids a)
+  addends-marked m end = refl
+  addends-marked m (more (adds o t) rest) = both mark_at (ids t) (ids rest) (term-marked m t) (addends-marked m rest)
+
+  term-marked : (m : TypeMeanings Name) (a : Tree Name term) → ids (rename_fields every m None a) ≡ marked (ids a)
+  term-marked m (product a rest) = both mark_at (ids a) (ids rest) (factor-marked m a) (multipliers-marked m rest)
+
+  multipliers-marked : (m : TypeMeanings Name) (a : Tree Name (items multiplier)) → ids (rename_fields every m None a) ≡ marked (ids a)
+  multipliers-marked m end = refl
+  multipliers-marked m (more (multiplies o a) rest) = both mark_at (ids a) (ids rest) (factor-marked m a) (multipliers-marked m rest)
+
+  factor-marked : (m : TypeMeanings Name) (a : Tree Name factor) → ids (rename_fields every m None a) ≡ marked (ids a)
+  factor-marked m (designator x path) = ap (λ z. (role.LookedUp, x) ∷ z) (path-marked m (object_type (m.object_for x)) path)
+  factor-marked m (integer n) = refl
+  factor-marked m (parenthesised e) = expression-marked m e
+  factor-marked m (negation a) = factor-marked m a
+
+  path-marked : (m : TypeMeanings Name) (s : Option Shape) (path : Tree Name (items selector)) → ids (rename_fields every m s path) ≡ marked (ids path)
+  path-marked m s end = refl
+  path-marked m s (more (field x) rest) = ap (λ z. (role.FieldName, again x) ∷ z) (path-marked m (select_type s (field x)) rest)
+  path-marked m s (more (index e) rest) = both mark_at (ids e) (ids rest) (expression-marked m e) (path-marked m (select_type s (index e)) rest)
+
+further_arguments-marked : (m : TypeMeanings Name) (es : Tree Name (items further_argument)) → ids (rename_fields every m None es) ≡ marked (ids es)
+further_arguments-marked m end = refl
+further_arguments-marked m (more (then_argument e) es) = both mark_at (ids e) (ids es) (expression-marked m e) (further_arguments-marked m es)
+
+arguments-marked : (m : TypeMeanings Name) (es : Tree Name (maybe arguments)) → ids (rename_fields every m None es) ≡ marked (ids es)
+arguments-marked m none = refl
+arguments-marked m (one no_arguments) = refl
+arguments-marked m (one (some_arguments e es)) = both mark_at (ids e) (ids es) (expression-marked m e) (further_arguments-marked m es)
+
+mutual
+  statement-marked : (m : TypeMeanings Name) (a : Tree Name statement) → ids (rename_fields every m None a) ≡ marked (ids a)
+  statement-marked m empty = refl
+  statement-marked m (assigns x path e) = ap (λ z. (role.LookedUp, x) ∷ z) (both mark_at (ids path) (ids e) (path-marked m (object_type (m.object_for x)) path) (expression-marked m e))
+  statement-marked m (calls x es) = ap (λ z. (role.LookedUp, x) ∷ z) (arguments-marked m es)
+  statement-marked m (branches e a rest last) =
+      both mark_at (ids e) (ids a ++ (ids rest ++ ids last)) (expression-marked m e)
+      (both mark_at (ids a) (ids rest ++ ids last) (sequence-marked m a) (both mark_at (ids rest) (ids last) (elsifs-marked m rest) (else-marked m last)))
+  statement-marked m (while_loop e a) = both mark_at (ids e) (ids a) (expression-marked m e) (sequence-marked m a)
+  statement-marked m (repeat_loop a e) = both mark_at (ids a) (ids e) (sequence-marked m a) (expression-marked m e)
+
+  sequence-marked : (m : TypeMeanings Name) (a : Tree Name sequence) → ids (rename_fields every m None a) ≡ marked (ids a)
+  sequence-marked m (runs a rest) = both mark_at (ids a) (ids rest) (statement-marked m a) (statements-marked m rest)
+
+  statements-marked : (m : TypeMeanings Name) (a : Tree Name (items further_statement)) → ids (rename_fields every m None a) ≡ marked (ids a)
+  statements-marked m end = refl
+  statements-marked m (more (then_statement a) rest) = both mark_at (ids a) (ids rest) (statement-marked m a) (statements-marked m rest)
+
+  elsifs-marked : (m : TypeMeanings Name) (a : Tree Name (items elsif_part)) → ids (rename_fields every m None a) ≡ marked (ids a)
+  elsifs-marked m end = refl
+  elsifs-marked m (more (elsif_branch e a) rest) = both mark_at (ids e ++ ids a) (ids rest) (both mark_at (ids e) (ids a) (expression-marked m e) (sequence-marked m a)) (elsifs-marked m rest)
+
+  else-marked : (m : TypeMeanings Name) (a : Tree Name (maybe else_part)) → ids (rename_fields every m None a) ≡ marked (ids a)
+  else-marked m none = refl
+  else-marked m (one (else_branch a)) = sequence-marked m a
+
+body-marked : (m : TypeMeanings Name) (a : Tree Name (maybe body)) → ids (rename_fields every m None a) ≡ marked (ids a)
+body-marked m none = refl
+body-marked m (one (begins a)) = sequence-marked m a
+
+-- ---- constant expressions: nothing is selected in one that has a type
+
+abbrev OneScalar : Shape → Type 0
+OneScalar integer_shape = Unit {0}
+OneScalar boolean_shape = Unit {0}
+OneScalar (array_shape k n s) = ⊥
+OneScalar (record_shape k fs) = ⊥
+
+value-scalar : (v : Value) (s : Shape) → value_type v ≡ Some s → OneScalar s
+value-scalar (number n) s h = of_some OneScalar h tt
+value-scalar (truth b) s h = of_some OneScalar h tt
+value-scalar (elements vs) s h = absurd (cc)
+value-scalar (members k ms) s h = absurd (cc)
+
+constant-scalar : (o : Option (Object Shape Signature)) (s : Shape) → object_type {P = Unit {0}} (option_map a_constant (constant_of o)) ≡ Some s → OneScalar s
+constant-scalar (Some (a_constant v)) s h = value-scalar v s h
+constant-scalar None s h = absurd (cc)
+constant-scalar (Some (a_type t)) s h = absurd (cc)
+constant-scalar (Some (a_variable t)) s h = absurd (cc)
+constant-scalar (Some (a_procedure t)) s h = absurd (cc)
+constant-scalar (Some (a_standard t)) s h = absurd (cc)
+
+-- returns the meanings with constants only
+abbrev alone : TypeMeanings Name → Meanings Name Shape (Unit {0})
+alone m = constant_meanings m
+
+path-plain : (m : TypeMeanings Name) (t : Shape) (path : Tree Name (items selector)) (s : Shape) → OneScalar t → type_at (alone m) t path ≡ Some s → ids path ≡ marked (ids path)
+unfolding type_of
+path-plain m t end s scalar h = refl
+path-plain m integer_shape (more (field x) rest) s scalar h = absurd (cc)
+path-plain m boolean_shape (more (field x) rest) s scalar h = absurd (cc)
+path-plain m integer_shape (more (index e) rest) s scalar h =
+    let (j, ej, h₁) = then_some (type_of (alone m) e) (λ j. option_and_then (λ u. type_at (alone m) u rest) (element_type integer_shape j)) s h in
+    absurd (cc)
+path-plain m boolean_shape (more (index e) rest) s scalar h =
+    let (j, ej, h₁) = then_some (type_of (alone m) e) (λ j. option_and_then (λ u. type_at (alone m) u rest) (element_type boolean_shape j)) s h in
+    absurd (cc)
+path-plain m (array_shape k n u) (more a rest) s scalar h = absurd scalar
+path-plain m (record_shape k fs) (more a rest) s scalar h = absurd scalar
+
+mutual
+  unfolding type_of
+
+  expression-plain : (m : TypeMeanings Name) (e : Tree Name expression) (s : Shape) → type_of (alone m) e ≡ Some s → ids e ≡ marked (ids e)
+  expression-plain m (compares a none) s h = both mark_at (ids a) [] (simple-plain m a s h) refl
+  expression-plain m (compares a (one (relates r b))) s h =
+      let (x, ex, h₁) = then_some (type_of_simple (alone m) a) (λ x. option_and_then (relation_type r x) (type_of_simple (alone m) b)) s h in
+      let (y, ey, h₂) = then_some (type_of_simple (alone m) b) (relation_type r x) s h₁ in
+      both mark_at (ids a) (ids b) (simple-plain m a x ex) (simple-plain m b y ey)
+
+  simple-plain : (m : TypeMeanings Name) (a : Tree Name simple) (s : Shape) → type_of_simple (alone m) a ≡ Some s → ids a ≡ marked (ids a)
+  simple-plain m (sum sign t rest) s h =
+      let (x, ex, h₁) = then_some (type_of_term (alone m) t) (λ x. option_and_then (λ y. type_of_addends (alone m) y rest) (sign_type sign x)) s h in
+      let (y, ey, h₂) = then_some (sign_type sign x) (λ y. type_of_addends (alone m) y rest) s h₁ in
+      both mark_at (ids t) (ids rest) (term-plain m t x ex) (addends-plain m y rest s h₂)
+
+  addends-plain : (m : TypeMeanings Name) (x : Shape) (a : Tree Name (items addend)) (s : Shape) → type_of_addends (alone m) x a ≡ Some s → ids a ≡ marked (ids a)
+  addends-plain m x end s h = refl
+  addends-plain m x (more (adds o t) rest) s h =
+      let (y, ey, h₁) = then_some (type_of_term (alone m) t) (λ y. option_and_then (λ z. type_of_addends (alone m) z rest) (addition_type o x y)) s h in
+      let (z, ez, h₂) = then_some (addition_type o x y) (λ z. type_of_addends (alone m) z rest) s h₁ in
+      both mark_at (ids t) (ids rest) (term-plain m t y ey) (addends-plain m z rest s h₂)
+
+  term-plain : (m : TypeMeanings Name) (a : Tree Name term) (s : Shape) → type_of_term (alone m) a ≡ Some s → ids a ≡ marked (ids a)
+  term-plain m (product a rest) s h =
+      let (x, ex, h₁) = then_some (type_of_factor (alone m) a) (λ x. type_of_multipliers (alone m) x rest) s h in
+      both mark_at (ids a) (ids rest) (factor-plain m a x ex) (multipliers-plain m x rest s h₁)
+
+  multipliers-plain : (m : TypeMeanings Name) (x : Shape) (a : Tree Name (items multiplier)) (s : Shape) → type_of_multipliers (alone m) x a ≡ Some s → ids a ≡ marked (ids a)
+  multipliers-plain m x end s h = refl
+  multipliers-plain m x (more (multiplies o a) rest) s h =
+      let (y, ey, h₁) = then_some (type_of_factor (alone m) a) (λ y. option_and_then (λ z. type_of_multipliers (alone m) z rest) (multiplication_type o x y)) s h in
+      let (z, ez, h₂) = then_some (multiplication_type o x y) (λ z. type_of_multipliers (alone m) z rest) s h₁ in
+      both mark_at (ids a) (ids rest) (factor-plain m a y ey) (multipliers-plain m z rest s h₂)
+
+  factor-plain : (m : TypeMeanings Name) (a : Tree Name factor) (s : Shape) → type_of_factor (alone m) a ≡ Some s → ids a ≡ marked (ids a)
+  factor-plain m (designator x path) s h =
+      let (t, et, h₁) = then_some (object_type {P = Unit {0}} (option_map a_constant (constant_of (m.object_for x)))) (λ t. type_at (alone m) t path) s h in
+      ap (λ z. (role.LookedUp, x) ∷ z) (path-plain m t path s (constant-scalar (m.object_for x) t et) h₁)
+  factor-plain m (integer n) s h = refl
+  factor-plain m (parenthesised e) s h = expression-plain m e s h
+  factor-plain m (negation a) s h = let (x, ex, h₁) = then_some (type_of_factor (alone m) a) negation_type s h in factor-plain m a x ex
+
+constant-plain : (m : TypeMeanings Name) (e : Tree Name expression) (v : Value) → constant_value m e ≡ Some v → ids e ≡ marked (ids e)
+unfolding constant_value
+constant-plain m e v h =
+    let (s, es, h₁) = then_some (type_of (alone m) e) (λ s. outcome_value (evaluate {P = Unit {0}} (constant_meanings m) [] e)) v h in
+    expression-plain m e s es
+
+constants-plain : (env : TypeEnvironment Name) (cs : Tree Name (items constant)) (after : TypeEnvironment Name) → declare_constants naming_by_spelling env cs ≡ Some after → ids cs ≡ marked (ids cs)
+unfolding declare_constants
+constants-plain env end after h = refl
+constants-plain env (more (declares_constant x e) cs) after h =
+    let (v, ev, h₁) = then_some (constant_value (meanings naming_by_spelling env) e) (λ v. declare_constants naming_by_spelling ((x, a_constant v) ∷ env) cs) after h in
+    both mark_at ((role.Declaring, x) ∷ ids e) (ids cs) (ap (λ z. (role.Declaring, x) ∷ z) (constant-plain (meanings naming_by_spelling env) e v ev)) (constants-plain ((x, a_constant v) ∷ env) cs after h₁)
+
+constant_section-plain : (env : TypeEnvironment Name) (cs : Tree Name (maybe constants)) (after : TypeEnvironment Name) → declare_constants naming_by_spelling env (section_constants cs) ≡ Some after → ids cs ≡ marked (ids cs)
+constant_section-plain env none after h = refl
+constant_section-plain env (one (declares_constants cs)) after h = constants-plain env cs after h
+
+-- ---- written types: each declared field is rewritten
+
+further-marked : (k : ℕ) (ns : Tree Name (items further_name)) → identifiers role.FieldName (map_names (λ x. x) (every (Some k)) ns) ≡ marked (identifiers role.FieldName ns)
+further-marked k end = refl
+further-marked k (more (then_name x) rest) = ap (λ z. (role.FieldName, again x) ∷ z) (further-marked k rest)
+
+names-marked : (k : ℕ) (ns : Tree Name names) → identifiers role.FieldName (map_names (λ x. x) (every (Some k)) ns) ≡ marked (identifiers role.FieldName ns)
+names-marked k (listed x rest) = ap (λ z. (role.FieldName, again x) ∷ z) (further-marked k rest)
+
+mutual
+  unfolding denoted
+
+  type-marked : (m : TypeMeanings Name) (k : ℕ) (t : Tree Name written_type) (s : Shape) → denoted m k t ≡ Some s → ids (rename_fields_in_type every k t) ≡ marked (ids t)
+  type-marked m k (named_type x) s h = refl
+  type-marked m k (array_type e t) s h =
+      let (v, ev, h₁) = then_some (constant_value m e) (λ v. option_and_then (λ n. option_and_then (λ u. check_limits (array_shape k n u)) (denoted m (suc k) t)) (array_length v)) s h in
+      let (n, en, h₂) = then_some (array_length v) (λ n. option_and_then (λ u. check_limits (array_shape k n u)) (denoted m (suc k) t)) s h₁ in
+      let (u, eu, h₃) = then_some (denoted m (suc k) t) (λ u. check_limits (array_shape k n u)) s h₂ in
+      both mark_at (ids e) (ids t) (constant-plain m e v ev) (type-marked m (suc k) t u eu)
+  type-marked m k (record_type g rest) s h =
+      let (later, el, h₁) = then_some (denoted_groups m (suc k + group_constructor_count g) rest) (λ later. option_and_then (λ fs. check_limits (record_shape k fs)) (denoted_group m (suc k) later g)) s h in
+      let (fs, ef, h₂) = then_some (denoted_group m (suc k) later g) (λ fs. check_limits (record_shape k fs)) s h₁ in
+      both mark_at (ids g) (ids rest) (group-marked m k (suc k) later g fs ef) (groups-marked m k (suc k + group_constructor_count g) rest later el)
+
+  group-marked : (m : TypeMeanings Name) (r k : ℕ) (later : FieldShapes) (g : Tree Name fields) (fs : FieldShapes) → denoted_group m k later g ≡ Some fs → ids (rename_fields_in_group every r k g) ≡ marked (ids g)
+  group-marked m r k later no_fields fs h = refl
+  group-marked m r k later (some_fields ns t) fs h =
+      let (s, es, h₁) = then_some (denoted m k t) (λ s. Some (prepend_fields (map m.written (names_in_list ns)) s later)) fs h in
+      both mark_at (identifiers role.FieldName ns) (ids t) (names-marked r ns) (type-marked m k t s es)
+
+  groups-marked : (m : TypeMeanings Name) (r k : ℕ) (gs : Tree Name (items further_fields)) (fs : FieldShapes) → denoted_groups m k gs ≡ Some fs → ids (rename_fields_in_groups every r k gs) ≡ marked (ids gs)
+  groups-marked m r k end fs h = refl
+  groups-marked m r k (more (then_fields g) rest) fs h =
+      let (later, el, h₁) = then_some (denoted_groups m (k + group_constructor_count g) rest) (λ later. denoted_group m k later g) fs h in
+      both mark_at (ids g) (ids rest) (group-marked m r k later g fs h₁) (groups-marked m r (k + group_constructor_count g) rest later el)
+
+types-marked : (env : TypeEnvironment Name) (k : ℕ) (ds : Tree Name (items type_name)) (after : TypeEnvironment Name) → declare_types naming_by_spelling env k ds ≡ Some after → ids (rename_fields_in_types every k ds) ≡ marked (ids ds)
+unfolding declare_types
+types-marked env k end after h = refl
+types-marked env k (more (declares_type x u) ds) after h =
+    let (s, es, h₁) = then_some (denoted (meanings naming_by_spelling env) k u) (λ s. declare_types naming_by_spelling ((x, a_type s) ∷ env) (k + constructor_count u) ds) after h in
+    both mark_at ((role.Declaring, x) ∷ ids u) (ids ds) (ap (λ z. (role.Declaring, x) ∷ z) (type-marked (meanings naming_by_spelling env) k u s es)) (types-marked ((x, a_type s) ∷ env) (k + constructor_count u) ds after h₁)
+
+type_section-marked : (env : TypeEnvironment Name) (k : ℕ) (ts : Tree Name (maybe type_names)) (after : TypeEnvironment Name) → declare_types naming_by_spelling env k (section_types ts) ≡ Some after → ids (rename_fields_in_type_section every k ts) ≡ marked (ids ts)
+type_section-marked env k none after h = refl
+type_section-marked env k (one (declares_types ts)) after h = types-marked env k ts after h
+
+further_declared : (ns : Tree Name (items further_name)) → ids ns ≡ marked (ids ns)
+further_declared end = refl
+further_declared (more (then_name x) rest) = ap (λ z. (role.Declaring, x) ∷ z) (further_declared rest)
+
+names_declared : (ns : Tree Name names) → ids ns ≡ marked (ids ns)
+names_declared (listed x rest) = ap (λ z. (role.Declaring, x) ∷ z) (further_declared rest)
+
+variables-marked : (env : TypeEnvironment Name) (k : ℕ) (gs : Tree Name (items variable)) (after : TypeEnvironment Name) → declare_typed naming_by_spelling k gs env ≡ Some after → ids (rename_fields_in_variables every k gs) ≡ marked (ids gs)
+unfolding declare_typed
+variables-marked env k end after h = refl
+variables-marked env k (more (declares_variable ns u) gs) after h =
+    let (s, es, h₁) = then_some (denoted (meanings naming_by_spelling env) k u) (λ s. declare_typed naming_by_spelling (k + constructor_count u) gs (bind_names (names_in_list ns) (a_variable s) env)) after h in
+    both mark_at (ids ns ++ ids u) (ids gs) (both mark_at (ids ns) (ids u) (names_declared ns) (type-marked (meanings naming_by_spelling env) k u s es))
+    (variables-marked (bind_names (names_in_list ns) (a_variable s) env) (k + constructor_count u) gs after h₁)
+
+variable_section-marked : (env : TypeEnvironment Name) (k : ℕ) (vs : Tree Name (maybe variables)) (after : TypeEnvironment Name) → declare_typed naming_by_spelling k (section_variables vs) env ≡ Some after → ids (rename_fields_in_variable_section every k vs) ≡ marked (ids vs)
+variable_section-marked env k none after h = refl
+variable_section-marked env k (one (declares_variables vs)) after h = variables-marked env k vs after h
+
+section-marked : (m : TypeMeanings Name) (k : ℕ) (f : Tree Name section) (s : Shape) → denoted m k (section_type f) ≡ Some s → ids (rename_fields_in_section every k f) ≡ marked (ids f)
+section-marked m k (value_section ns u) s h = both mark_at (ids ns) (ids u) (names_declared ns) (type-marked m k u s h)
+section-marked m k (variable_section ns u) s h = both mark_at (ids ns) (ids u) (names_declared ns) (type-marked m k u s h)
+
+sections-marked : (env : TypeEnvironment Name) (k : ℕ) (fs : Tree Name (items further_section)) (ps : List (TypedParameter Name)) → typed_parameters naming_by_spelling env k fs ≡ Some ps → ids (rename_fields_in_sections every k fs) ≡ marked (ids fs)
+unfolding typed_parameters
+sections-marked env k end ps h = refl
+sections-marked env k (more (then_section f) fs) ps h =
+    let (s, es, h₁) = then_some (denoted (meanings naming_by_spelling env) k (section_type f)) (λ s. option_and_then (λ rest. Some (map (parameter_of (section_mode f) s) (section_names f) ++ rest)) (typed_parameters naming_by_spelling (bind_names (section_names f) (a_variable s) env) (k + constructor_count (section_type f)) fs)) ps h in
+    let (rest, er, h₂) = then_some (typed_parameters naming_by_spelling (bind_names (section_names f) (a_variable s) env) (k + constructor_count (section_type f)) fs) (λ rest. Some (map (parameter_of (section_mode f) s) (section_names f) ++ rest)) ps h₁ in
+    both mark_at (ids f) (ids fs) (section-marked (meanings naming_by_spelling env) k f s es)
+    (sections-marked (bind_names (section_names f) (a_variable s) env) (k + constructor_count (section_type f)) fs rest er)
+
+formals-marked : (env : TypeEnvironment Name) (k : ℕ) (fs : Tree Name (maybe formals)) (ps : List (TypedParameter Name)) → typed_parameters naming_by_spelling env k (formal_sections fs) ≡ Some ps → ids (rename_fields_in_formals every k fs) ≡ marked (ids fs)
+formals-marked env k none ps h = refl
+formals-marked env k (one no_formals) ps h = refl
+formals-marked env k (one (some_formals f fs)) ps h = sections-marked env k (more (then_section f) fs) ps h
+
+-- ---- blocks
+
+mutual
+  unfolding block_fits declare_first
+
+  block-marked : (env : TypeEnvironment Name) (k : ℕ) (b : Tree Name block) → block_fits naming_by_spelling env k b ≡ true → ids (rename_fields_in_block every env k b) ≡ marked (ids b)
+  block-marked env k (has_body (declares cs ts vs ps) statements) h =
+      let b : Tree Name block = has_body (declares cs ts vs ps) statements in
+      let (inner, e₁, e₂) = hold-true (option_and_then (declare_typed naming_by_spelling (constructor_after_types k b) (section_variables vs)) (declare_first naming_by_spelling env k b)) (λ inner. procedures_fit naming_by_spelling inner (constructor_after_variables k b) statements ps) h in
+      let (first, ef, e₃) = then_some (declare_first naming_by_spelling env k b) (declare_typed naming_by_spelling (constructor_after_types k b) (section_variables vs)) inner e₁ in
+      let (consts, ec, e₄) = then_some (declare_constants naming_by_spelling env (section_constants cs)) (λ env. declare_types naming_by_spelling env k (section_types ts)) first ef in
+      let later = subst (λ inner. ids (rename_fields_in_procedures every inner (constructor_after_variables k b) ps) ≡ marked (ids ps)) (sym (ap (λ o. unwrap_or o env) e₁)) (procedures-marked inner (constructor_after_variables k b) statements ps e₂) in
+      both mark_at (ids cs ++ (ids ts ++ (ids vs ++ ids ps))) (ids statements)
+      (both mark_at (ids cs) (ids ts ++ (ids vs ++ ids ps)) (constant_section-plain env cs consts ec)
+      (both mark_at (ids ts) (ids vs ++ ids ps) (type_section-marked consts k ts first e₄)
+      (both mark_at (ids vs) (ids ps) (variable_section-marked first (constructor_after_types k b) vs inner e₃) later)))
+      (body-marked _ statements)
+
+  procedures-marked : (env : TypeEnvironment Name) (k : ℕ) (statements : Tree Name (maybe body)) (ps : Tree Name (items procedure)) → procedures_fit naming_by_spelling env k statements ps ≡ true → ids (rename_fields_in_procedures every env k ps) ≡ marked (ids ps)
+  procedures-marked env k statements end h = refl
+  procedures-marked env k statements (more a rest) h =
+      let (qs, eqs, e₁) = hold-true (typed_parameters naming_by_spelling env k (procedure_formals a)) (λ qs. procedure_fits naming_by_spelling (bind_typed_parameters qs (bind_procedure (procedure_name a) qs env)) k a && procedures_fit naming_by_spelling (bind_procedure (procedure_name a) qs env) (k + procedure_constructor_count a) statements rest) h in
+      let split = both_true (procedure_fits naming_by_spelling (bind_typed_parameters qs (bind_procedure (procedure_name a) qs env)) k a) (procedures_fit naming_by_spelling (bind_procedure (procedure_name a) qs env) (k + procedure_constructor_count a) statements rest) e₁ in
+      let own = procedure-marked env (bind_typed_parameters qs (bind_procedure (procedure_name a) qs env)) k a qs eqs split.0 in
+      let others = procedures-marked (bind_procedure (procedure_name a) qs env) (k + procedure_constructor_count a) statements rest split.1 in
+      subst (λ qs. ids (rename_fields_in_procedure every (bind_typed_parameters qs (bind_procedure (procedure_name a) qs env)) k a) ++ ids (rename_fields_in_procedures every (bind_procedure (procedure_name a) qs env) (k + procedure_constructor_count a) rest) ≡ marked (ids a ++ ids rest))
+      (sym (ap (λ o. unwrap_or o []) eqs)) (both mark_at (ids a) (ids rest) own others)
+
+  procedure-marked : (before env : TypeEnvironment Name) (k : ℕ) (a : Tree Name (item procedure)) (ps : List (TypedParameter Name)) → typed_parameters naming_by_spelling before k (procedure_formals a) ≡ Some ps → procedure_fits naming_by_spelling env k a ≡ true
+      → ids (rename_fields_in_procedure every env k a) ≡ marked (ids a)
+  procedure-marked before env k (declares_procedure x fs b closing) ps h e =
+      ap (λ z. (role.Declaring, x) ∷ z) (both mark_at (ids fs) (ids b ++ ((role.ClosingName, closing) ∷ [])) (formals-marked before k fs ps h)
+      (both mark_at (ids b) ((role.ClosingName, closing) ∷ []) (block-marked env (constructor_after_formals k (declares_procedure x fs b closing)) b e) refl))
+
+module-marked : (m : Tree Name module_text) → fits_over naming_by_spelling m ≡ true → ids (rename_fields_in_module every m) ≡ marked (ids m)
+unfolding fits_over
+module-marked (is_module x b closing) h = ap (λ z. (role.ModuleName, x) ∷ z) (both mark_at (ids b) ((role.ModuleName, closing) ∷ []) (block-marked (outermost naming_by_spelling) 0 b h) refl)
+
+-- ---- the declarations of records have the same spelling, whatever is used for an unknown record
+
+abbrev by_record : FieldRenaming
+by_record = field_names_by_record (λ k x. again x)
+
+alike-names : (k : ℕ) (xs : List Name) → NamesAgree every by_record k xs
+alike-names k [] = tt
+alike-names k (x ∷ xs) = (refl, alike-names k xs)
+
+alike-records : (ts : List RecordFields) → RecordsAgree every by_record ts
+alike-records [] = tt
+alike-records (t ∷ ts) = (alike-names t.ordinal t.declared, alike-records ts)
+
+-- ---- by token
+
+longer : (f : List ℕ) → f ≡ 0 ∷ f → ⊥
+longer f h = let long : length f ≡ suc (length f) = ap length h in omega (arith, long)
+
+abbrev owner_writes : TextWithTokens → (ℕ → Option ℕ) → ℕ → Name
+owner_writes source table i = field_names_by_record (λ k x. again x) (table i) (text_at source i)
+
+-- holds if an identifier has an owner exactly if it is in the place of a field
+abbrev Matches : Role → Option ℕ → Type 0
+Matches role.FieldName None = ⊥
+Matches role.FieldName (Some k) = Unit {0}
+Matches _ None = Unit {0}
+Matches _ (Some k) = ⊥
+
+matched : (x : Name) (r : Role) (o : Option ℕ) → mark r x ≡ field_names_by_record (λ k x. again x) o x → Matches r o
+matched x role.FieldName None h = longer x (sym h)
+matched x role.FieldName (Some k) h = tt
+matched x role.Declaring None h = tt
+matched x role.Declaring (Some k) h = longer x h
+matched x role.LookedUp None h = tt
+matched x role.LookedUp (Some k) h = longer x h
+matched x role.ClosingName None h = tt
+matched x role.ClosingName (Some k) h = longer x h
+matched x role.ModuleName None h = tt
+matched x role.ModuleName (Some k) h = longer x h
+
+-- The identifiers with an owner are exactly the identifiers in the places of fields, if each identifier has an owner
+-- exactly if its role says that it is a field.
+listed_fields : (source : TextWithTokens) (table : ℕ → Option ℕ) (xs : List (ℕ × Option ℕ)) (ys : List (Role × ℕ)) → tokens xs ≡ names_without_roles ys → GivesListedOwners table xs
+    → map mark_at (map (beside_role (text_at source)) ys) ≡ map (beside_role (owner_writes source table)) ys → tokens_of (fields_with_owners xs) ≡ field_role_tokens ys
+listed_fields source table [] [] e has h = refl
+listed_fields source table [] (y ∷ ys) e has h = absurd (cc)
+listed_fields source table (x ∷ xs) [] e has h = absurd (cc)
+listed_fields source table ((i, o) ∷ xs) ((r, j) ∷ ys) e has h =
+    let same : i ≡ j = (heads e).0 in
+    let owners_in_tree : table j ≡ o = ap table (sym same) ∙ has.0 in
+    let written : mark r (text_at source j) ≡ owner_writes source table j = ap (λ z. z.1) (heads h).0 in
+    by_role r o same (matched (text_at source j) r o (written ∙ ap (λ o. field_names_by_record (λ k x. again x) o (text_at source j)) owners_in_tree))
+    (listed_fields source table xs ys (heads e).1 has.1 (heads h).1)
+  where
+    by_role : (r : Role) (o : Option ℕ) → i ≡ j → Matches r o → tokens_of (fields_with_owners xs) ≡ field_role_tokens ys → tokens_of (fields_with_owners ((i, o) ∷ xs)) ≡ field_role_tokens ((r, j) ∷ ys)
+    by_role role.FieldName (Some k) same m later = λ z. same z ∷ later z
+    by_role role.FieldName None same m later = absurd m
+    by_role role.Declaring None same m later = later
+    by_role role.Declaring (Some k) same m later = absurd m
+    by_role role.LookedUp None same m later = later
+    by_role role.LookedUp (Some k) same m later = absurd m
+    by_role role.ClosingName None same m later = later
+    by_role role.ClosingName (Some k) same m later = absurd m
+    by_role role.ModuleName None same m later = later
+    by_role role.ModuleName (Some k) same m later = absurd m
+
+pub fields_match_grammar-holds : FieldsMatchGrammar
+unfolding WellTyped
+fields_match_grammar-holds r named fits =
+    let m : ParsedModule = r.module_read in
+    let owners : List (Option ℕ) = with_owners r in
+    let has : GivesListedOwners (ordinal_in owners) (owners_in_resolution r) = fields_have-owners r named in
+    let by_table = listed_owners_are_complete-holds r owners named fits has (λ k x. again x) in
+    let written : marked (ids (named_tree_of m)) ≡ ids (mapped (owner_writes m.source (ordinal_in owners)) (value_at m.source) (tree_of m)) =
+    sym (module-marked (named_tree_of m) fits.1) ∙ (ap ids (module-alike every by_record (named_tree_of m) (alike-records (records (named_tree_of m))) fits.1) ∙ ap ids by_table) in
+    listed_fields m.source (ordinal_in owners) (owners_in_resolution r) (identifiers role.Declaring (tree_of m))
+    (module-tokens (meanings_by_token (declared_object (named_tree_of m)) r) (tree_of m)) has
+    (ap marked (sym (identifiers-mapped (text_at m.source) (value_at m.source) role.Declaring (tree_of m)))
+    ∙ (written ∙ identifiers-mapped (owner_writes m.source (ordinal_in owners)) (value_at m.source) role.Declaring (tree_of m)))

@@ -1,5 +1,0 @@
-use Rattle.ob0_types_fields.proofs.DeclaredWalks.{OverTypes}
-use Rattle.ob0_types_fields.proofs.declared.types.Given as goal
-
-abbrev pub invariant-loop-d : goal.invariant-loop-d
-invariant-loop-d l = OverTypes l.initial.made l.initial.found.items l.d-items l.d-index l.found.items l.made

@@ -1,0 +1,72 @@
+-- The lists of a module's fields, which are kept with the module.
+-- Rule: none; for contracts: fields in lists.
+use Rattle.std.specs.Prelude.{◌≡◌, ◌==◌, ◌+◌, ◌-◌, ◌^◌, ℕ, List, [], ◌∷◌, ◌++◌, length, min, nat_le, nat_lt, set, if◌then◌else◌}
+use Rattle.std.specs.List.{filter}
+use Rattle.ob0_scan.specs.declared.tokens.SameTokens.{SameTokens}
+use Rattle.ob0_tree.specs.Order.{AreAscending}
+use Rattle.ob0_tree.specs.ParsedModule.{tree_of}
+use Rattle.ob0_scope_table.specs.BodyReplaced.{moved_token_index}
+use Rattle.ob0_scope_table.specs.Resolution.{Resolution}
+use Rattle.ob0_types_table.specs.KnownTables.{Tables, declared_object_in}
+use Rattle.ob0_types_fields.specs.declared.field_name.FieldName.{FieldName}
+use Rattle.ob0_types_fields.specs.Identifiers.{declared_fields, field_identifiers, tokens_of}
+use Rattle.ob0_types_fields.specs.Owned.{fields_in_module, meanings_by_token}
+
+-- the identifiers of a module's fields: those that declare a field (`declared`), and all of them
+-- (`all`)
+pub record FieldLists : Type 0 where
+  pub declared : List FieldName
+  pub all : List FieldName
+
+-- returns the list `all` if a field is declared, otherwise an empty list
+abbrev pub all_if_declared : List FieldName → List FieldName → List FieldName
+all_if_declared declared all = if length declared == 0 then [] else all
+
+-- returns the lists that the code's walks make, given the table of the module's declarations
+abbrev pub field_lists_of : Tables → Resolution → FieldLists
+field_lists_of t r = record {
+  declared = declared_fields r.module_read;
+  all =
+      all_if_declared (declared_fields r.module_read)
+      (fields_in_module (meanings_by_token (declared_object_in t) r) (tree_of r.module_read));
+}
+
+-- holds if the two lists are those of the module: the identifiers that declare a field, and all
+-- field identifiers
+abbrev pub AreFieldListsOf : Resolution → FieldLists → Type 0
+AreFieldListsOf r f = (f.declared ≡ declared_fields r.module_read) × (f.all ≡ field_identifiers r)
+
+-- returns a list with its items from index `k` onwards overwritten by the items of another list
+abbrev pub overwritten_fields : List FieldName → ℕ → List FieldName → List FieldName
+overwritten_fields xs k [] = xs
+overwritten_fields xs k (y ∷ ys) = overwritten_fields (set xs k y) (k + 1) ys
+
+-- Holds if `all` consists of `before`, some old fields and `after`, in this order, and its tokens
+-- are in strictly ascending order. The old fields are at the same tokens as the fields in `others`.
+pub record HasOthersWithin (all before others after : List FieldName) : Type 0 where
+  pub old : List FieldName
+  pub top : ℕ
+  pub in_order : AreAscending 0 (tokens_of all) top
+  pub is : all ≡ before ++ (old ++ after)
+  pub same : tokens_of all ≡ tokens_of (before ++ (others ++ after))
+
+-- returns the fields of a list whose tokens come before a token
+abbrev pub fields_before : ℕ → List FieldName → List FieldName
+fields_before token xs = filter (λ x. nat_lt x.token token) xs
+
+-- returns the fields of a list whose tokens are at or after a token
+abbrev pub fields_from : ℕ → List FieldName → List FieldName
+fields_from token xs = filter (λ x. nat_le token x.token) xs
+
+-- returns the new index of a token after a change, if the change kept this token; at most 2^64 - 1
+abbrev pub new_token_index : SameTokens → ℕ → ℕ
+new_token_index s i = min (moved_token_index s i) (2 ^ 64 - 1)
+
+-- returns a field identifier with the new index of its token after a change
+abbrev pub moved_field : SameTokens → FieldName → FieldName
+moved_field s x = record { token = new_token_index s x.token; owner = x.owner }
+
+-- returns the old index of a token that lies after the changed tokens, given its new index; at most
+-- 2^64 - 1
+abbrev pub old_token_index : SameTokens → ℕ → ℕ
+old_token_index s i = min (i - s.new_suffix + s.old_suffix) (2 ^ 64 - 1)

@@ -1,0 +1,336 @@
+//! Lists of the fields of a module, and look-ups in these lists.
+//!
+//! `check` of `ob0_types` makes the lists once for each module. It walks the declarations first. If
+//! no field is declared, the walk over the whole module is skipped, because every selected field is
+//! declared (`fields_are_declared`). So a module without RECORD costs only the walk over its
+//! declarations. The laws about fields require that the module is well-typed.
+//!
+//! If some tokens of one body changed, but not the kinds of tokens, the body's fields are found
+//! again (`FieldList::with_changed_body`). They are at the same tokens as before, because the grammar
+//! determines which identifiers are fields (`fields_match_grammar`). So each replaces an old one, and no
+//! other field moves.
+//!
+//! If the statements of one body were replaced, perhaps by a different number of tokens, the body's
+//! fields are also found again (`FieldList::with_replaced_body`). The fields before the body are kept.
+//! The fields after it are moved to the new indexes of their tokens.
+//!
+//! A list doesn't contain its text, so it may be used with another text. A token that a text
+//! doesn't have gets the empty span at the text's start. So the clause of `FieldList::at` has a
+//! premise (`AreInTextOrder`), which a module's fields satisfy (`fields_ascend`).
+
+ghost use Rattle.std.specs.Prelude.{◌≡◌, ◌++◌, List, [], false, true, map, nat_lt, IfOk, OnOk};
+ghost use Rattle.std.specs.List.{position_from};
+ghost use Rattle.std.specs.List.Sorted.{IsNonDecreasingBy, IsPartitionPoint};
+ghost use Rattle.ob0_tree.specs.ParsedModule.{tree_of};
+ghost use Rattle.ob0_tree.specs.Places.{text_at};
+ghost use Rattle.ob0_tree.specs.View.{body_of};
+ghost use Rattle.ob0_language_names.specs.Names.{same_name};
+ghost use Rattle.ob0_types_table.specs.KnownTables.{declared_object_in};
+ghost use Rattle.ob0_types_fields.specs.declared.field_name.FieldName.{FieldName};
+ghost use Rattle.ob0_types_fields.specs.Identifiers.{AreInTextOrder, declared_fields, field_at_offset, first, field_tokens_of_record, tokens_of_field};
+ghost use Rattle.ob0_types_fields.specs.FieldLists.{HasOthersWithin, moved_field, fields_before, fields_from, all_if_declared, field_lists_of, old_token_index, new_token_index, overwritten_fields};
+ghost use Rattle.ob0_types_fields.specs.Owned.{fields_in_module, fields_in_tree, meanings_by_token};
+
+use crate::declaring::add_block_declared_fields;
+use crate::field_lookups::{
+    field_at_offset, first_token_of_field, position_in_record, tokens_of_field,
+};
+use crate::field_name::{FieldName, FieldNameList};
+use crate::field_walk::FieldWalk;
+use ob0_scan::{SameTokens, Tokens};
+use ob0_scope_table::{BodyPlace, Resolved};
+use ob0_tree::Statement;
+use ob0_types_table::DeclarationTable;
+use std::alloc::{AllocError, Global};
+use std::marker::Model;
+
+/// The field identifiers of a module, in text order: those that declare a field, and all of them.
+#[derive(Drop)]
+pub struct FieldList {
+    declared: FieldNameList,
+    all: FieldNameList,
+}
+
+impl Model for FieldList {
+    ghost use Rattle.ob0_types_fields.specs.FieldLists.{FieldLists};
+
+    ghost Value = { FieldLists };
+
+    ghost view = { λ f. record { declared = f.declared.items; all = f.all.items } };
+}
+
+impl FieldList {
+    /// Returns an empty list.
+    pub fn empty(alloc: Global) -> FieldList
+        ensures { result.all ≡ [] }
+    {
+        FieldList {
+            declared: Vec::new(alloc),
+            all: Vec::new(alloc),
+        }
+    }
+
+    /// Returns the lists of a module's fields, using the table of its declarations. If no field is
+    /// declared, both lists are empty, and the search for selected fields is skipped.
+    pub fn of<'a, 't>(
+        alloc: Global,
+        known: &'a DeclarationTable,
+        resolved: &'a Resolved<'t>,
+    ) -> Result<FieldList, AllocError>
+        ensures { IfOk result (λ f. f ≡ field_lists_of known.now resolved.now) }
+    {
+        let declared = declared_fields(alloc, resolved)?;
+        let all = all_fields(alloc, known, resolved, &declared)?;
+        Ok(FieldList { declared, all })
+    }
+
+    /// Returns the lists after tokens in the statements of one body changed, but not the number of
+    /// tokens. The fields that these statements select are found again and replace the old fields
+    /// at the same tokens.
+    pub fn with_changed_body<'a, 't>(
+        self,
+        alloc: Global,
+        known: &'a DeclarationTable,
+        resolved: &'a Resolved<'t>,
+        statements: &Option<Vec<Statement>>,
+    ) -> Result<FieldList, AllocError>
+        ensures declared { IfOk result (λ f. f.declared ≡ self.declared) }
+        ensures all { IfOk result (λ f. (before after : List FieldName)
+            → HasOthersWithin self.all before (fields_in_tree (meanings_by_token (declared_object_in known.now)
+            resolved.now) (body_of statements.now)) after
+            → f.all
+            ≡ before ++ (fields_in_tree (meanings_by_token (declared_object_in known.now) resolved.now)
+            (body_of statements.now) ++ after)) }
+    {
+        let FieldList { declared, mut all } = self;
+        let walk = FieldWalk { known, resolved };
+        let mut found = Vec::new(alloc);
+        walk.add_body_fields(&mut found, statements)?;
+        replace_at_tokens(&mut all, &found);
+        Ok(FieldList { declared, all })
+    }
+
+    /// Returns the lists after the statements of one body were replaced. `place` is the place of
+    /// the new body, and `same` has the unchanged tokens. Fields before the body's first identifier
+    /// are kept. Fields from the block's closing name onwards are moved to the new indexes of their
+    /// tokens, which are at most 2^64 - 1. The fields in the new statements are found by a walk.
+    pub fn with_replaced_body<'a, 't>(
+        self,
+        alloc: Global,
+        known: &'a DeclarationTable,
+        resolved: &'a Resolved<'t>,
+        statements: &Option<Vec<Statement>>,
+        place: BodyPlace,
+        same: SameTokens,
+    ) -> Result<FieldList, AllocError>
+        ensures declared { IfOk result (λ f. f.declared ≡ map (moved_field same) self.declared) }
+        ensures all { IfOk result (λ f. f.all
+            ≡ fields_before place.first self.all
+            ++ (fields_in_tree (meanings_by_token (declared_object_in known.now) resolved.now)
+            (body_of statements.now)
+            ++ map (moved_field same) (fields_from (old_token_index same place.closing) self.all))) }
+    {
+        let walk = FieldWalk { known, resolved };
+        let mut all = Vec::with_capacity(alloc, self.all.len())?;
+        add_before(&mut all, &self.all, place.first)?;
+        walk.add_body_fields(&mut all, statements)?;
+        add_moved(
+            &mut all,
+            &self.all,
+            old_token_index(place.closing, same),
+            same,
+        )?;
+        let mut declared = Vec::with_capacity(alloc, self.declared.len())?;
+        add_moved(&mut declared, &self.declared, 0, same)?;
+        Ok(FieldList { declared, all })
+    }
+
+    /// Returns the field identifier that contains a byte offset or ends there. Returns None if
+    /// there is none. `tokens` must be the tokens of the text that has these fields.
+    pub fn at(&self, tokens: &Tokens, offset: usize) -> Option<FieldName>
+        ensures { AreInTextOrder tokens.now self.now.all
+            → result ≡ field_at_offset tokens.now offset self.now.all }
+    {
+        field_at_offset(tokens, offset, &self.all)
+    }
+
+    /// Returns the tokens of the field `name` of the record with ordinal `owner`, in text order.
+    /// These are the identifier that declares the field and the identifiers that select it.
+    pub fn tokens(
+        &self,
+        alloc: Global,
+        tokens: &Tokens,
+        owner: usize,
+        name: &str,
+    ) -> Result<Vec<usize>, AllocError>
+        ensures { IfOk result
+            (λ found. found.items ≡ tokens_of_field tokens.now owner name.now self.now.all) }
+    {
+        tokens_of_field(alloc, tokens, &self.all, owner, name)
+    }
+
+    /// Returns the token that declares the field `name` of the record with ordinal `owner`. Returns
+    /// None if the record has no such field.
+    pub fn declaring_token_of(&self, tokens: &Tokens, owner: usize, name: &str) -> Option<usize>
+        ensures { result ≡ first (tokens_of_field tokens.now owner name.now self.now.declared) }
+    {
+        first_token_of_field(tokens, &self.declared, owner, name)
+    }
+
+    /// Returns the position, counted from 0, of the field `name` among the fields of the record
+    /// with ordinal `owner`. Returns None if the record has no such field.
+    pub fn index_in_record(&self, tokens: &Tokens, owner: usize, name: &str) -> Option<usize>
+        ensures { result
+            ≡ position_from (λ token. same_name (text_at tokens.now token) name.now) 0
+            (field_tokens_of_record owner self.now.declared) }
+    {
+        position_in_record(tokens, &self.declared, owner, name)
+    }
+}
+
+/// Replaces fields of a list by the fields in `found`, if both are at the same tokens and the
+/// replaced fields follow each other in the list.
+fn replace_at_tokens(all: &mut FieldNameList, found: &[FieldName])
+    ensures { (before after : List FieldName) → HasOthersWithin all.old.items before found.now after
+        → all.new.items ≡ before ++ (found.now ++ after) }
+{
+    match found.first() {
+        None => (),
+        Some(first) => {
+            let start = count_before(all, first.token);
+            overwrite_from(all, start, found);
+        }
+    }
+}
+
+/// Returns the number of fields whose tokens come before a token, in a list that is sorted by
+/// token.
+fn count_before(all: &[FieldName], token: usize) -> usize
+    ensures { IsNonDecreasingBy (λ x. x.token) all.now
+        → IsPartitionPoint (λ x. nat_lt x.token token ≡ true)
+        (λ x. nat_lt x.token token ≡ false) all.now result }
+{
+    all.partition_point(|field| field.token < token)
+}
+
+/// Overwrites fields of a list by the fields in `found`, starting at the index `start`. Fields that
+/// would lie after the end of the list are ignored.
+fn overwrite_from(all: &mut FieldNameList, start: usize, found: &[FieldName])
+    ensures { all.new.items ≡ overwritten_fields all.old.items start found.now }
+{
+    let mut place = start;
+    for field in found {
+        if place < all.len() {
+            all[place] = *field;
+            place += 1;
+        }
+    }
+}
+
+/// Returns the new index of a token after a change, if the change kept this token. The index is at most 2^64 - 1.
+fn new_token_index(token: usize, same: SameTokens) -> usize
+    ensures { result ≡ new_token_index same token }
+{
+    if token < same.prefix {
+        token
+    } else {
+        token
+            .saturating_sub(same.old_suffix)
+            .saturating_add(same.new_suffix)
+    }
+}
+
+/// Returns the old index of a token that lies after the changed tokens, given its new index. The
+/// result is at most 2^64 - 1.
+fn old_token_index(token: usize, same: SameTokens) -> usize
+    ensures { result ≡ old_token_index same token }
+{
+    token
+        .saturating_sub(same.new_suffix)
+        .saturating_add(same.old_suffix)
+}
+
+/// Appends the fields whose tokens come before a token.
+fn add_before(
+    found: &mut FieldNameList,
+    fields: &[FieldName],
+    token: usize,
+) -> Result<(), AllocError>
+    ensures { OnOk result (found.new.items ≡ found.old.items ++ fields_before token fields.now) }
+{
+    for field in fields {
+        if field.token < token {
+            found.push(*field)?;
+        }
+    }
+    Ok(())
+}
+
+/// Appends the fields whose tokens are at or after a token, with the new indexes of their tokens.
+fn add_moved(
+    found: &mut FieldNameList,
+    fields: &[FieldName],
+    token: usize,
+    same: SameTokens,
+) -> Result<(), AllocError>
+    ensures { OnOk result (found.new.items
+        ≡ found.old.items ++ map (moved_field same) (fields_from token fields.now)) }
+{
+    for field in fields {
+        if field.token >= token {
+            let moved = FieldName {
+                token: new_token_index(field.token, same),
+                owner: field.owner,
+            };
+            found.push(moved)?;
+        }
+    }
+    Ok(())
+}
+
+/// Returns the fields that a module declares, each with the ordinal of its record.
+fn declared_fields(alloc: Global, resolved: &Resolved<'_>) -> Result<FieldNameList, AllocError>
+    ensures { IfOk result (λ found. found.items ≡ declared_fields resolved.now.module_read) }
+{
+    let mut found = Vec::new(alloc);
+    let mut made = 0;
+    add_block_declared_fields(&mut found, &mut made, resolved.module().block())?;
+    Ok(found)
+}
+
+/// Returns all fields of the module. If `declared` is empty, returns an empty list without a walk
+/// over the module.
+fn all_fields<'a, 't>(
+    alloc: Global,
+    known: &'a DeclarationTable,
+    resolved: &'a Resolved<'t>,
+    declared: &[FieldName],
+) -> Result<FieldNameList, AllocError>
+    ensures { IfOk result (λ found. found.items
+        ≡ all_if_declared declared.now
+        (fields_in_module (meanings_by_token (declared_object_in known.now) resolved.now)
+        (tree_of resolved.now.module_read))) }
+{
+    if declared.is_empty() {
+        Ok(Vec::new(alloc))
+    } else {
+        find_fields(alloc, known, resolved)
+    }
+}
+
+/// Returns all fields of a module, in text order, found by a walk.
+fn find_fields<'a, 't>(
+    alloc: Global,
+    known: &'a DeclarationTable,
+    resolved: &'a Resolved<'t>,
+) -> Result<FieldNameList, AllocError>
+    ensures { IfOk result (λ found. found.items
+        ≡ fields_in_module (meanings_by_token (declared_object_in known.now) resolved.now)
+        (tree_of resolved.now.module_read)) }
+{
+    let walk = FieldWalk { known, resolved };
+    let mut found = Vec::new(alloc);
+    let mut made = 0;
+    walk.add_block_fields(&mut found, &mut made, resolved.module().block())?;
+    Ok(found)
+}

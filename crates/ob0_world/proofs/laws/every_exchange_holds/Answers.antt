@@ -1,5 +1,0 @@
-use Rattle.ob0_world.proofs.laws.every_exchange_holds.Goals as goal
-use Rattle.ob0_world.proofs.Exchanges as proof
-
-pub returns : goal.returns
-returns c = proof.every_exchange_holds

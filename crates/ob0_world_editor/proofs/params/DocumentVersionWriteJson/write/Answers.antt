@@ -1,7 +1,0 @@
-use Rattle.std.proofs.Common.{refl}
-use Rattle.std.proofs.lemmas.Result.{on_ok_weaker}
-use Rattle.ob0_rpc.proofs.Appending.{object_of}
-use Rattle.ob0_world_editor.proofs.params.DocumentVersionWriteJson.write.Goals as goal
-
-pub returns : goal.returns
-returns c = on_ok_weaker c.two_members.result (object_of _ _ _ _ _ refl refl) c.two_members.ensures
