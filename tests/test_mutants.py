@@ -138,11 +138,11 @@ def asked_of_trait() -> None:
 
 @test("mutants: a method is asked for, and named, in the module of its type")
 def asked_of_type() -> None:
-    found = [it for it in reading.Source("ob0_run_lowering").functions if it.name in ("locate_argument", "number_of")]
+    found = [it for it in reading.Source("ob0_run_lowering").functions if it.name in ("locate_argument", "number_or_zero")]
     same([it.file for it in found], ["src/expressions.rt"] * 2, "where they are")
-    same(sorted(it.checked_as for it in found), ["expressions::number_of", "scene::Scene::locate_argument"], "their names")
+    same(sorted(it.checked_as for it in found), ["expressions::number_or_zero", "scene::Scene::locate_argument"], "their names")
     named = {it.name: it.is_named("ob0_run_lowering::scene::Scene::locate_argument") for it in found}
-    same(named, {"locate_argument": True, "number_of": False}, "which of them is meant")
+    same(named, {"locate_argument": True, "number_or_zero": False}, "which of them is meant")
 
 
 # A crate of two functions and a type, and a mutant of one of them.

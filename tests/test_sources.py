@@ -151,8 +151,8 @@ def searches_find() -> None:
 
 # names that types of the code, and types or facts of the definitions, have in two files
 DOUBLED = {
-    "src": {"Seen"},
-    "specs": {"AreInOrder", "Begins", "IsDecided", "IsNew", "Place", "Publishes", "Renames", "Shows", "Target", "Visit"},
+    "src": set(),
+    "specs": {"AreInOrder", "IsNew", "Place", "Publishes", "WalkState"},
 }
 
 

@@ -25,7 +25,7 @@ PREDECLARED = {"INTEGER", "BOOLEAN", "TRUE", "FALSE", "Read", "Write", "WriteLn"
 @functools.lru_cache(None)
 def reserved() -> list[str]:
     """The reserved words, as the scanner has them."""
-    found = re.findall(r'Reserved::[A-Z][a-z]+ => "([A-Z]+)"', text_of("crates", "ob0_scan", "src", "lexeme.rt"))
+    found = re.findall(r'ReservedWord::[A-Z][a-z]+ => "([A-Z]+)"', text_of("crates", "ob0_scan", "src", "lexeme.rt"))
     return sorted(found)
 
 

@@ -35,11 +35,11 @@ Size = Tuple[int, int]  # how many words, and how many lines
 # ---- what isn't in the template
 
 # (what the second page unfolds last, though the theorem names it: what values of the code mean)
-LATE: list[Key] = [("ob0_world", "Code", name) for name in ("event_of", "played_edits", "all_made")]
+LATE: list[Key] = [("ob0_world", "Code", name) for name in ("event_of", "played_edits", "played_publications")]
 LATE += [("ob0_session", "Serving", name) for name in ("IsTaken", "UsesAllReads", "max_reads", "IsFlushedAfter")]
 LATER: list[Key] = [("ob0_scan", "Classes", name) for name in ("reserved_text", "symbol_text")]
 # (types of the code in them)
-LATER_TYPES = [("ob0_scan", "lexeme", "Reserved"), ("ob0_scan", "lexeme", "Symbol")]
+LATER_TYPES = [("ob0_scan", "lexeme", "ReservedWord"), ("ob0_scan", "lexeme", "Symbol")]
 # (where the part on edits begins)
 EDITS: list[Key] = [("ob0_world_rules", "Answers", name) for name in ("GivesEdits", "Refuses")]
 # (the parts of the second page, by the names that the template gives them)
