@@ -13,7 +13,7 @@ use Rattle.ob0_text.specs.declared.position_types.Unit.{Unit}
 use Rattle.ob0_tree.specs.Module.{ModuleOf}
 use Rattle.ob0_tree.specs.ParsedModule.{ParsedModule, named_tree_of}
 use Rattle.ob0_tree.specs.Tree.{Tree, module_text}
-use Rattle.ob0_layout.specs.Layout.{is_formatted_text, layout}
+use Rattle.ob0_layout.specs.Layout.{formatted_lexemes, layout}
 use Rattle.ob0_layout.specs.Gaps.{edit_content, edit_of, changed_gaps, all_gaps}
 use Rattle.ob0_layout.specs.LineRoles.{line_roles}
 use Rattle.ob0_text.specs.declared.refusals.EditRefusal.{EditRefusal}
@@ -30,18 +30,18 @@ ModuleStays =
     → (t : TextWithTokens) → IsScan t → t.text ≡ layout indent tree scan.lexemes → ModuleOf t tree
 
 -- If the formatted text isn't too long, it is a text of the same module.
-stays_module : (indent : Indent) (text : List ℕ) (m : IsWellTypedModule text) → IsUtf8 (layout_of indent m) → Lexed (layout_of indent m) (is_formatted_text indent m.tree m.text_of.scan.scan.lexemes)
+stays_module : (indent : Indent) (text : List ℕ) (m : IsWellTypedModule text) → IsUtf8 (layout_of indent m) → Lexed (layout_of indent m) (formatted_lexemes indent m.tree m.text_of.scan.scan.lexemes)
     → length (layout_of indent m) ≤ max_text → ModuleStays → IsTextOf m.tree (utf8 (chars (layout_of indent m)))
 stays_module indent text m u lexed short law =
     let laid : List ℕ = layout_of indent m in
-    let lexemes : List Lexeme = is_formatted_text indent m.tree m.text_of.scan.scan.lexemes in
+    let lexemes : List Lexeme = formatted_lexemes indent m.tree m.text_of.scan.scan.lexemes in
     let t : TextWithTokens = record { text = laid; tokens = tokens_from 0 lexemes; comments = comments_from 0 lexemes } in
     let scan : IsScan t = record { utf8 = u; short = short; lexemes = lexemes; lexed = lexed; tokens = refl; comments = refl } in
     record { scanned = t; scan = record { of = sym (encodes-chars laid u); scan = scan }; module_of = law indent m.text_of.scanned m.text_of.scan.scan m.tree m.text_of.module_of t scan refl }
 
 pub lays_out : (unit : Unit) (indent : Indent) (text : List ℕ) (edits : List Edit) (m : IsWellTypedModule (utf8 text)) → map edit_content edits ≡ layout_changes unit indent text m
     → patched (width_of unit) text edits ≡ Some (chars (layout_of indent m)) → length (layout_of indent m) ≤ max_text
-    → IsUtf8 (layout_of indent m) → Lexed (layout_of indent m) (is_formatted_text indent m.tree m.text_of.scan.scan.lexemes) → ModuleStays
+    → IsUtf8 (layout_of indent m) → Lexed (layout_of indent m) (formatted_lexemes indent m.tree m.text_of.scan.scan.lexemes) → ModuleStays
     → FormatsIn unit indent text edits
 lays_out unit indent text edits m changes made short u lexed law =
     let stays : IsTextOf m.tree (utf8 (chars (layout_of indent m))) = stays_module indent (utf8 text) m u lexed short law in
@@ -65,7 +65,7 @@ Made unit indent text edits m =
 pub formats : (unit : Unit) (indent : Indent) (text : List ℕ) (edits : List Edit) (names : Resolution) (m : ParsedModule) → m ≡ names.module_read
     → IsModuleIn (utf8 text) names → text ≡ chars names.module_read.source.text → Made unit indent text edits m
     → ((indent : Indent) (s : TextWithTokens) (scan : IsScan s) (tree : Tree (List ℕ) module_text) → IsUtf8 (layout indent tree scan.lexemes))
-    → ((indent : Indent) (s : TextWithTokens) (scan : IsScan s) (tree : Tree (List ℕ) module_text) → ModuleOf s tree → Lexed (layout indent tree scan.lexemes) (is_formatted_text indent tree scan.lexemes))
+    → ((indent : Indent) (s : TextWithTokens) (scan : IsScan s) (tree : Tree (List ℕ) module_text) → ModuleOf s tree → Lexed (layout indent tree scan.lexemes) (formatted_lexemes indent tree scan.lexemes))
     → ModuleStays → FormatsIn unit indent text edits
 formats unit indent text edits names m is h same made u lexed law =
     let w = is_module (utf8 text) names h in
@@ -92,7 +92,7 @@ pub formats_or_not : (unit : Unit) (indent : Indent) (text : List ℕ) (names : 
     → ((scan : IsScan m.source) → IsErrOf r TooLong → max_text < length (layout indent (named_tree_of m) scan.lexemes))
     → IfErr r (λ refusal. (refusal ≡ TooLong) ⊎ (refusal ≡ Memory)) → IfErr r (λ refusal. refusal ≡ Memory → ⊥)
     → ((indent : Indent) (s : TextWithTokens) (scan : IsScan s) (tree : Tree (List ℕ) module_text) → IsUtf8 (layout indent tree scan.lexemes))
-    → ((indent : Indent) (s : TextWithTokens) (scan : IsScan s) (tree : Tree (List ℕ) module_text) → ModuleOf s tree → Lexed (layout indent tree scan.lexemes) (is_formatted_text indent tree scan.lexemes))
+    → ((indent : Indent) (s : TextWithTokens) (scan : IsScan s) (tree : Tree (List ℕ) module_text) → ModuleOf s tree → Lexed (layout indent tree scan.lexemes) (formatted_lexemes indent tree scan.lexemes))
     → ModuleStays → IsFormatResult unit indent text r
 formats_or_not unit indent text names m (Ok edits) is h same changes short made long refusals other u lexed law =
     formats unit indent text edits.items names m is h same (changes, short, made) u lexed law

@@ -59,7 +59,7 @@ module _ (unchanged_result : ModuleStays) (lexed : LexemesStay) (good : LayoutIs
           changes = made.1;
           after = chars (layout_of indent m);
           made = layout_patches unit indent text s scan m.tree held made.0 made.1;
-          formatted_lexemes = encodes-chars (layout_of indent m) (good indent s scan m.tree);
+          is_formatted_text = encodes-chars (layout_of indent m) (good indent s scan m.tree);
           same_module = stays_module short;
           runs = record { old = m; new = record { tree = m.tree; text_of = stays_module short; well_typed = m.well_typed }; same = λ input c t. refl };
         },
