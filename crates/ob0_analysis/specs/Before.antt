@@ -1,4 +1,4 @@
--- The results for the previous text, which an analysis of the changed text reuses.
+-- States when an analysis of the changed text may reuse the analysis of the previous text.
 -- Rule: none; for private contracts: what an analysis takes over.
 use Rattle.std.specs.Prelude.{◌≡◌, ◌==◌, ℕ, true, IfSome, List, Option, map}
 use Rattle.ob0_scan.specs.Refused.{AreFaults}
@@ -25,10 +25,10 @@ use Rattle.ob0_analysis.specs.LastModule.{IsLastModuleOf}
 use Rattle.ob0_analysis.specs.declared.last_module.LastModule.{LastModule}
 use Rattle.ob0_analysis.specs.declared.fault_places.FaultPlaces.{FaultPlaces}
 
--- Holds if three things are true for some previous text `old`. The scan `c` of the changed text
+-- Holds if three things are true for a previous text `old`. The scan `c` of the changed text
 -- reports correctly which tokens both texts share. The procedures were parsed from the tokens of
 -- `old`, and also belong to the new tokens if the scan reports that all kinds are the same. If
--- `last` is Some, it has the results for the last module before `old`.
+-- `last` is Some, it has the names and types of the last module before `old`.
 pub record AreKeptBefore (c : RescanInPlace) (procedures : KeptTrees) (last : Option LastModule) : Type 0 where
   pub old : TextWithTokens
   pub new_scan : IsScan c.rescan.tokens
@@ -46,7 +46,7 @@ pub record AreFaultPlacesOf
   pub of_types : places.types.items ≡ map (fault_by_tokens source.tokens) types.faults.items
   pub front : places.front ≡ (first_token_start source == 0)
 
--- holds if `c` has the same bindings as `b`, and its faults are at these tokens of the text
+-- holds if `c` has the same bindings as `b`, and the faults of `c` are at these tokens of the text
 pub record HasFaultsAt
     (source : TextWithTokens) (b : Bindings) (places : List FaultByTokens) (c : Bindings) : Type 0 where
   pub ordinals : c.ordinals.items ≡ b.ordinals.items
@@ -54,7 +54,8 @@ pub record HasFaultsAt
   pub occurrences : c.occurrences.items ≡ b.occurrences.items
   pub faults : c.faults.items ≡ map (fault_at source) places
 
--- holds if `moved` has the same results as `types`, and its faults are at these tokens of the text
+-- holds if `moved` equals `types`, except that the faults of `moved` are at these tokens of the
+-- text
 pub record HasTypesAt
     (source : TextWithTokens) (types : ModuleTypes) (places : List FaultByTokens) (moved : ModuleTypes)
     : Type 0 where
@@ -63,8 +64,8 @@ pub record HasTypesAt
   pub faulty : moved.faulty ≡ types.faulty
   pub faults : moved.faults.items ≡ map (fault_at source) places
 
--- holds if this tree, these bindings and these results for types belong to the text, and the places
--- are the tokens of its faults
+-- holds if this tree, these bindings and this result of checking types belong to the text, and
+-- `places` has the tokens of the text's faults
 pub record IsModuleWithFaultPlaces
     (source : TextWithTokens) (tree : ModuleTree) (b : Bindings) (types : ModuleTypes)
     (places : FaultPlaces) : Type 0 where
@@ -73,9 +74,9 @@ pub record IsModuleWithFaultPlaces
   pub types_are : AreTypesOf (resolution_with (parsed_module source tree) b) types
   pub places_are : AreFaultPlacesOf source b types places
 
--- Holds if some previous text was a module with this tree, these bindings, these results for types
--- and faults at these places. The scan `c` of the changed text must report correctly which tokens
--- both texts share, and whether all kinds, all names or all spellings are the same.
+-- Holds if a previous text was a module with this tree, these bindings, this result of checking its
+-- types, and faults at these places. The scan `c` of the changed text must report correctly which
+-- tokens both texts share, and whether all kinds, all names or all spellings are the same.
 pub record IsModuleBefore
     (c : RescanInPlace) (tree : ModuleTree) (b : Bindings) (types : ModuleTypes)
     (places : FaultPlaces) : Type 0 where
@@ -91,8 +92,9 @@ pub record IsModuleBefore
   pub same_words : c.same_words ≡ true
       → words_of_tokens c.rescan.tokens.text c.rescan.tokens.tokens ≡ words_of_tokens old.text old.tokens
 
--- Holds if some previous text was a module with this tree, these bindings, these results for types
--- and faults at these places. Its tokens must have the same spelling as the tokens of `new`.
+-- Holds if a previous text was a module with this tree, these bindings, this result of checking its
+-- types, and faults at these places. The tokens of that text must have the same spelling as the
+-- tokens of `new`.
 pub record IsModuleWithSameSpelling
     (new : TextWithTokens) (tree : ModuleTree) (b : Bindings) (types : ModuleTypes) (places : FaultPlaces)
     : Type 0 where
@@ -101,9 +103,9 @@ pub record IsModuleWithSameSpelling
   pub alike : AreWrittenAlike old new
   pub parsed : IsParsed (parsed_module new tree)
 
--- Holds for lexical faults if they are the faults of the changed text, which can't be scanned. This
--- refusal, these procedures and this last module must belong to the old tokens that the failed scan
--- returns. Always holds for lack of memory.
+-- Holds for a scan that failed because of lexical faults if these are the faults of the changed
+-- text. The failed scan also returns the old tokens. This refusal, these procedures and this last
+-- module must belong to them. Always holds if the scan failed for lack of memory.
 abbrev pub IsFailureAfterRefusal : List ℕ
     → ParseRefusal
     → KeptTrees
@@ -118,9 +120,9 @@ IsFailureAfterRefusal text refusal procedures last (rescanned.Faults faults toke
     × IfSome last (IsLastModuleOf tokens)
 IsFailureAfterRefusal text refusal procedures last rescanned.Memory = Unit {0}
 
--- Holds for lexical faults if they are the faults of the changed text, which can't be scanned. This
--- tree, these bindings and these types must belong to the old tokens that the failed scan returns.
--- Always holds for lack of memory.
+-- Holds for a scan that failed because of lexical faults if these are the faults of the changed
+-- text. The failed scan also returns the old tokens. This tree, these bindings and these types must
+-- belong to them. Always holds if the scan failed for lack of memory.
 abbrev pub IsFailureAfterModule : List ℕ
     → ModuleTree
     → Bindings

@@ -30,9 +30,9 @@ abbrev pub text_of_outcome : ParseOutcome → List ℕ
 text_of_outcome (NoTree ill) = ill.tokens.text
 text_of_outcome (Module m) = m.module_read.source.text
 
--- Holds for a text without a tree if three conditions hold. The parser refuses its tokens with this
--- refusal. The kept procedures belong to its tokens. The kept results for the last module, if there
--- are any, are for the last module before this text. Always holds for a module.
+-- Holds for a text without a tree if three conditions hold. The parser refuses the text's tokens
+-- with this refusal. The kept procedures belong to these tokens. `last` is None, or it has the
+-- names and types of the last module before this text. Always holds for a module.
 abbrev pub IsValidOutcome : ParseOutcome → Type 0
 IsValidOutcome (NoTree ill) =
     IsRefusedByParser ill.tokens ill.refusal

@@ -14,9 +14,9 @@ use Rattle.ob0_types.specs.CheckedModules.{AreTypesOf}
 use Rattle.ob0_types.specs.declared.checked.ModuleTypes.{ModuleTypes}
 use Rattle.ob0_analysis.specs.declared.last_module.LastModule.{LastModule}
 
--- Holds if some earlier text was a module with this tree, these bindings and these results for
--- types. `s` must give tokens at the beginning and end of this text that have the same kinds and
--- spelling as the tokens at the beginning and end of the current text `new`.
+-- Holds if an earlier text was a module with this tree, these bindings and this result of checking
+-- its types. `s` says which tokens at the beginning and at the end of the earlier text also begin
+-- and end the current text `new`. These tokens must have the same kinds and spelling in both texts.
 pub record IsEarlierModule
     (new : TextWithTokens) (tree : ModuleTree) (b : Bindings) (types : ModuleTypes) (s : SameTokens)
     : Type 0 where
@@ -29,8 +29,8 @@ pub record IsEarlierModule
   pub same : HasSameTokens s old.tokens new.tokens
   pub written : HasSameWords s old new
 
--- holds if `last` has the results for an earlier text that was a module, and all tokens of this
--- text that may differ from `new` lie in its body at `last.place`
+-- holds if `last` has the names and types of an earlier text that was a module, and all tokens of
+-- the earlier text that may differ from `new` lie in its body at `last.place`
 pub record IsLastModuleOf (new : TextWithTokens) (last : LastModule) : Type 0 where
   pub tree : ModuleTree
   pub had : IsEarlierModule new tree last.bindings last.types last.same

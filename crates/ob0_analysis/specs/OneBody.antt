@@ -9,8 +9,8 @@ use Rattle.ob0_scope_table.specs.declared.resolved.Bindings.{Bindings}
 use Rattle.ob0_types.specs.declared.checked.ModuleTypes.{ModuleTypes}
 use Rattle.ob0_analysis.specs.LastModule.{IsEarlierModule}
 
--- holds if some earlier text was a module with this tree, these bindings and these results for
--- types, and its tokens have the same kinds as the tokens of `new`
+-- holds if an earlier text was a module with this tree, these bindings and this result of checking
+-- its types, and the tokens of that text have the same kinds as the tokens of `new`
 pub record IsEarlierModuleWithSameKinds
     (new : TextWithTokens) (tree : ModuleTree) (b : Bindings) (types : ModuleTypes) (s : SameTokens)
     : Type 0 where

@@ -57,8 +57,8 @@ use ob0_scan::{Fault, ScanRefusal, scan};
 use std::alloc::{AllocError, Global};
 use std::marker::Model;
 
-/// If half of the room in the lists of an old analysis exceeds the new text's length by more than
-/// this number of bytes, the old analysis is dropped.
+/// An old analysis is dropped if half of the room in its lists exceeds the new text's length by
+/// more than this number of bytes.
 const MAX_SPARE_BYTES: usize = 4096;
 
 /// The analysis of a text with lexical faults: the text, its faults, and the analysis of the last text that had
@@ -228,8 +228,8 @@ impl Analysis {
     }
 
     /// Returns the size of the analysis in bytes of text, as a measure of its memory. This is the
-    /// length of its text, or of the longest earlier text for which its lists have room. If the
-    /// text has lexical faults, both lengths are added.
+    /// length of its text or, if that is longer, of the earlier text for which its lists have room.
+    /// If the text has lexical faults, both lengths are added.
     pub fn size_in_bytes(&self) -> usize
         ensures { length self.now ≤ result }
     {

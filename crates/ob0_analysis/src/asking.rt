@@ -4,7 +4,7 @@
 //! is well-typed, `ask` passes the view of the well-typed module to the question. If the text isn't
 //! a well-typed module, `ask` returns None, and `diagnoses` of the same analysis gives the reason.
 //!
-//! A question is a struct with `impl Question`. This has the type `Answer` of its answers, the
+//! A question is a struct with `impl Question`. The impl has the type `Answer` of the answers, the
 //! function `answer`, and a ghost member `answers = { λ question names answer. .. }`, which is the
 //! contract of `answer`. If `answers` is about the characters of the text, it is an implication
 //! from `IsModuleIn (utf8 content) names` and `content ≡ chars names.module_read.source.text`. If a

@@ -96,7 +96,8 @@ fn extend_suffix(a: &[u8], b: &[u8], most: usize, known: usize, size: usize) -> 
     count
 }
 
-/// Returns true if both texts have `size` bytes at these places and the bytes are equal.
+/// Returns true only if both texts have `size` bytes at the byte offsets `in_a` and `in_b`, and
+/// these bytes are equal.
 fn is_same_piece(a: &[u8], b: &[u8], in_a: usize, in_b: usize, size: usize) -> bool
     ensures yes { result ≡ true → IsCommonPiece a.now b.now in_a in_b size }
 {

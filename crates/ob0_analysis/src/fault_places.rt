@@ -54,8 +54,8 @@ fn begins_with_token(tokens: &Tokens) -> bool
     token_span(tokens, 0).start == 0
 }
 
-/// Returns a module's bindings for a text whose tokens have the same spelling as the module's
-/// tokens. The spans of the faults are computed again, from the same tokens in that text.
+/// Adapts a module's bindings to a text whose tokens have the same spelling as the module's tokens.
+/// The spans of the faults are computed again, from the same tokens in that text.
 pub(crate) fn move_binding_faults(
     alloc: Global,
     tokens: &Tokens,
@@ -79,7 +79,7 @@ pub(crate) fn move_binding_faults(
     })
 }
 
-/// Returns a module's results for types for a text whose tokens have the same spelling as the
+/// Adapts the result of checking a module to a text whose tokens have the same spelling as the
 /// module's tokens. The spans of the faults are computed again, from the same tokens in that text.
 pub(crate) fn move_type_faults(
     alloc: Global,

@@ -1,4 +1,5 @@
-//! The results for the last text that was a module, while the parser refuses the texts after it.
+//! Keeps the names and types of the last text that was a module, while the parser refuses the texts
+//! after it.
 //!
 //! After most keystrokes in an unfinished statement the text has no tree. Meanwhile the names and
 //! types of the earlier module are kept, as long as all differences from it lie in one body, after
@@ -6,8 +7,8 @@
 //! only that body is bound and checked (`reuse_last_module`).
 //!
 //! The tree is dropped after the first text that the parser refuses, so the body can't be found
-//! again later. So the whole body counts as different from then on (`widen_to_body`), and any further
-//! change must lie in the same body (`after`).
+//! again later. So for all later texts the whole body counts as different (`widen_to_body`), and
+//! any further change must lie in the same body (`after`).
 
 ghost use Rattle.std.specs.Prelude.{◌≡◌, ◌≤◌, IfSome, Some};
 ghost use Rattle.ob0_analysis.specs.LastModule.{IsEarlierModule, WidensDifference, KeepsLastModule, IsLastModuleOf};
@@ -29,8 +30,8 @@ pub(crate) struct LastModule {
 }
 
 impl LastModule {
-    /// Returns the results for the previous module, if the tokens that differ lie in one of its bodies. Otherwise
-    /// returns None.
+    /// Keeps the names and types of the previous module if all tokens that differ lie in one of its
+    /// bodies. Otherwise returns None.
     pub(crate) fn of(
         tokens: &Tokens,
         tree: &ModuleTree,
@@ -52,8 +53,8 @@ impl LastModule {
         })
     }
 
-    /// Returns the results for the last module after a further change, if the differences still lie in the same body.
-    /// Otherwise returns None.
+    /// Keeps the names and types of the last module across a further change. Returns None if `last`
+    /// is None, or if the change doesn't lie in the body that contains all earlier differences.
     pub(crate) fn after(last: Option<LastModule>, change: SameTokens) -> Option<LastModule>
         ensures { KeepsLastModule last change result }
     {
@@ -63,8 +64,8 @@ impl LastModule {
         }
     }
 
-    /// Returns the results for the last module after a further change. Returns None if the change
-    /// doesn't lie in the body that contains all earlier differences.
+    /// Keeps the names and types of the last module across a further change. Returns None if the
+    /// change doesn't lie in the body that contains all earlier differences.
     fn keep_after(self, change: SameTokens) -> Option<LastModule>
         ensures { KeepsLastModule (Some self) change result }
     {
@@ -89,8 +90,9 @@ impl LastModule {
 }
 
 /// Extends the range of differences between two texts (`same`) to a whole body of the old text:
-/// from the token after its first identifier to the END of its block. Returns None if a difference
-/// lies outside this range, or if the range would end after the current text's `count` tokens.
+/// from the token after the body's first identifier up to the END of its block, without the END.
+/// Returns None if a difference lies outside this range, or if the range would end after the
+/// current text's `count` tokens.
 fn widen_to_body(same: SameTokens, body: BodyPlace, count: usize) -> Option<SameTokens>
     ensures { IfSome result (λ wider. WidensDifference same wider × (wider.new_suffix ≤ count)) }
 {

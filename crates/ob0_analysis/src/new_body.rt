@@ -1,5 +1,5 @@
-//! Binds names and checks types of a text in which the statements of one body were replaced. The
-//! results for the last module are reused outside this body.
+//! Binds names and checks types of a text in which the statements of one body were replaced.
+//! Outside this body, the names and types of the last module are reused.
 
 ghost use Rattle.std.specs.Prelude.{◌≡◌, true, IfOk};
 ghost use Rattle.ob0_tree.specs.ParsedModule.{IsParsed, parsed_module};
@@ -50,7 +50,7 @@ pub(crate) fn reuse_last_module(
 
 /// Returns true if the body of the earlier module (`was`) and the body of the current one (`now`)
 /// are at the same place: both begin at the same token, before the tokens that may differ, and both
-/// end at the same distance after these tokens.
+/// end at the same distance after these tokens. Returns false if `now` is None.
 fn is_same_body(was: BodyPlace, now: Option<BodyPlace>, same: SameTokens) -> bool
     ensures { result ≡ true → IsSameBody was now same }
 {

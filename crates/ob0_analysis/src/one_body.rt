@@ -53,7 +53,7 @@ pub(crate) fn rebind_names(
 }
 
 /// Checks the types of a text that has the same tree as the previous text. If the texts differ in
-/// only one body (`in_body`), the previous results for the rest are reused.
+/// only one body (`in_body`), the previous types outside this body are reused.
 pub(crate) fn recheck_types(
     alloc: Global,
     tokens: &Tokens,

@@ -38,9 +38,9 @@ use ob0_types::laws::types_depend_on_tokens;
 use std::alloc::{AllocError, Global};
 use std::marker::Model;
 
-/// A text that has lexemes and no tree. It is kept as its tokens and the parser's refusal, with procedures that the
-/// next parse can reuse. `last` has the results for the last text that was a module, if that text differs in only one
-/// body.
+/// A text that has lexemes and no tree. It is kept as its tokens and the parser's refusal, with
+/// procedures that the next parse can reuse. `last` has the names and types of the last text that
+/// was a module. It is None unless the two texts differ in only one body.
 #[derive(Drop)]
 pub(crate) struct UnparsableText {
     tokens: Tokens,
@@ -91,8 +91,8 @@ impl From<AllocError> for ReanalysisFailure {
 }
 
 impl ScannedText {
-    /// Parses and analyses a text, given its tokens. The procedures in `kept` and the results in
-    /// `last` come from earlier texts and are reused if possible.
+    /// Parses and analyses a text, given its tokens. The procedures in `kept` and the names and
+    /// types in `last` come from earlier texts and are reused if possible.
     pub(crate) fn parse_tokens(
         alloc: Global,
         tokens: Tokens,
@@ -118,8 +118,8 @@ impl ScannedText {
         }
     }
 
-    /// Binds the names and checks the types of a text that has this tree. The results for the last
-    /// module (`last`) are reused if there are any.
+    /// Binds the names and checks the types of a text that has this tree. If `last` is Some, the
+    /// names and types of the last module are reused.
     fn analyse_tree(
         alloc: Global,
         tokens: Tokens,
@@ -220,7 +220,7 @@ impl ScannedText {
 
     /// Analyses a changed and scanned text if the parser refused the previous text. If all tokens
     /// have the same kinds as before, the refusal is kept. Otherwise the text is parsed, and the
-    /// kept procedures and the results for the last module are reused if possible.
+    /// kept procedures and the names and types of the last module are reused if possible.
     fn reanalyse_refused(
         alloc: Global,
         changed: RescanInPlace,
@@ -405,8 +405,8 @@ impl ScannedText {
         Ok(ScannedText::from_module(parts))
     }
 
-    /// Analyses a text whose tokens have the same spelling as the previous text's. All results are kept, with the
-    /// faults at the same tokens.
+    /// Analyses a text whose tokens have the same spelling as the previous text's. The tree,
+    /// bindings and types are kept, and the faults are moved to the same tokens.
     fn reanalyse_same_words(
         alloc: Global,
         tokens: Tokens,

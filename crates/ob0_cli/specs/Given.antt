@@ -14,7 +14,8 @@ use Rattle.ob0_cli.specs.declared.line.CommandLine.TheVariants.{Serve, Check, Ru
 use Rattle.ob0_cli.specs.declared.line.CommandFault.{CommandFault}
 use Rattle.ob0_cli.specs.declared.line.CommandFault.TheVariants.{Refused, Memory}
 
--- The subcommand that was found, with the values of its arguments, or None.
+-- The subcommand that was found, with the values of its arguments, or None if no subcommand was
+-- found.
 abbrev pub FoundCommand : Type 0
 FoundCommand = Option (Text × List Row)
 
@@ -56,8 +57,8 @@ abbrev pub YieldsCommandLine : FoundCommand → CommandLine → Type 0
 YieldsCommandLine found line =
     (name : Text) × (rows : List Row) × (found ≡ Some (name, rows)) × HasFoundValues name rows line
 
--- Holds if the words have no fault by clap's definition of `ob0`, and this command line is their
--- subcommand with its values.
+-- Holds if clap's definition of `ob0` finds no fault in the words, and this command line is the
+-- subcommand that they request, with its values.
 pub record SpellsCommand (words : List Text) (line : CommandLine) : Type 0 where
   pub fine : fault_of ob0_app words ≡ []
   pub read : YieldsCommandLine (subcommand_of ob0_app words) line
@@ -93,7 +94,8 @@ abbrev pub HasCoordinateValue : Text → List Row → Type 0
 HasCoordinateValue id rows =
     (text : Text) × (one_of id rows ≡ Some text) × IsUnsignedIn 0 18446744073709551615 text
 
--- Holds if each argument that the subcommand with this name needs has a value of its kind.
+-- Holds if the subcommand with this name has a value of the right kind for each argument that it
+-- needs.
 abbrev pub HasNeededValues : Text → List Row → Type 0
 HasNeededValues name rows = (name ≡ codes "serve") ⊎ ((name ≡ codes "check") × HasTextValue (codes "file") rows)
     ⊎ ((name ≡ codes "run")
@@ -106,7 +108,8 @@ HasNeededValues name rows = (name ≡ codes "serve") ⊎ ((name ≡ codes "check
     × HasCoordinateValue (codes "column") rows
     × HasTextValue (codes "name") rows)
 
--- Holds if a subcommand was found, and each argument that it needs has a value of its kind.
+-- Holds if a subcommand was found, and it has a value of the right kind for each argument that it
+-- needs.
 abbrev pub IsCompleteCommand : FoundCommand → Type 0
 IsCompleteCommand found =
     (name : Text) × (rows : List Row) × (found ≡ Some (name, rows)) × HasNeededValues name rows

@@ -1,4 +1,4 @@
--- Defines the command line of `ob0`, as a value of clap's definition of commands.
+-- Defines the commands of `ob0` and their arguments, as values of clap's definition of commands.
 -- Rule: docs/PROTOCOL.md, The program; clap's definition of a command line.
 use Rattle.std.specs.Prelude.{[], ◌∷◌, ℕ, pos, true, Some, codes}
 use Rattle.clap.specs.Words.{App, Rule, Text, new_app, new_rule, with_rule, with_subcommand}

@@ -1,17 +1,20 @@
 //! Reads the command line.
 //!
 //! To add a subcommand, write:
-//! - an `App` in `specs/Lines.antt`, and a case of `HasFoundValues`, `HasFilePath` and `HasNeededValues`;
-//! - in `proofs/Named.antt` a `.._fits` and a `.._needs`, by `refl` under `unfolding clap_on_literals nth`;
-//! - if the `App` has several arguments, a line for each in the answers of its definition. `add_argument` adds the arguments
-//!   one after another, and needs each argument's clause `own` (`global ≡ false`).
+//! - an `App` in `specs/Lines.antt`, and a case of `HasFoundValues`, `HasFilePath` and
+//!   `HasNeededValues`;
+//! - in `proofs/Named.antt` a `.._fits` and a `.._needs`, by `refl` under
+//!   `unfolding clap_on_literals nth`;
+//! - if the `App` has several arguments, a line for each in the answers of its definition.
+//!   `add_argument` adds the arguments one after another, and needs each argument's clause `own`
+//!   (`global ≡ false`).
 //!
 //! Only the `App` of `serve` and `serve_definition` mention the options of `serve`.
 //!
 //! Traps: if a function takes a `&str`, no `ghost` clause can depend on it. So the bound of a
-//! number is a function of its name (`max_option_value`). A local named `run` is `run'` in the answers of
-//! proofs. A `where` block needs every `_` written out. Help texts are constants of at most 80
-//! columns, one for each command: a test counts the columns.
+//! number is a function of its name (`max_option_value`). A local named `run` is `run'` in the
+//! answers of proofs. A `where` block needs every `_` written out. Help texts are constants of at
+//! most 80 columns, one for each command: a test counts the columns.
 
 ghost use Rattle.std.specs.Prelude.{◌≡◌, ◌≢◌, ◌≤◌, Some, false, true, IfOk, IfErr, MatchOption, map};
 ghost use Rattle.clap.specs.Words.{App, Rule, app_of, first_of, found_of, new_app, rows_of, rule_of, subcommand_rows_of, with_rule, with_subcommand};
@@ -171,7 +174,8 @@ pub enum CommandFault {
     Memory,
 }
 
-/// Reads the words of a command line. The first word is the program's name.
+/// Returns the command that the words of a command line request, or the reason why they request no
+/// command. The first word is the program's name.
 pub fn command<'a>(alloc: Global, words: &'a [&'a str]) -> Result<CommandLine<'a>, CommandFault>
     ensures gives { IfOk result (SpellsCommand (map (λ w. w.now) words.entry.now)) }
     ensures refuses { IfErr result (RefusesWords (map (λ w. w.now) words.entry.now)) }
@@ -272,7 +276,8 @@ fn coordinate_value_of(given: &ArgMatches<'_>, id: &str) -> u64
     }
 }
 
-/// Makes clap's definition of `ob0`: four subcommands, of which one is required. clap adds `help`.
+/// Makes clap's definition of `ob0`: four subcommands, one of which must be given. clap adds
+/// `help`.
 fn ob0_definition<'a>(alloc: Global) -> Result<Command<'a>, AllocError>
     ensures { IfOk result (λ c. app_of c ≡ ob0_app) }
 {
@@ -323,7 +328,8 @@ fn program_without_subcommands<'a>(alloc: Global) -> Command<'a>
         .subcommand_required(true)
 }
 
-/// Makes a command without arguments, with the texts that help prints before and after them.
+/// Makes a command without arguments. The help begins with the text `about` and ends with the text
+/// `notes`.
 fn command_with_help<'a>(
     alloc: Global,
     name: &'a str,
@@ -343,7 +349,7 @@ fn serve_definition<'a>(alloc: Global) -> Result<Command<'a>, AllocError>
     add_argument(with_stdio, client_argument(alloc))
 }
 
-/// Makes the subcommand `serve` without its options. Each of them may be given several times.
+/// Makes the subcommand `serve` without its options. Each option may be given several times.
 fn serve_without_options<'a>(alloc: Global) -> Command<'a>
     ensures { app_of result ≡ serve_lines_alone }
 {

@@ -74,9 +74,10 @@ RenamesInFile contents is_flushed has_failed before after StderrLines file posit
     status
     ⊎ EndsByFault has_failed before after file (StopsPrintingFaults file) StderrLines status
 
--- Holds if the command of this line ends with this status, as `ChecksFile`, `RunsFile` or
--- `RenamesInFile` says. Only `run` reads from the input: at most one byte over the limit, and
--- nothing if the file isn't a well-typed module. `serve` isn't a command on a file.
+-- Holds if the command of this command line ends with this status, as `ChecksFile`, `RunsFile` or
+-- `RenamesInFile` says. Only `run` reads from the input: at most one byte over the limit
+-- `max_input`, and nothing if the file isn't a well-typed module. Never holds for `serve`, which
+-- isn't a command on a file.
 abbrev pub PerformsOnFile : {O I : Type 0}
     → (contents : O → Option (List ℕ))
     → (is_flushed has_failed : O → Bool)

@@ -1,10 +1,11 @@
 -- Defines how a command on a file ends: its status, its output and its lines on standard error.
--- After status 0 or 1 the file is UTF-8 or too long, and neither the output nor the input has
--- failed in the call. Any other status belongs to a fault that has a reason (`StopsPrintingFaults`,
--- `StopsRunning`). A run is printed only if its input is a list of numbers (`IsInputOf`); status 5
--- may occur with any input. `decode_text` allocates nothing, so 5 occurs only for a file that isn't too
--- long (`AllocatesOnlyIfShort`). Each command prints after its last allocation. So a fault other than
--- `Write` leaves the output unchanged (`PrintsNothingUnlessWrite`).
+-- If the status is 0 or 1, the file is UTF-8 or too long, and neither the output nor the input has
+-- failed in the call. Any other status is the status of a fault. `StopsPrintingFaults` and
+-- `StopsRunning` state the reason for the fault. A run is printed only if its input is a list of
+-- numbers (`IsInputOf`); status 5 may occur with any input. `decode_text` allocates nothing, so 5
+-- occurs only for a file that isn't too long (`AllocatesOnlyIfShort`). Each command prints after
+-- its last allocation. So a fault other than `Write` leaves the output unchanged
+-- (`PrintsNothingUnlessWrite`).
 -- Rule: docs/PROTOCOL.md, The program 5 to 8.
 use Rattle.std.specs.Prelude.{◌≡◌, ◌≤◌, ℕ, List, Option, Some, Bool}
 use Rattle.ob0_commands.specs.Printed.{fault_line}
@@ -19,9 +20,9 @@ pub record EndsWithoutFault (Good Other Both : Type 0) (status : ℕ) : Type 0 w
   pub other : status ≡ 1 → Other
   pub both : Both
 
--- Holds if a fault for which `Stops` holds ends the command, the status is the fault's, and the
--- fault's line is printed on standard error (`StderrLines`). The output is unchanged, unless the fault is
--- `Write`.
+-- Holds if a fault ends the command. `Stops` holds for the fault, the command's status is the
+-- fault's status, and the fault's line is printed on standard error (`StderrLines`). The output is
+-- unchanged, unless the fault is `Write`.
 pub record EndsByFault {O : Type 0} (has_failed : O → Bool) (before after : O) (file : List ℕ)
     (Stops : FileFault → Type 0) (StderrLines : Option (List ℕ) → Type 0) (status : ℕ) : Type 0 where
   pub why : FileFault

@@ -8,7 +8,7 @@ use Rattle.ob0_commands.specs.declared.tracked_output.TrackedWriter.{TrackedWrit
 abbrev pub wrapped_writer : {W : Type 0} → TrackedWriter W → W
 wrapped_writer output = output.device
 
--- Returns true if a flush has succeeded since the last write of some bytes.
+-- Returns true if a flush has succeeded since the last write of at least one byte.
 abbrev pub has_flushed : {W : Type 0} → TrackedWriter W → Bool
 has_flushed output = output.has_flushed
 

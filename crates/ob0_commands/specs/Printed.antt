@@ -62,8 +62,7 @@ too_long_line = complaint_line_at (record { line = 0; character = 0 }) too_long_
 
 -- Holds if the output grows by the lines of a file's errors. If the file has more bytes than a text
 -- may have, that is one line. Otherwise the text isn't a well-typed module, and each diagnostic has
--- a line. If the output's bytes aren't known, only the errors of the file are required, not their
--- lines.
+-- a line. If the output's bytes aren't known, this holds for any output, if the file has errors.
 abbrev pub PrintsFaults : List ℕ → Option (List ℕ) → Option (List ℕ) → Type 0
 PrintsFaults file before after =
     ((max_text < length file) × Appends before after too_long_line)

@@ -46,8 +46,8 @@ abbrev pub PrintsRefusal : Result (Vec Edit Global) EditRefusal
 PrintsRefusal (Ok edits) StderrLines = ⊥
 PrintsRefusal (Err refusal) StderrLines = StderrLines (Some (refusal_line refusal))
 
--- Holds if the file has a text, some edits rename the declaration at the position to the new name,
--- and the edited text is printed. Positions count UTF-16 units.
+-- Holds if the file has a text, the edits `edits` rename the declaration at the position to the new
+-- name, and the edited text is printed. Positions count UTF-16 units.
 pub record PrintsRenamed (file : List ℕ) (position : Position) (new : List ℕ)
     (before after : Option (List ℕ)) : Type 0 where
   pub has_text : IsTextFile file
@@ -65,8 +65,8 @@ pub record RefusesName (file : List ℕ) (position : Position) (new : List ℕ)
   pub nothing : after ≡ before
   pub said : StderrLines (Some (refusal_line refusal))
 
--- Holds if the file's errors are printed on the output and nothing on standard error, or if the
--- name is refused.
+-- Holds if the file's errors are printed on the output and nothing is printed on standard error, or
+-- if the name is refused (`RefusesName`).
 abbrev pub PrintsErrorsOrRefusal : List ℕ
     → Position
     → List ℕ
@@ -79,8 +79,8 @@ PrintsErrorsOrRefusal file position new before after StderrLines =
     ⊎ RefusesName file position new before after StderrLines
 
 -- Holds if `rename` ends with this status. 0: the text with the new name is printed and flushed,
--- and nothing on standard error. 1: the file's errors are printed or the name is refused, and any
--- output is flushed.
+-- and nothing is printed on standard error. 1: the file's errors are printed or the name is
+-- refused, and any output is flushed.
 abbrev pub RenameEndsWithoutFault : {O : Type 0}
     → (contents : O → Option (List ℕ))
     → (is_flushed : O → Bool)

@@ -58,20 +58,20 @@ run_end_status end.InputEnd = 1
 run_end_status end.CallBound = 1
 run_end_status end.TurnBound = 1
 
--- Holds if the output's failure matches the fault. After `Write` the output has failed. After any
--- other fault it has failed exactly if it had failed before.
+-- Holds if the output's failure matches the fault. If the fault is `Write`, the output has failed.
+-- For any other fault, the call didn't change whether the output has failed.
 abbrev pub OutputFailureMatches : (before after : Bool) → FileFault → Type 0
 OutputFailureMatches before after f =
     (f ≡ fault.Write → after ≡ true) × (f ≢ fault.Write → after ≡ before)
 
 -- ---- runs
 
--- Holds if the file is a well-typed module, but there are no numbers to run it on: the input has
--- failed or isn't a valid list.
+-- Holds if the file is a well-typed module, but there are no numbers to run it on. The input has
+-- failed, or isn't a list of numbers, or is too long.
 abbrev pub ModuleLacksInput : List ℕ → Option (List ℕ) → (input_failed : Bool) → Type 0
 ModuleLacksInput file given input_failed = IsWellTypedModule file × IsUnusableInput given input_failed
 
--- Holds if the input has failed exactly if it had failed before, or the fault is `Input`.
+-- Holds if the fault is `Input`, or if the call didn't change whether the input has failed.
 abbrev pub InputFailureMatches : (before after : Bool) → FileFault → Type 0
 InputFailureMatches before after f = f ≢ fault.Input → after ≡ before
 

@@ -1,14 +1,15 @@
 -- Defines the lines that the commands print on standard error, in bytes of UTF-8. `EndsByFault`,
--- `PrintsStoppedRun` and `RefusesName` have a parameter for `PrintsLine`, as a function of the line. So the
--- printed line belongs to the same fault, run or refusal as the status and the output.
+-- `PrintsStoppedRun` and `RefusesName` have a parameter `StderrLines`, which says of a line that it
+-- is printed (`PrintsLine`). So the printed line belongs to the same fault, run or refusal as the
+-- status and the output.
 -- Rule: docs/PROTOCOL.md, The program 2, 3, 5, 6 and 7.
 use Rattle.std.specs.Prelude.{◌≡◌, ◌++◌, ℕ, List, Option, Some, None, Bool, true, false, codes}
 use Rattle.std.specs.Io.KnownBytes.{Appends}
 use Rattle.ob0_text.specs.RefusalTexts.{refusal_text}
 use Rattle.ob0_text.specs.declared.refusals.EditRefusal.{EditRefusal}
 
--- Holds if this line is printed and flushed on standard error, or the writer has failed. For None
--- it holds if the writer is unchanged.
+-- Holds if this line is printed and flushed on standard error, or the writer has failed. For None,
+-- holds if the writer is unchanged.
 abbrev pub PrintsLine : {E : Type 0}
     → (contents : E → Option (List ℕ))
     → (is_flushed has_failed : E → Bool)

@@ -28,11 +28,11 @@ const MAX_INPUT: usize = 16_777_216;
 
 /// A reader that remembers whether it has failed.
 pub trait Input: Read {
-    // Returns true if a call of `read_tracked` has failed.
+    // Returns true if a call of `read_noting_failure` has failed.
     ghost has_failed: { Self → Bool };
 
-    /// Reads some bytes into the buffer. If that fails, the failure is remembered.
-    fn read_tracked(&mut self, buf: &mut [u8]) -> io::Result<usize>
+    /// Reads bytes into the buffer and returns how many. A failure is remembered.
+    fn read_noting_failure(&mut self, buf: &mut [u8]) -> io::Result<usize>
         ensures bound { ReadsAtMost result buf.new }
         ensures bytes { ReadConsumes
             (Self.remaining self.old) (Self.remaining self.new) result buf.new }
@@ -47,7 +47,7 @@ pub struct TrackedReader<R> {
 }
 
 impl<R> TrackedReader<R> {
-    /// Wraps a reader. It counts as not failed.
+    /// Wraps a reader, which counts as not failed.
     pub fn new(device: R) -> TrackedReader<R>
         ensures device { wrapped_reader result ≡ device }
         ensures works { input_failed result ≡ false }
@@ -81,7 +81,7 @@ impl<R: Read> Read for TrackedReader<R> {
 impl<R: Read> Input for TrackedReader<R> {
     ghost has_failed = { λ input. input_failed input };
 
-    fn read_tracked(&mut self, buf: &mut [u8]) -> io::Result<usize> {
+    fn read_noting_failure(&mut self, buf: &mut [u8]) -> io::Result<usize> {
         self.read(buf)
     }
 }
@@ -142,7 +142,7 @@ fn read_up_to<R: Input>(
     let mut piece = [0u8; PIECE_SIZE];
     while bytes.len() < most {
         let wanted = (most - bytes.len()).min(PIECE_SIZE);
-        let Ok(count) = reader.read_tracked(&mut piece[..wanted]) else {
+        let Ok(count) = reader.read_noting_failure(&mut piece[..wanted]) else {
             return Err(fault);
         };
         if count == 0 {

@@ -3,9 +3,9 @@
 //! `rename_text` analyses the text once. The renaming uses that analysis (`rename_edits` of
 //! `ob0_edits`). If the text isn't a well-typed module, the diagnostics of the same analysis are
 //! printed, with `decode_text` and `print_diagnoses` as in `check_file`. `rename_utf8_text` does the work
-//! after the test for UTF-8. It is a separate function because its proof needs a `&str`: the
-//! contract of `rename_edits` is about the characters of a text, and that of `diagnoses` is about its
-//! bytes.
+//! after the test for UTF-8. It is a separate function because its proof needs a `&str`. The
+//! contract of `rename_edits` is about the characters of a text, and the contract of `diagnoses` is
+//! about its bytes.
 
 ghost use Rattle.std.specs.Prelude.{◌≡◌, true, IfOk, IfErr, OnErr};
 ghost use Rattle.ob0_commands.specs.Endings.{EndsWithoutFault};

@@ -144,8 +144,8 @@ fn lower_text<O: Output>(
     }
 }
 
-/// Runs the program that a text is lowered to, with this input and these bounds on calls and turns.
-/// Only the contract uses `text`.
+/// Runs the program that a text is lowered to, on this input. `calls` bounds the open calls, and
+/// `turns` the iterations of each loop. Only the contract uses `text`.
 fn execute_module(
     alloc: Global,
     text: &str,

@@ -21,8 +21,8 @@ ghost use Rattle.ob0_commands.specs.StderrLines.{PrintsLine};
 use crate::faults::FileFault;
 use std::io::{self, Write};
 
-/// The size of the two buffers, in bytes: the one into which a file or an input is read, and the
-/// one in which output is collected before it is written.
+/// The size in bytes of two buffers. A file or an input is read into one, and output is collected
+/// in the other before it is written.
 pub(crate) const PIECE_SIZE: usize = 8192;
 
 /// A writer that remembers whether it has been flushed since the last write, and whether it has failed.
@@ -58,7 +58,7 @@ pub struct TrackedWriter<W> {
 }
 
 impl<W> TrackedWriter<W> {
-    /// Wraps a writer. It counts as not flushed and not failed.
+    /// Wraps a writer, which counts as not flushed and not failed.
     pub fn new(device: W) -> TrackedWriter<W>
         ensures device { wrapped_writer result ≡ device }
         ensures fresh { has_flushed result ≡ false }

@@ -40,8 +40,8 @@ IsInlineResult how unit text m offset None =
     × ¬ (refusal ≡ Memory)
     × AnswersInlining how unit text m offset (Err refusal)
 
--- Holds if these edits inline the constant at a byte offset of a well-typed module. Made all at
--- once, they leave a text whose module has the same runs.
+-- Holds if these edits inline the constant at a byte offset of a well-typed module. Applied all at
+-- once, they give a text whose module has the same runs.
 pub record InlinesIn (how : Inlining) (unit : Unit) (text : List ℕ) (offset : ℕ)
     (edits : Vec Edit Global) : Type 0 where
   pub module_read : ParsedModule
@@ -59,8 +59,8 @@ pub record IsNotInlinedIn (how : Inlining) (unit : Unit) (text : List ℕ) (offs
 
 -- ---- the result for a text
 
--- Holds for the edits in an answer to an inlining. For None it holds if the answer is a refusal
--- other than a failed allocation.
+-- Holds if these are the edits in the answer to an inlining. For None it holds if the answer is a
+-- refusal other than a failed allocation.
 abbrev pub AreEditsUnlessRefused : Result (Vec Edit Global) EditRefusal → Option (Vec Edit Global) → Type 0
 AreEditsUnlessRefused answer (Some edits) = answer ≡ Ok edits
 AreEditsUnlessRefused answer None = (refusal : EditRefusal) × ¬ (refusal ≡ Memory) × (answer ≡ Err refusal)

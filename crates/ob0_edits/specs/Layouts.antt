@@ -34,9 +34,9 @@ layout_changes unit indent characters m =
     map (edit_of (width_of unit) characters) (changed_gaps source.text
     (all_gaps indent source.text (line_roles 0 m.tree) m.text_of.scan.scan.lexemes))
 
--- Holds if these edits format a text. There is one for each gap that changes, and it replaces the
--- whole gap. Made all at once, the edits leave the formatted text. The formatted text has the same
--- module, with the same runs.
+-- Holds if these edits format a text. There is one edit for each gap that changes, and it replaces
+-- the whole gap. Applied all at once, the edits give the formatted text. The formatted text has the
+-- same module, with the same runs.
 pub record FormatsIn (unit : Unit) (indent : Indent) (text : List ℕ)
     (edits : List Edit) : Type 0 where
   pub before : IsWellTypedModule (utf8 text)

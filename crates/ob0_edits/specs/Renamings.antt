@@ -16,14 +16,14 @@ use Rattle.ob0_analysis.specs.Texts.{utf8}
 use Rattle.ob0_rename.specs.Answers.{AreRenameEdits, IsRenameRefusal}
 use Rattle.ob0_rename.specs.Renaming.{Renaming, renaming_of}
 
--- Holds for edits that rename the declaration or field at the place. Holds for the refusal of that
--- renaming.
+-- Holds if the result is edits that rename the declaration or field at the place, or the refusal of
+-- that renaming.
 abbrev pub IsRenameResult : Renaming → Result (Vec Edit Global) EditRefusal → Type 0
 IsRenameResult r (Ok edits) = AreRenameEdits r edits.items
 IsRenameResult r (Err refusal) = IsRenameRefusal r refusal
 
--- Holds if these edits rename the declaration or field at a place of a well-typed module. Made all
--- at once, they leave a text of the renamed module, which has the same runs.
+-- Holds if these edits rename the declaration or field at a place of a well-typed module. Applied
+-- all at once, they give a text of the renamed module, which has the same runs.
 pub record RenamesIn (unit : Unit) (text : List ℕ) (place : Position) (new : List ℕ)
     (edits : List Edit) : Type 0 where
   pub names : Resolution

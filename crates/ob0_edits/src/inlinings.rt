@@ -1,9 +1,9 @@
 //! Inlines a constant in a text, using the text's analysis.
 //!
-//! One question (`InliningsQuestion`) finds the edits of both kinds of inlining. `edits_unless_refused` separates
-//! a failed allocation from the refusals. A new kind of inlining needs a variant of `Inlining`, a
-//! line in `AnswersInlining`, a field in `Inlinings`, and a case in `inlines_in` of
-//! `proofs/Inlined`.
+//! One question (`InliningsQuestion`) finds the edits of both kinds of inlining.
+//! `edits_unless_refused` separates a failed allocation from the refusals. A new kind of inlining
+//! needs a variant of `Inlining`, a line in `AnswersInlining`, a field in `Inlinings`, and a case
+//! in `inlines_in` of `proofs/Inlined`.
 
 ghost use Rattle.std.specs.Prelude.{◌≡◌, IfOk};
 ghost use Rattle.std.specs.Str.{chars};
@@ -33,7 +33,7 @@ pub struct Inlinings {
     pub everywhere: Option<Vec<Edit>>,
 }
 
-/// The question which edits inline the constant at a place of a store's text.
+/// Asks which edits inline the constant at a place of a store's text.
 #[derive(Drop)]
 struct InliningsQuestion<'a, T: TextStore> {
     store: &'a T,
@@ -74,9 +74,9 @@ fn edits_unless_refused(
     }
 }
 
-/// Returns the edits of each kind of inlining at a place of a store's text, or None for a kind that
-/// is refused. Returns None altogether if the text isn't a well-typed module. A failed allocation
-/// is an error, never a refusal.
+/// Returns the edits that inline the constant at a place, for each kind of inlining, or None for a
+/// kind that is refused. Returns None altogether if the store's text isn't a well-typed module. A
+/// failed allocation is an error, never a refusal.
 pub fn inline_edits<T: TextStore>(
     alloc: Global,
     store: &T,

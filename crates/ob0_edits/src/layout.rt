@@ -15,7 +15,7 @@ use ob0_layout::laws::{
 use ob0_text::{Edit, EditRefusal, Indent, TextStore};
 use std::alloc::{AllocError, Global};
 
-/// The question which edits format a store's text.
+/// Asks which edits format a store's text.
 #[derive(Drop)]
 struct FormatQuestion<'a, T: TextStore> {
     store: &'a T,

@@ -1,11 +1,11 @@
 //! Renames in a text, using its analysis.
 //!
-//! Declarations and fields are two cases of `AreRenameEdits` and `IsRenameRefusal` of `ob0_rename`. Both cases
-//! contain `WritesName`, so one lemma, `renames_in` of `proofs/Renamings`, covers both. `RenamesIn`
-//! and `IsRefusedIn` are about the module with its names bound (`IsModuleIn`), because fields are
-//! found through the bindings of names. The contract of `ask` is about the bytes of the text, and
-//! `RenamesIn` is about its characters. The lemma `new_name_found` derives the second from the
-//! first.
+//! Declarations and fields are two cases of `AreRenameEdits` and `IsRenameRefusal` of `ob0_rename`.
+//! Both cases contain `WritesName`, so one lemma, `renames_in` of `proofs/Renamings`, covers both.
+//! `RenamesIn` and `IsRefusedIn` are about the module with its names bound (`IsModuleIn`), because
+//! fields are found through the bindings of names. The contract of `ask` is about the bytes of the
+//! text, and `RenamesIn` is about its characters. The lemma `new_name_found` derives the second
+//! statement from the first.
 
 ghost use Rattle.std.specs.Prelude.{◌≡◌, IfOk};
 ghost use Rattle.std.specs.Str.{chars};
@@ -18,7 +18,7 @@ use ob0_rename::rename;
 use ob0_text::{Edit, EditRefusal, Position, TextStore};
 use std::alloc::{AllocError, Global};
 
-/// The question which edits rename the declaration or field at a place of a store's text.
+/// Asks which edits rename the declaration or field at a place of a store's text.
 #[derive(Drop)]
 struct RenameQuestion<'a, T: TextStore> {
     store: &'a T,

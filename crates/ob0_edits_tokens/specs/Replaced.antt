@@ -1,4 +1,5 @@
--- Defines the text after some identifiers are replaced by another text, and the edits that do this.
+-- Defines the text after several identifiers are replaced by another text, and the edits that do
+-- this.
 -- Rule: docs/PROTOCOL.md, Requests on documents 10.
 use Rattle.std.specs.Prelude.{◌≡◌, ℕ, suc, ◌<◌, ◌≤◌, false, List, [], ◌∷◌, ◌++◌, length, map, IsTrue, Some, slice_index, slice_index_or, string_bytes}
 use Rattle.std.specs.Char.{is_ascii_alphabetic, is_ascii_alphanumeric}
@@ -39,7 +40,7 @@ AreIdentifierIndexes tokens least (p ∷ ps) =
     × ((token_or_empty tokens p).kind ≡ token.Identifier)
     × AreIdentifierIndexes tokens (suc p) ps
 
--- returns the cut that replaces a token by the new text, with places counted in bytes
+-- returns the cut, in byte offsets, that replaces the token with the index `p` by `new`
 abbrev pub cut_of : List Token → List ℕ → ℕ → Cut
 cut_of tokens new p =
     record { from = (span_at tokens p).start; to = (span_at tokens p).end; new = new }
@@ -61,9 +62,10 @@ LexemesEndBefore [] byte = Unit {0}
 LexemesEndBefore (l ∷ lexemes) byte =
     EndsBefore l (slice_index (joined lexemes ++ (byte ∷ [])) 0) × LexemesEndBefore lexemes byte
 
--- Holds if the text `new`, whose words are `ws`, may replace any identifier. A lexeme before it
--- that can't continue with a letter can't continue with its first byte either. Its own lexemes stay
--- separate from one another, and from a byte after it that can't continue an identifier.
+-- Holds if the text `new`, whose words are `ws`, may replace any identifier. If the lexeme before
+-- it can't continue with a letter, that lexeme can't continue with the first byte of `new` either.
+-- The lexemes of `new` stay separate from one another, and from a following byte that is no letter
+-- or digit.
 pub record ReplacesName (new : List ℕ) (ws : List Word) : Type 0 where
   pub lexemes : List Lexeme
   pub whole : joined lexemes ≡ new
@@ -79,7 +81,7 @@ pub record ReplacesName (new : List ℕ) (ws : List Word) : Type 0 where
 abbrev pub parts : Edit → Range × List ℕ
 parts edit = (edit.range, string_bytes edit.text)
 
--- Returns the range and text of the edit that replaces the token at a place by `new`.
+-- Returns the range and text of the edit that replaces the token with the index `p` by `new`.
 abbrev pub edit_at : counting.Unit → List ℕ → List Token → List ℕ → ℕ → Range × List ℕ
 edit_at unit text tokens new p = (range_of (width_of unit) text (span_at tokens p), new)
 

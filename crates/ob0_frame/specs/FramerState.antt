@@ -15,9 +15,9 @@ pub record FramerState : Type 0 where
   pub waiting : List (List ℕ)
   pub rest : StreamRest
 
--- Holds if reading the piece after the first rest completes these contents and leaves the second
--- rest. Bytes with which no message can begin break the stream, and a broken stream completes
--- nothing.
+-- Holds if reading the piece after the present rest (first argument) completes these contents and
+-- leaves the new rest (last argument). Bytes with which no message can begin break the stream. A
+-- broken stream completes nothing.
 abbrev pub Feeds : StreamRest → List ℕ → List (List ℕ) → StreamRest → Type 0
 Feeds (Open rest) piece contents (Open left) = Frames (rest ++ piece) contents left × ¬ (CannotBeginMessage left)
 Feeds (Open rest) piece contents Broken =
@@ -25,8 +25,8 @@ Feeds (Open rest) piece contents Broken =
 Feeds Broken piece contents (Open left) = ⊥
 Feeds Broken piece contents Broken = contents ≡ []
 
--- Holds if the state `new` results from `old` by reading a piece: the contents that the piece
--- completes wait after the others.
+-- Holds if reading a piece changes the state `old` to `new`. The contents that the piece completes
+-- are added after the contents that already wait.
 pub record Takes (old : FramerState) (piece : List ℕ) (new : FramerState) : Type 0 where
   pub contents : List (List ℕ)
   pub feeds : Feeds old.rest piece contents new.rest

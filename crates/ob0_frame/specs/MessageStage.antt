@@ -1,4 +1,4 @@
--- Defines how much of the message at the beginning of some bytes has come.
+-- Defines how much of the message at the beginning of a list of bytes has come.
 -- Rule: none; for private contracts: how far a message has come.
 use Rattle.std.specs.Prelude.{ℕ, ◌-◌, ◌<◌, ◌≤◌, List, ◌++◌, length, take, drop}
 use Rattle.ob0_frame.specs.declared.head.MessageStage.{MessageStage}
@@ -20,8 +20,8 @@ IsMessageStage bytes Head = (length bytes < max_head) × HasNoEmptyLine bytes
 IsMessageStage bytes (Content start end) = IsContentAt bytes start end
 IsMessageStage bytes Bad = CannotBeginMessage bytes
 
--- Holds if the message at the beginning of the bytes isn't complete. After a bad head it always
--- holds.
+-- Holds if the message at the beginning of the bytes, which has this stage, isn't complete. It
+-- always holds at the stages `Head` and `Bad`.
 abbrev pub IsUnfinished : List ℕ → MessageStage → Type 0
 IsUnfinished bytes Head = Unit {0}
 IsUnfinished bytes (Content start end) = length bytes < end

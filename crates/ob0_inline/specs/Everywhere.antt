@@ -33,8 +33,8 @@ use Rattle.ob0_inline.specs.Inlined.{LeavesModule, first_refusal}
 use Rattle.ob0_inline.specs.Uses.{is_predeclared_truth}
 use Rattle.ob0_inline.specs.Values.{value_factor, value_text}
 
--- Holds if `c` is a constant of a CONST section: its ordinal, its value, its declaring token, and
--- the first `;` after that token.
+-- Holds if `c` is a constant of a CONST section, with its ordinal and value. `first` is the token
+-- that declares it, and `last` is the first `;` after that token.
 pub record IsConstant (m : ParsedModule) (c : NamedConstant) : Type 0 where
   pub has_value : value_of_constant (named_tree_of m) c.ordinal ≡ Some (scalar_value c.value)
   pub begins : declaration_token (declaring_names (identifiers role.Declaring (tree_of m))) c.ordinal
@@ -55,13 +55,15 @@ HasNoConstantAt m offset =
     → name_on m offset ≡ Some n
     → value_of_constant (named_tree_of m) n.ordinal ≡ None
 
--- returns the tokens of the occurrences that are bound to `d`, in text order
+-- returns the tokens of the occurrences that are bound to the declaration with the ordinal `d`, in
+-- text order
 abbrev pub uses_of : ParsedModule → ℕ → List ℕ
 uses_of m d =
     map (λ u. u.0) (filter (λ u. same_label u.1 (declared d))
     (zip (occurrences (tree_of m)) (bindings (named_tree_of m))))
 
--- holds if each use of the declaration `d` is a whole factor
+-- holds if each use of the declaration with the ordinal `d` is a whole factor: a name without
+-- selectors in an expression
 abbrev pub UsesAreFactors : ParsedModule → ℕ → Type 0
 UsesAreFactors m d = All (λ l. l ≢ declared d) (non_factor_names (numbered (named_tree_of m)))
 
@@ -74,13 +76,13 @@ tree_inlined_everywhere m c = inlined_everywhere (named_tree_of m) c.ordinal (va
 abbrev pub text_after_inlining : ParsedModule → NamedConstant → List ℕ
 text_after_inlining m c = text_after_removal m.source c.first c.last (uses_of m c.ordinal) (value_text c.value)
 
--- Returns true if the occurrence `k` is a use of the constant, and TRUE or FALSE, written there for
--- its value, wouldn't be the predeclared name.
+-- Returns true if the occurrence `k` is a use of the constant at which TRUE or FALSE, written for
+-- its value, wouldn't mean the predeclared name.
 abbrev pub is_shadowed_use : Tree Name module_text → NamedConstant → ℕ → Bool
 is_shadowed_use m c k = same_ordinal (binds m k) c.ordinal && not (is_predeclared_truth m k c.value)
 
--- Returns true if TRUE or FALSE, written for the constant's value at some use, wouldn't be the
--- predeclared name.
+-- Returns true if the constant has a use at which TRUE or FALSE, written for its value, wouldn't
+-- mean the predeclared name.
 abbrev pub any_use_shadowed : Tree Name module_text → NamedConstant → Bool
 any_use_shadowed m c = list_any (is_shadowed_use m c) (range_with_len 0 (length (bindings m)))
 
@@ -108,8 +110,8 @@ pub record InlinesEverywhere (unit : counting.Unit) (text : List ℕ) (m : Parse
   pub well_typed : WellTyped (tree_inlined_everywhere m c)
   pub same_runs : HaveSameRuns (tree_inlined_everywhere m c) (named_tree_of m)
 
--- Holds for edits that inline the constant everywhere, if no refusal applies. Holds for the first
--- refusal that applies, and for `Memory`.
+-- Holds if the answer is edits that inline the constant everywhere, and no refusal applies. Also
+-- holds if it is the first refusal that applies, or `Memory`.
 abbrev pub AnswersForConstant : counting.Unit
     → List ℕ
     → ParsedModule
@@ -121,8 +123,8 @@ AnswersForConstant unit text m c (Ok edits) =
 AnswersForConstant unit text m c (Err refusal) =
     (refusal_everywhere m c ≡ Some refusal) ⊎ (refusal ≡ Memory)
 
--- Holds for an answer to inlining the constant at the byte offset everywhere. If the offset isn't
--- on a name of a constant, holds only for the refusal `NoName`.
+-- Holds if the answer fits the constant whose name is at the byte offset. If no constant's name is
+-- at the offset, holds if the answer is the refusal `NoName`.
 abbrev pub AnswersInlineEverywhere : counting.Unit
     → List ℕ
     → ParsedModule

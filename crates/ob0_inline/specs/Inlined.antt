@@ -12,7 +12,8 @@ use Rattle.ob0_text.specs.Units.{width_of}
 use Rattle.ob0_tree.specs.Module.{ModuleOf, max_nesting}
 use Rattle.ob0_tree.specs.Tree.{Tree, module_text, nesting}
 
--- Holds if the edits leave a text that can be scanned and is a text of the module with this tree.
+-- Holds if applying the edits to the text gives a text that can be scanned and spells the module
+-- with this tree.
 pub record LeavesModule (unit : counting.Unit) (text : List ℕ) (edits : List Edit)
     (t : Tree (List ℕ) module_text) : Type 0 where
   pub after : TextWithTokens

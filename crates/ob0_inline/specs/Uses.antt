@@ -27,15 +27,15 @@ use Rattle.ob0_inline.specs.declared.uses.ConstantUse.{ConstantUse}
 use Rattle.ob0_inline.specs.Inlined.{LeavesModule, first_refusal}
 use Rattle.ob0_inline.specs.Values.{value_factor, value_text}
 
--- Holds if the byte offset is on the use `u` of a constant of a CONST section. The token,
--- occurrence, ordinal and value of `u` are those of this use.
+-- Holds if the byte offset is on a use of a constant of a CONST section, and `u` is this use. `u`
+-- then has the use's token and occurrence, and the constant's ordinal and value.
 pub record IsUseAt (m : ParsedModule) (offset : ℕ) (u : ConstantUse) : Type 0 where
   pub named : name_on m offset ≡ Some (record { token = u.token; ordinal = u.constant })
   pub occurs : slice_get (occurrences (tree_of m)) u.occurrence ≡ Some u.token
   pub has_value : value_of_constant (named_tree_of m) u.constant ≡ Some (scalar_value u.value)
 
--- Holds if `u` is a use of a constant of a CONST section: an occurrence at this token, bound to the
--- constant with this ordinal and this value.
+-- Holds if `u` is a use of a constant of a CONST section. The occurrence of `u` is at its token,
+-- and is bound to the constant with this ordinal and value.
 pub record IsUse (m : ParsedModule) (u : ConstantUse) : Type 0 where
   pub occurs : slice_get (occurrences (tree_of m)) u.occurrence ≡ Some u.token
   pub bound : binds (named_tree_of m) u.occurrence ≡ Some u.constant
@@ -46,8 +46,8 @@ abbrev pub truth_ordinal : Bool → ℕ
 truth_ordinal true = 2
 truth_ordinal false = 3
 
--- Returns true if TRUE or FALSE, written for a truth value in place of the occurrence, would be the
--- predeclared name. For a number the result is true.
+-- Returns true if TRUE or FALSE, written for a truth value in place of the occurrence, would mean
+-- the predeclared name. Returns true for every number.
 abbrev pub is_predeclared_truth : Tree Name module_text → ℕ → Scalar → Bool
 is_predeclared_truth m occurrence (scalar.Number n) = true
 is_predeclared_truth m occurrence (scalar.Truth b) =
@@ -72,8 +72,8 @@ pub record InlinesHere (unit : counting.Unit) (text : List ℕ) (m : ParsedModul
   pub well_typed : WellTyped (tree_inlined_here m u)
   pub same_runs : HaveSameRuns (tree_inlined_here m u) (named_tree_of m)
 
--- Holds for edits that inline the constant at the use, if no refusal applies. Holds for the first
--- refusal that applies, and for `Memory`.
+-- Holds if the answer is edits that inline the constant at the use, and no refusal applies. Also
+-- holds if it is the first refusal that applies, or `Memory`.
 abbrev pub AnswersForUse : counting.Unit
     → List ℕ
     → ParsedModule
@@ -84,8 +84,8 @@ AnswersForUse unit text m u (Ok edits) =
     (refusal_here m u ≡ None) × InlinesHere unit text m u edits.items
 AnswersForUse unit text m u (Err refusal) = (refusal_here m u ≡ Some refusal) ⊎ (refusal ≡ Memory)
 
--- Holds for an answer to inlining the use at the byte offset. If there is no use, holds only for
--- the refusal `NoName`.
+-- Holds if the answer fits the use at the byte offset. If no use is at the offset, holds if the
+-- answer is the refusal `NoName`.
 abbrev pub AnswersInlineHere : counting.Unit
     → List ℕ
     → ParsedModule

@@ -16,9 +16,9 @@ use ob0_text::{Edit, EditRefusal, PatchFault, TextStore, patch};
 use ob0_tree::{MAX_NESTING, Module};
 use std::alloc::Global;
 
-/// Returns true if the edited text is nested deeper than a module may be. The edits may make the
-/// module at most one level deeper, so the text is parsed only if the module already has the
-/// greatest depth.
+/// Returns true if the edited text is nested deeper than a module may be. The contract assumes that
+/// the edits make the module at most one level deeper. So the text is parsed only if the module
+/// already has the greatest depth.
 pub(crate) fn is_too_deep<T: TextStore>(
     alloc: Global,
     store: &T,
@@ -62,8 +62,8 @@ fn patched_is_too_deep<T: TextStore>(
     }
 }
 
-/// Returns true if a text can be read as a module. If some tree spells its tokens, this is so
-/// exactly if the tree isn't nested deeper than a module may be.
+/// Returns true if a text can be scanned and parsed as a module. If the text spells a tree, the
+/// result is true exactly if the tree is nested at most as deep as a module may be.
 fn is_module(alloc: Global, text: &str) -> Result<bool, EditRefusal>
     ensures shallow { (s : TextWithTokens) (t : Tree (List ℕ) module_text) → IsScan s → s.text ≡ text.now
         → terminals_of_text s ≡ spell t
@@ -79,8 +79,8 @@ fn is_module(alloc: Global, text: &str) -> Result<bool, EditRefusal>
     }
 }
 
-/// Returns true if the tokens of a text can be parsed as a module. If some tree spells them, this
-/// is so exactly if the tree isn't nested deeper than a module may be.
+/// Returns true if these tokens can be parsed as a module. If they spell a tree, the result is true
+/// exactly if the tree is nested at most as deep as a module may be.
 fn is_parsable(alloc: Global, tokens: &Tokens) -> Result<bool, EditRefusal>
     ensures shallow { (t : Tree (List ℕ) module_text)
         → terminals_of_text tokens.now ≡ spell t

@@ -15,8 +15,8 @@ use ob0_scope::resolve_at_occurrences;
 use ob0_scope_table::{FALSE_ORDINAL, Resolved, TRUE_ORDINAL, same_ordinal};
 use std::alloc::{AllocError, Global};
 
-/// Returns true if TRUE or FALSE, written for a truth value in place of an occurrence, would be the
-/// predeclared name. For a number the result is true.
+/// Returns true if TRUE or FALSE, written for a truth value in place of this occurrence, would mean
+/// the predeclared name. Returns true for every number.
 pub(crate) fn is_predeclared_truth(
     alloc: Global,
     names: &Resolved,
@@ -33,7 +33,8 @@ pub(crate) fn is_predeclared_truth(
     }
 }
 
-/// Returns true if a name, written in place of an occurrence, would be bound to the declaration with this ordinal.
+/// Returns true if `name`, written in place of this occurrence, would be bound to the declaration
+/// with this ordinal.
 fn would_bind_to(
     alloc: Global,
     names: &Resolved,
@@ -48,7 +49,8 @@ fn would_bind_to(
     Ok(has_ordinal_at(&bound, occurrence, ordinal))
 }
 
-/// Returns true if the list `bound` has this ordinal for an occurrence.
+/// Returns true if the item of `bound` for this occurrence is this ordinal. Returns false if the
+/// item is None, or if `bound` has no such item.
 fn has_ordinal_at(bound: &[Option<usize>], occurrence: usize, ordinal: usize) -> bool
     ensures { result
         ≡ same_ordinal (option_and_then (λ found. found) (slice_get bound.now occurrence)) ordinal }
@@ -59,8 +61,8 @@ fn has_ordinal_at(bound: &[Option<usize>], occurrence: usize, ordinal: usize) ->
     }
 }
 
-/// Returns true if TRUE or FALSE, written for the constant's value at some use, wouldn't be the
-/// predeclared name. For a number the result is false.
+/// Returns true if the constant has a use at which TRUE or FALSE, written for its value, wouldn't
+/// mean the predeclared name. Returns false for every number.
 pub(crate) fn any_use_shadowed(
     alloc: Global,
     names: &Resolved,
@@ -89,8 +91,8 @@ pub(crate) fn any_use_shadowed(
     }
 }
 
-/// Returns true if a name, written in place of some use of a constant, wouldn't be bound to the declaration with this
-/// ordinal.
+/// Returns true if the constant has a use at which `name`, if written there, wouldn't be bound to
+/// the declaration with this ordinal.
 fn any_use_rebound(
     alloc: Global,
     names: &Resolved,
@@ -110,8 +112,8 @@ fn any_use_rebound(
     Ok(any_use_differs(names, &bound, constant, ordinal))
 }
 
-/// Returns true if some occurrence is a use of the constant for which the list `bound` doesn't have
-/// this ordinal.
+/// Returns true if the constant has a use whose item in `bound` isn't this ordinal. `bound` has an
+/// item for each occurrence.
 fn any_use_differs(
     names: &Resolved,
     bound: &[Option<usize>],
@@ -131,8 +133,8 @@ fn any_use_differs(
     false
 }
 
-/// Returns true if this occurrence is a use of the constant for which the list `bound` doesn't have
-/// this ordinal.
+/// Returns true if this occurrence is a use of the constant, and its item in `bound` isn't this
+/// ordinal. `bound` has an item for each occurrence.
 fn is_differing_use(
     names: &Resolved,
     bound: &[Option<usize>],

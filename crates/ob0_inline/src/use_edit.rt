@@ -1,4 +1,4 @@
-//! Writes a value in place of a use by an edit.
+//! Makes the edit that writes a constant's value in place of one use.
 
 ghost use Rattle.std.specs.Prelude.{◌≡◌, ◌⊎◌, ◌<◌, ◌≤◌, ◌∷◌, [], IfOk, IfErr, IsErrOf, length, map};
 ghost use Rattle.std.specs.Str.{chars};

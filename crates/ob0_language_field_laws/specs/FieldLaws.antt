@@ -1,5 +1,5 @@
--- Laws of renamed fields: a module with renamed fields has the same types and runs, if different
--- fields of a record get different names.
+-- Laws of renamed fields: a well-typed module remains well-typed and has the same runs, if
+-- different fields of a record get different names.
 -- Rule: none; laws of fields under other names.
 use Rattle.std.specs.Prelude.{◌≡◌, ℕ, Some}
 use Rattle.ob0_tree.specs.Tree.{Tree, module_text}

@@ -12,12 +12,13 @@ use Rattle.ob0_language_types.specs.Typing.{constructor_count, element_type, fie
 use Rattle.ob0_language_types.specs.WellTyped.{TypeEnvironment, TypeMeanings, TypedParameter, bind_typed_parameters, declare_typed, bind_procedure, typed_parameters}
 use Rattle.ob0_language_values.specs.Values.{Shape, array_shape, boolean_shape, integer_shape, record_shape}
 
--- A function that returns the new name of a field. Its arguments are the ordinal of the field's record (None if the
--- record is unknown) and its present name.
+-- A function that returns the new name of a field. Its arguments are the ordinal of the field's
+-- record and the field's present name. The ordinal is the number of words ARRAY and RECORD before
+-- the record, or None if the record is unknown.
 abbrev pub FieldRenaming : Type 0
 FieldRenaming = Option ℕ → Name → Name
 
--- returns the ordinal of a record type; None for any other type, or without a type
+-- returns the ordinal of a record type; None for any other type and for None
 abbrev pub record_ordinal : Option Shape → Option ℕ
 record_ordinal None = None
 record_ordinal (Some integer_shape) = None
@@ -25,16 +26,15 @@ record_ordinal (Some boolean_shape) = None
 record_ordinal (Some (array_shape k n s)) = None
 record_ordinal (Some (record_shape k fs)) = Some k
 
--- returns the type of a designator after one more selector, given the type `s` before it; None if
--- it has no type
+-- returns the type of a designator with one more selector; `s` is its type without this selector;
+-- None if `s` has no such field or element
 abbrev pub select_type : {i : Item} → Option Shape → Tree Name (item i) → Option Shape
 select_type s (field x) = option_and_then (λ t. field_type t x) s
 select_type s (index e) = option_and_then (λ t. element_type t integer_shape) s
 select_type s _ = s
 
--- Returns a part of a statement with its fields renamed. A selected field belongs to the record
--- type before its selector. If the part is a list of selectors, `s` is the type before the first
--- selector.
+-- Renames the selected fields in a part of a statement. A field belongs to the record from which it
+-- is selected. If the part is a list of selectors, `s` is the type of the designator without them.
 abbrev pub rename_fields : {s : Sort} → FieldRenaming → TypeMeanings Name → Option Shape → Tree Name s → Tree Name s
 rename_fields l meaning s (more t ts) =
     more (rename_fields l meaning s t) (rename_fields l meaning (select_type s t) ts)
@@ -77,12 +77,12 @@ rename_fields l meaning s (else_branch a) = else_branch (rename_fields l meaning
 rename_fields l meaning s (begins a) = begins (rename_fields l meaning None a)
 rename_fields l meaning s t = t
 
--- Returns a written type with its declared fields renamed. `k` is the ordinal of the first ARRAY or
--- RECORD of the part, and `r` the ordinal of the group's record. The length of an array is
--- unchanged, because a constant expression has no selectors.
+-- Renames the fields that a written type declares. `k` is the number of words ARRAY and RECORD
+-- before the part. `r` is the ordinal of the record to which a group of fields belongs. The length
+-- of an array is unchanged, because a constant expression has no selectors.
 abbrev mutual
-  -- returns a written type with its fields renamed; `k` is the ordinal of its first ARRAY
-  -- or RECORD
+  -- returns a written type with its fields renamed; `k` is the number of words ARRAY and RECORD
+  -- before it
   pub rename_fields_in_type : FieldRenaming → ℕ → Tree Name written_type → Tree Name written_type
   rename_fields_in_type l k (named_type x) = named_type x
   rename_fields_in_type l k (array_type e t) = array_type e (rename_fields_in_type l (suc k) t)
@@ -90,15 +90,15 @@ abbrev mutual
       record_type (rename_fields_in_group l k (suc k) g)
       (rename_fields_in_groups l k (suc k + group_constructor_count g) rest)
 
-  -- returns a group of fields of the record `r`, with these fields and the fields in their type
-  -- renamed; `k` is the ordinal of the first ARRAY or RECORD in that type
+  -- renames the fields of a group that belongs to the record `r`, and the fields in their type; `k`
+  -- is the number of words ARRAY and RECORD before that type
   pub rename_fields_in_group : FieldRenaming → ℕ → ℕ → Tree Name fields → Tree Name fields
   rename_fields_in_group l r k no_fields = no_fields
   rename_fields_in_group l r k (some_fields ns t) =
       some_fields (map_names (λ x. x) (l (Some r)) ns) (rename_fields_in_type l k t)
 
-  -- returns further groups of fields of the record `r`, with all fields renamed; `k` is
-  -- the ordinal of their first ARRAY or RECORD
+  -- renames all fields of further groups that belong to the record `r`; `k` is the number of words
+  -- ARRAY and RECORD before these groups
   pub rename_fields_in_groups : FieldRenaming
       → ℕ
       → ℕ
@@ -109,8 +109,8 @@ abbrev mutual
       more (then_fields (rename_fields_in_group l r k g))
       (rename_fields_in_groups l r (k + group_constructor_count g) rest)
 
--- returns declarations of types with their fields renamed; `k` is the ordinal of their
--- first ARRAY or RECORD
+-- returns declarations of types with their fields renamed; `k` is the number of words ARRAY and
+-- RECORD before them
 abbrev pub rename_fields_in_types : FieldRenaming
     → ℕ
     → Tree Name (items type_name)
@@ -119,8 +119,8 @@ rename_fields_in_types l k end = end
 rename_fields_in_types l k (more (declares_type x u) ds) =
     more (declares_type x (rename_fields_in_type l k u)) (rename_fields_in_types l (k + constructor_count u) ds)
 
--- returns a TYPE section with its fields renamed; `k` is the ordinal of its first ARRAY
--- or RECORD
+-- returns a TYPE section with its fields renamed; `k` is the number of words ARRAY and RECORD
+-- before it
 abbrev pub rename_fields_in_type_section : FieldRenaming
     → ℕ
     → Tree Name (maybe type_names)
@@ -128,8 +128,8 @@ abbrev pub rename_fields_in_type_section : FieldRenaming
 rename_fields_in_type_section l k none = none
 rename_fields_in_type_section l k (one (declares_types ts)) = one (declares_types (rename_fields_in_types l k ts))
 
--- returns declarations of variables with their fields renamed; `k` is the ordinal of
--- their first ARRAY or RECORD
+-- returns declarations of variables with their fields renamed; `k` is the number of words ARRAY and
+-- RECORD before them
 abbrev pub rename_fields_in_variables : FieldRenaming
     → ℕ
     → Tree Name (items variable)
@@ -138,8 +138,8 @@ rename_fields_in_variables l k end = end
 rename_fields_in_variables l k (more (declares_variable ns u) gs) =
     more (declares_variable ns (rename_fields_in_type l k u)) (rename_fields_in_variables l (k + constructor_count u) gs)
 
--- returns a VAR section with its fields renamed; `k` is the ordinal of its first ARRAY or
--- RECORD
+-- returns a VAR section with its fields renamed; `k` is the number of words ARRAY and RECORD before
+-- it
 abbrev pub rename_fields_in_variable_section : FieldRenaming
     → ℕ
     → Tree Name (maybe variables)
@@ -148,14 +148,14 @@ rename_fields_in_variable_section l k none = none
 rename_fields_in_variable_section l k (one (declares_variables vs)) =
     one (declares_variables (rename_fields_in_variables l k vs))
 
--- returns a section of parameters with its fields renamed; `k` is the ordinal of its
--- first ARRAY or RECORD
+-- returns a section of parameters with its fields renamed; `k` is the number of words ARRAY and
+-- RECORD before it
 abbrev pub rename_fields_in_section : FieldRenaming → ℕ → Tree Name section → Tree Name section
 rename_fields_in_section l k (value_section ns u) = value_section ns (rename_fields_in_type l k u)
 rename_fields_in_section l k (variable_section ns u) = variable_section ns (rename_fields_in_type l k u)
 
--- returns further sections of parameters with their fields renamed; `k` is the ordinal of
--- their first ARRAY or RECORD
+-- returns further sections of parameters with their fields renamed; `k` is the number of words
+-- ARRAY and RECORD before them
 abbrev pub rename_fields_in_sections : FieldRenaming
     → ℕ
     → Tree Name (items further_section)
@@ -165,8 +165,8 @@ rename_fields_in_sections l k (more (then_section f) fs) =
     more (then_section (rename_fields_in_section l k f))
     (rename_fields_in_sections l (k + constructor_count (section_type f)) fs)
 
--- returns formal parameters with their fields renamed; `k` is the ordinal of their first
--- ARRAY or RECORD
+-- returns formal parameters with their fields renamed; `k` is the number of words ARRAY and RECORD
+-- before them
 abbrev pub rename_fields_in_formals : FieldRenaming → ℕ → Tree Name (maybe formals) → Tree Name (maybe formals)
 rename_fields_in_formals l k none = none
 rename_fields_in_formals l k (one no_formals) = one no_formals
@@ -174,31 +174,31 @@ rename_fields_in_formals l k (one (some_formals f fs)) =
     one (some_formals (rename_fields_in_section l k f)
     (rename_fields_in_sections l (k + constructor_count (section_type f)) fs))
 
--- Returns the environment after a block's constants, types and variables, or `env` unchanged if one
--- of these has an error. `k` is the ordinal of the block's first ARRAY or RECORD.
+-- Returns the environment with a block's constants, types and variables added, or `env` unchanged
+-- if one of these has an error. `k` is the number of words ARRAY and RECORD before the block.
 abbrev pub environment_after_variables : TypeEnvironment Name → ℕ → Tree Name block → TypeEnvironment Name
 environment_after_variables env k b =
     unwrap_or (option_and_then (declare_typed naming_by_spelling (constructor_after_types k b) (block_variables b))
     (declare_first naming_by_spelling env k b)) env
 
--- returns the parameters of a procedure, or an empty list if one has an error; `k` is the ordinal
--- of its first ARRAY or RECORD
+-- returns the parameters of a procedure, or an empty list if one has an error; `k` is the number of
+-- words ARRAY and RECORD before the procedure
 abbrev pub parameters_of : TypeEnvironment Name
     → ℕ
     → Tree Name (item procedure)
     → List (TypedParameter Name)
 parameters_of env k p = unwrap_or (typed_parameters naming_by_spelling env k (procedure_formals p)) []
 
--- returns the environment with the procedure added, as after its heading; `k` is the ordinal of its
--- first ARRAY or RECORD
+-- returns the environment with a procedure's name added; `k` is the number of words ARRAY and
+-- RECORD before the procedure
 abbrev pub environment_after_heading : TypeEnvironment Name
     → ℕ
     → Tree Name (item procedure)
     → TypeEnvironment Name
 environment_after_heading env k p = bind_procedure (procedure_name p) (parameters_of env k p) env
 
--- returns the environment with these procedures added; `k` is the ordinal of their first ARRAY or
--- RECORD
+-- returns the environment with these procedures added; `k` is the number of words ARRAY and RECORD
+-- before them
 abbrev pub environment_after_procedures : TypeEnvironment Name
     → ℕ
     → Tree Name (items procedure)
@@ -207,7 +207,7 @@ environment_after_procedures env k end = env
 environment_after_procedures env k (more p rest) =
     environment_after_procedures (environment_after_heading env k p) (k + procedure_constructor_count p) rest
 
--- Returns a block with its fields renamed. `k` is the ordinal of the first ARRAY or RECORD of the
+-- Returns a block with its fields renamed. `k` is the number of words ARRAY and RECORD before the
 -- part. Constants have no fields.
 abbrev mutual
   -- returns a block with the fields of its types, variables, procedures and statements renamed

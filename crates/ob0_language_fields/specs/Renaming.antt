@@ -1,4 +1,5 @@
--- The renaming of a record's field.
+-- The renaming of a record's field. A record is given by its ordinal: the number of words ARRAY and
+-- RECORD before it in the text.
 -- Rule: docs/PROTOCOL.md, Requests on documents 6.
 use Rattle.std.specs.Prelude.{◌≡◌, ℕ, suc, ◌+◌, Bool, false, not, ◌&&◌, List, [], ◌∷◌, ◌++◌, if◌then◌else◌, ◌==◌}
 use Rattle.std.specs.List.{list_any}
@@ -20,12 +21,13 @@ single_field_renaming r f new owner x = if same_ordinal owner r && same_name x f
 abbrev pub with_renamed_field : Tree Name module_text → ℕ → Name → Name → Tree Name module_text
 with_renamed_field m r f new = rename_fields_in_module (single_field_renaming r f new) m
 
--- a RECORD of the text: its ordinal among all words ARRAY and RECORD of the text, and the names of its fields
+-- a RECORD of the text: the number of words ARRAY and RECORD before it, and the names of its fields
 pub record RecordFields : Type 0 where
   pub ordinal : ℕ
   pub declared : List Name
 
--- Returns the records in the text of a type. `k` is the ordinal of the first ARRAY or RECORD of the part.
+-- Returns the records in a written type. `k` is the number of words ARRAY and RECORD before the
+-- part.
 abbrev mutual
   -- returns the records in a written type; an outer record comes before the records within it
   pub records_in_type : ℕ → Tree Name written_type → List RecordFields
@@ -46,28 +48,29 @@ abbrev mutual
   records_in_groups k (more (then_fields g) rest) =
       records_in_group k g ++ records_in_groups (k + group_constructor_count g) rest
 
--- returns the records in declarations of types, in text order; `k` is the ordinal of their first
--- ARRAY or RECORD
+-- returns the records in declarations of types, in text order; `k` is the number of words ARRAY and
+-- RECORD before these declarations
 abbrev pub records_in_types : ℕ → Tree Name (items type_name) → List RecordFields
 records_in_types k end = []
 records_in_types k (more (declares_type x u) ds) =
     records_in_type k u ++ records_in_types (k + constructor_count u) ds
 
--- returns the records in the types of variables, in text order; `k` is the ordinal of their first
--- ARRAY or RECORD
+-- returns the records in the types of variables, in text order; `k` is the number of words ARRAY
+-- and RECORD before these variables
 abbrev pub records_in_variables : ℕ → Tree Name (items variable) → List RecordFields
 records_in_variables k end = []
 records_in_variables k (more (declares_variable ns u) gs) =
     records_in_type k u ++ records_in_variables (k + constructor_count u) gs
 
--- returns the records in the types of parameters, in text order; `k` is the ordinal of their first
--- ARRAY or RECORD
+-- returns the records in the types of parameters, in text order; `k` is the number of words ARRAY
+-- and RECORD before these parameters
 abbrev pub records_in_sections : ℕ → Tree Name (items further_section) → List RecordFields
 records_in_sections k end = []
 records_in_sections k (more (then_section f) fs) =
     records_in_type k (section_type f) ++ records_in_sections (k + constructor_count (section_type f)) fs
 
--- Returns the records of a block or of its procedures. `k` is the ordinal of the first ARRAY or RECORD of the part.
+-- Returns the records of a block or of its procedures. `k` is the number of words ARRAY and RECORD
+-- before the part.
 abbrev mutual
   -- returns the records in the types, the variables and the procedures of a block
   pub records_in_block : ℕ → Tree Name block → List RecordFields

@@ -1,3 +1,2 @@
-//! Definitions of the fields of a module's records, and of modules with renamed fields. Lemmas
-//! about both.
+//! Defines the fields of a module's records and modules with renamed fields. Has lemmas about both.
 #![tactic(auto)]

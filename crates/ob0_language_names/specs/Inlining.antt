@@ -7,8 +7,8 @@ use Rattle.ob0_language_names.specs.Occurrences.{binds}
 use Rattle.ob0_language_names.specs.Parts.{formal_names, formal_sections}
 use Rattle.ob0_language_names.specs.Scopes.{ordinal_after_names, ordinal_after_procedure, first_procedure_ordinal, predeclared_count, same_ordinal}
 
--- a set of occurrences, which a factor replaces: a test on the number of an occurrence, counted
--- from 0 in text order
+-- a set of occurrences, which a factor replaces: a function that returns true for the number of
+-- each of them; occurrences are counted from 0 in text order
 abbrev pub OccurrenceSet : Type 0
 OccurrenceSet = ℕ → Bool
 

@@ -10,14 +10,15 @@ use Rattle.ob0_language_names.specs.Scopes.{label_from_ordinal, relabel_module}
 abbrev pub lookup_naming : Name → Naming Name
 lookup_naming y = record { same = λ x. same_name y; written = λ x. x; predeclared = predeclared_name }
 
--- returns the ordinal of the declaration to which `y` would be bound in place of an occurrence; None if nothing would
--- bind it
+-- returns the ordinal of the declaration to which `y` would be bound if it replaced this
+-- occurrence; None if nothing would bind it
 abbrev pub resolve_at_occurrence : Tree Name module_text → ℕ → Name → Option ℕ
 resolve_at_occurrence m occurrence y =
     option_and_then label_ordinal
     (slice_get (occurrences (relabel_module (lookup_naming y) (label_from_ordinal (lookup_naming y)) m)) occurrence)
 
--- returns, for each occurrence in text order, the ordinal to which `y` would be bound in its place
+-- returns, for each occurrence in text order, the ordinal to which `y` would be bound if it
+-- replaced the occurrence; None if nothing would bind it
 abbrev pub resolve_at_occurrences : Tree Name module_text → Name → List (Option ℕ)
 resolve_at_occurrences m y =
     map label_ordinal (occurrences (relabel_module (lookup_naming y) (label_from_ordinal (lookup_naming y)) m))

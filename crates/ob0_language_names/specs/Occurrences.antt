@@ -7,7 +7,8 @@ use Rattle.ob0_language_names.specs.Parts.{formal_names, formal_sections, module
 use Rattle.ob0_language_names.specs.Scopes.{Scope, ordinal_after_names, ordinal_after_procedure, body_scope, declare_names, first_procedure_ordinal, numbered, predeclared_count, renamed}
 use Rattle.std.specs.List.{list_any}
 
--- returns the label of each occurrence of a name, in text order
+-- returns the label of each occurrence, in text order: the ordinal of its declaration, or the name
+-- if nothing binds it
 abbrev pub bindings : Tree Name module_text → List Label
 bindings m = occurrences (numbered m)
 
@@ -16,7 +17,8 @@ abbrev pub label_ordinal : Label → Option ℕ
 label_ordinal (declared k) = Some k
 label_ordinal (as_written x) = None
 
--- returns the ordinal of the declaration that an occurrence is bound to; None if nothing binds it
+-- Returns the ordinal of the declaration that an occurrence is bound to. Occurrences are counted
+-- from 0 in text order. Returns None if nothing binds it or there is no such occurrence.
 abbrev pub binds : Tree Name module_text → ℕ → Option ℕ
 binds m occurrence = option_and_then label_ordinal (slice_get (bindings m) occurrence)
 
@@ -36,13 +38,14 @@ abbrev mutual
   blocks_in_procedures k (more p rest) =
       blocks_in_procedure (suc k) p ++ blocks_in_procedures (ordinal_after_procedure (suc k) p) rest
 
-  -- returns the declarations of each block in a procedure with ordinal `k - 1`
+  -- returns the declarations of each block in a procedure; the procedure has ordinal `k - 1`, so
+  -- `k` is the first ordinal after its name
   pub blocks_in_procedure : {N : Type 0} → ℕ → Tree N (item procedure) → List (Scope N)
   blocks_in_procedure k (declares_procedure x fs b closing) =
       blocks_in (ordinal_after_names k (formal_names (formal_sections fs)))
       (declare_names k (formal_names (formal_sections fs)) []) b
 
--- returns true if a block declares this ordinal
+-- returns true if a declaration of the block has the ordinal `d`
 abbrev pub declares_ordinal : Scope Name → ℕ → Bool
 declares_ordinal own d = list_any (λ b. b.1 == d) own
 
@@ -56,8 +59,8 @@ is_duplicate m d new =
     list_any (λ own. declares_ordinal own d && another_has_name own d new)
     (blocks_in predeclared_count [] (module_block m))
 
--- Holds if the name `new` is free for the declaration `d`. No other declaration of its block has
--- this name, and after the renaming each occurrence has the same binding as before.
+-- Holds if the name `new` is free for the declaration with ordinal `d`. No other declaration of its
+-- block has this name, and after the renaming each occurrence has the same binding as before.
 abbrev pub Free : Tree Name module_text → ℕ → Name → Type 0
 Free m d new = (is_duplicate m d new ≡ false) × (bindings (renamed m d new) ≡ bindings m)
 

@@ -8,8 +8,8 @@ use Rattle.ob0_language_names.specs.Occurrences.{Free, first_name_conflict}
 use Rattle.ob0_language_names.specs.Scopes.{renamed}
 use Rattle.ob0_language_names.specs.DeclaredOnce.{declared_once}
 
--- A module without duplicate declarations or wrong closing names still has none of them after a
--- declaration is renamed to a free name.
+-- If `declared_once` holds for a module, it still holds after a declaration is renamed to a free
+-- name: no name is declared twice, and the closing names are right.
 abbrev pub FreeRenamingKeepsDeclaredOnce : Type 0
 FreeRenamingKeepsDeclaredOnce =
     (m : Tree Name module_text) (d : ℕ) (new : Name)

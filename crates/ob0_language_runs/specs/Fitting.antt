@@ -65,8 +65,8 @@ abbrev pub signature_modes : Signature → List Mode
 signature_modes = map (λ f. f.mode)
 
 -- Holds if a name's object in a run agrees with its object in the checked module, or the name has
--- neither object. Types, constants and standard procedures must be equal. The place of a variable
--- must have the variable's type, and a procedure the parameter modes of its signature.
+-- no object in either. Types, constants and standard procedures must be equal. The place of a
+-- variable must have the variable's type, and a procedure the parameter modes of its signature.
 abbrev pub ObjectFits : StoreTyping
     → Option (Object Shape Signature)
     → Option (Object Place (List Mode))
@@ -102,8 +102,8 @@ ArgumentsFit typing (f ∷ fs) (value_argument v ∷ args) =
 ArgumentsFit typing _ _ = ⊥
 
 -- Holds if a name's object in an activation agrees with its object in the checked environment.
--- `checked` has the older bindings of that environment. A procedure must also be well-typed after
--- these bindings.
+-- `checked` has the older bindings of that environment. A procedure must also be well-typed, given
+-- these older bindings.
 abbrev pub BindingFits : {N : Type 0}
     → Naming N
     → StoreTyping

@@ -34,8 +34,8 @@ pub data Argument : Type 0 where
   place_argument : Place → Argument
   value_argument : Value → Argument
 
--- continues with the result of an evaluation, or ends the run as the evaluation did, with the
--- output of the state `s`
+-- passes the result of an evaluation to `next`; if the evaluation ended the run, returns this end
+-- with the output of the state `s`
 abbrev pub use_result : {A : Type 0} → State → Outcome A → (A → Progress) → Progress
 use_result s (gives a) next = next a
 use_result s (ends e) next = stopped e s.output
@@ -224,7 +224,7 @@ unfoldable mutual
   execute_else meaning enter t (one (else_branch statements)) s =
       execute_all meaning enter t statements s
 
--- a procedure in a run: its text, and the ordinal of the first ARRAY or RECORD in it
+-- a procedure in a run: its text, and the number of words ARRAY and RECORD before it
 pub record ProcedureText (N : Type 0) : Type 0 where
   pub first_constructor : ℕ
   pub text : Tree N (item procedure)
@@ -249,8 +249,8 @@ allocate (x ∷ xs) v f =
       store = f.store ++ v ∷ [];
     }
 
--- Adds new variables, with 0 or FALSE in each of their parts (rule 1). `k` is the ordinal of the
--- first ARRAY or RECORD. Returns None if a type has an error.
+-- Adds new variables, with 0 or FALSE in each of their parts (rule 1). `k` is the number of words
+-- ARRAY and RECORD before them. Returns None if a type has an error.
 unfoldable pub declare_variables : {N : Type 0}
     → Naming N
     → ℕ
@@ -264,8 +264,8 @@ declare_variables naming k (more (declares_variable ns u) gs) f =
     (allocate (names_in_list ns) (initial s) f))
     (denoted (meanings naming f.env) k u)
 
--- returns the environment with procedures added, each with the ordinal of its first ARRAY or
--- RECORD; `k` is the ordinal for the first procedure
+-- returns the environment with procedures added, each with the number of words ARRAY and RECORD
+-- before it; `k` of them are before the first procedure
 abbrev pub declare_procedures : {N : Type 0}
     → ℕ
     → Tree N (items procedure)
@@ -276,13 +276,13 @@ declare_procedures k (more p rest) env =
     declare_procedures (k + procedure_constructor_count p) rest
     ((procedure_name p, a_procedure record { first_constructor = k; text = p }) ∷ env)
 
--- adds the procedures of a block to the environment of a frame; `k` is the ordinal of their first
--- ARRAY or RECORD
+-- adds the procedures of a block to the environment of a frame; `k` is the number of words ARRAY
+-- and RECORD before the procedures
 abbrev pub declare_procedures_in_frame : {N : Type 0} → ℕ → Tree N (items procedure) → Frame N → Frame N
 declare_procedures_in_frame k ps f = record { env = declare_procedures k ps f.env; store = f.store }
 
 -- Adds a block's constants and types, then its variables, then its procedures to a frame. `k` is
--- the ordinal of the block's first ARRAY or RECORD. Returns None if one of them has an error.
+-- the number of words ARRAY and RECORD before the block. Returns None if one of them has an error.
 unfoldable pub declare_block : {N : Type 0}
     → Naming N
     → ℕ
@@ -315,7 +315,8 @@ parameters end = []
 parameters (more (then_section f) fs) =
     map (λ x. record { mode = section_mode f; name = x }) (section_names f) ++ parameters fs
 
--- binds all parameters of a call to its arguments; None if their numbers or forms differ
+-- binds all parameters of a call to its arguments; None if there are more or fewer arguments than
+-- parameters, or an argument has the wrong form
 abbrev pub bind_parameters : {N : Type 0}
     → List (Parameter N)
     → List Argument
@@ -333,7 +334,7 @@ formal_modes (more (then_section f) fs) =
     map (λ x. section_mode f) (section_names f) ++ formal_modes fs
 
 -- returns a name's object as statements see it: a procedure is reduced to the modes of its
--- parameters
+-- parameters; anything else is unchanged
 abbrev pub statement_object : {N : Type 0}
     → Option (Object Place (ProcedureText N))
     → Option (Object Place (List Mode))
@@ -376,9 +377,9 @@ abbrev pub continue_in_frame : {N : Type 0}
 continue_in_frame s None next = stopped Stuck s.output
 continue_in_frame s (Some f) next = next f record s { store = f.store }
 
--- Executes the body of the procedure in the first binding of an environment. The call has its own
--- variables. The body also sees this environment: the bindings that were visible after the
--- procedure's heading, in the activation that declared the procedure.
+-- Executes the procedure in the first binding of an environment. Binds its parameters, adds its own
+-- declarations and executes its body, which also sees this environment. Ends the run with Stuck if
+-- the binding isn't a procedure, the arguments don't match or a declaration has an error.
 unfoldable pub activate : {N : Type 0}
     → Naming N
     → (Activation N → CallFunction N)
@@ -397,8 +398,9 @@ activate naming enter t ((x, a_procedure code) ∷ rest) args s =
     (λ f. execute_body naming f.env (enter f.env) t (block_statements (procedure_block code.text)))
 activate naming enter t _ args s = stopped Stuck s.output
 
--- Performs a call, or ends the run with CallBound if `c`, the number of calls that may still be
--- open, is 0. The store keeps the call's variables after the call returns.
+-- Performs the call of the name `x`. `c` is how many calls may still be opened within each other;
+-- if it is 0, the run ends with CallBound. The store keeps the call's variables after the call
+-- returns.
 unfoldable pub call : {N : Type 0} → Naming N → ℕ → ℕ → Activation N → CallFunction N
 unfolding activate
 call naming zero t env x args s = stopped CallBound s.output
@@ -416,8 +418,8 @@ abbrev pub run_result : Progress → Run
 run_result (running s) = record { output = s.output; ending = Done }
 run_result (stopped e out) = record { output = out; ending = e }
 
--- returns the result of running a tree; `enter` performs calls, and the number bounds the
--- iterations of each loop
+-- returns the result of running a tree; `enter` performs calls, and `t` bounds the iterations of
+-- each loop
 unfoldable pub run_by : {N : Type 0}
     → Naming N
     → (Activation N → CallFunction N)

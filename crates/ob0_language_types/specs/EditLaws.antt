@@ -28,8 +28,8 @@ IsScalar (truth b) = Unit {0}
 IsScalar (elements vs) = ⊥
 IsScalar (members k ms) = ⊥
 
--- Holds if the word of a truth value, TRUE or FALSE, would mean the predeclared constant in place
--- of an occurrence. Always holds for any other value.
+-- Holds if the word for a truth value, TRUE or FALSE, would be bound to the predeclared constant if
+-- it replaced this occurrence. Holds for every other value.
 abbrev pub MeansPredeclaredTruth : Tree Name module_text → ℕ → Value → Type 0
 MeansPredeclaredTruth m occurrence (truth true) = resolve_at_occurrence m occurrence (codes "TRUE") ≡ Some 2
 MeansPredeclaredTruth m occurrence (truth false) = resolve_at_occurrence m occurrence (codes "FALSE") ≡ Some 3
@@ -43,8 +43,8 @@ pub record IsConstantWritten
   pub scalar : IsScalar w
   pub literal : value_literal w ≡ Some v
 
--- Holds if each use is bound to the constant `d`. If `w` is a truth value, its word must also mean
--- the predeclared constant in place of each use.
+-- Holds if each occurrence in `uses` is bound to the constant `d`. If `w` is a truth value, the
+-- word TRUE or FALSE must mean the predeclared constant in place of each of these occurrences.
 pub record AreUsesOf (m : Tree Name module_text) (d : ℕ) (w : Value) (uses : OccurrenceSet) : Type 0 where
   pub bound : (k : ℕ) → uses k ≡ true → binds m k ≡ Some d
   pub seen : (k : ℕ) → uses k ≡ true → MeansPredeclaredTruth m k w

@@ -103,7 +103,7 @@ unfoldable mutual
   evaluate_factor meaning store (parenthesised e) = evaluate meaning store e
   evaluate_factor meaning store (negation f) = evaluate_factor meaning store f >>= negate
 
-  -- returns the path that selectors select in the value `v`; an index is evaluated and checked
+  -- returns the path of these selectors in the value `v`; each index is evaluated and checked
   -- against the length of its array
   pub follow : {N P : Type 0}
       → Meanings N Place P

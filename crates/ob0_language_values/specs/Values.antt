@@ -13,10 +13,10 @@ use Rattle.ob0_language_names.specs.Names.{Name, same_name}
 pub use Rattle.ob0_language_values.specs.Division.{checked_division, quotient, remainder}
 
 infixl 20 ◌>>=◌
--- The type of a variable or value. `k` is the ordinal, in the text, of the word ARRAY or RECORD that made the type. So
--- two types are the same exactly if their shapes are equal.
+-- The type of a variable or value. `k` is the number of words ARRAY and RECORD before the word that
+-- made the type. So two types are the same exactly if their shapes are equal.
 mutual
-  -- a type: INTEGER, BOOLEAN, an array of some length, or a record
+  -- a type: INTEGER, BOOLEAN, an array with its length, or a record
   pub data Shape : Type 0 where
     integer_shape : Shape
     boolean_shape : Shape
@@ -28,8 +28,8 @@ mutual
     no_field_shape : FieldShapes
     next_field_shape : Name → Shape → FieldShapes → FieldShapes
 
--- A value: a number, a truth value, an array's elements, or a record's members. `k` is the ordinal of the RECORD that
--- made the record's type.
+-- A value: a number, a truth value, an array's elements, or a record's members. `k` is the number
+-- of words ARRAY and RECORD before the RECORD that made the record's type.
 mutual
   -- a value, which is a scalar, an array or a record
   pub data Value : Type 0 where

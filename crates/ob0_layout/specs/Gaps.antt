@@ -12,8 +12,8 @@ use Rattle.ob0_text.specs.Texts.{position_of}
 use Rattle.ob0_layout.specs.declared.line_role.LineRole.{LineRole}
 use Rattle.ob0_layout.specs.Layout.{PlacedLexeme, placed_lexemes, gap}
 
--- Returns the gaps after the token or comment `a`, each as a cut that replaces it by its text after
--- formatting. The list has the tokens and comments after `a`, and `len` is the length of the text
+-- Returns the gaps after the token or comment `a`, each as the cut that replaces it by its
+-- formatted text. The list has the tokens and comments after `a`. `len` is the length of the text
 -- in bytes. The formatted text ends with a line feed.
 abbrev pub gaps_after : Indent → ℕ → PlacedLexeme → List PlacedLexeme → List Cut
 gaps_after indent len a [] = record { from = a.span.end; to = len; new = 10 ∷ [] } ∷ []
@@ -21,16 +21,16 @@ gaps_after indent len a (b ∷ bs) =
     record { from = a.span.end; to = b.span.start; new = gap indent a b }
     ∷ gaps_after indent len b bs
 
--- Returns all gaps of a text of length `len`, each as a cut that replaces it by its text after
--- formatting. The gap at the start of the text becomes empty. The list has the tokens and comments
--- of the text.
+-- Returns all gaps of a text of `len` bytes, each as the cut that replaces it by its formatted
+-- text. The list has the tokens and comments of the text. The gap at the start of the text becomes
+-- empty.
 abbrev pub gaps : Indent → ℕ → List PlacedLexeme → List Cut
 gaps indent len [] = record { from = 0; to = len; new = [] } ∷ []
 gaps indent len (a ∷ bs) =
     record { from = 0; to = a.span.start; new = [] } ∷ gaps_after indent len a bs
 
--- Returns all gaps of a text, which consists of these lexemes, as cuts. `ss` are the roles of its
--- tokens.
+-- Returns all gaps of a text as cuts. `lexemes` are all lexemes of the text, and `ss` has the roles
+-- of its tokens.
 abbrev pub all_gaps : Indent → List ℕ → List LineRole → List Lexeme → List Cut
 all_gaps indent text ss lexemes = gaps indent (length text) (placed_lexemes 0 0 true ss lexemes)
 
@@ -42,13 +42,13 @@ is_changed text c = not (bytes_eq (slice_range text c.from c.to) c.new)
 abbrev pub changed_gaps : List ℕ → List Cut → List Cut
 changed_gaps text cs = filter (is_changed text) cs
 
--- The content of an edit: the range that it replaces, and its new text in bytes.
+-- An edit as contracts see it: the range that it replaces, and its new text in bytes.
 pub record EditContent : Type 0 where
   pub range : Range
   pub text : List ℕ
 
--- Returns the edit that replaces a whole gap of the text `content`. `width` gives the number of
--- units of a character.
+-- Returns the edit that makes the cut `c` in the text `content`. `width` returns how many units a
+-- character has in a position.
 abbrev pub edit_of : (ℕ → ℕ) → List ℕ → Cut → EditContent
 edit_of width content c = record {
   range =
@@ -56,12 +56,12 @@ edit_of width content c = record {
   text = c.new;
 }
 
--- Returns the content of an edit of the code.
+-- returns the range of an edit, and its new text in bytes
 abbrev pub edit_content : Edit → EditContent
 edit_content e = record { range = e.range; text = string_bytes e.text }
 
--- Returns the length in bytes of a part of the formatted text: the text from the offset `at` to its
--- end, after these gaps are formatted. `len` is the length of the text before formatting.
+-- Returns the length in bytes of the text from the offset `at` to its end, after these cuts are
+-- made in it. `len` is the length of the whole text before the cuts.
 abbrev pub formatted_len_from : ℕ → ℕ → List Cut → ℕ
 formatted_len_from len at [] = len - at
 formatted_len_from len at (c ∷ cs) = (c.from - at) + (length c.new + formatted_len_from len c.to cs)

@@ -10,29 +10,27 @@ use Rattle.ob0_layout.specs.declared.line_role.LineRole.TheVariants.{Begins, Ope
 abbrev pub deeper : ℕ → ℕ
 deeper k = min (k + 1) 4294967295
 
--- Returns the roles of some tokens after the first one is changed: the first token begins a line of
--- this level.
+-- Returns the roles with the first one replaced by `Begins level`. Returns an empty list unchanged.
 abbrev pub with_line_start : ℕ → List LineRole → List LineRole
 with_line_start level [] = []
 with_line_start level (s ∷ ss) = Begins level ∷ ss
 
--- Returns the role of a sign, after which no space comes, as a list. Without a sign the list is
--- empty.
+-- Returns a list with the role of the sign, or an empty list if there is no sign.
 abbrev pub sign_role : Option Sign → List LineRole
 sign_role None = []
 sign_role (Some s) = Joining ∷ []
 
--- Returns the role of the separator before an item of a list, as a list. If the item is the first
--- one (true), there is no separator.
+-- Returns a list with the role of the separator before an item. For the first item of a list (true)
+-- the result is empty, because no separator comes before it.
 abbrev pub separator_role : Bool → List LineRole
 separator_role true = []
 separator_role false = Plain ∷ []
 
--- Returns the roles of a tree's tokens, in text order. The level is the block's, or in a sequence
--- the level of its statements. The module has level 0, and a procedure one level more than the
--- block that declares it. The statements of a body have one level more than its block, and
--- statements inside a statement one more than that statement. Constructs within a line have no
--- level: 0 is passed for them.
+-- Returns the roles of a tree's tokens, in text order. `k` is the level of a statement, or for
+-- declarations and bodies the level of their block. The module has level 0, and a procedure is one
+-- level deeper than the block that declares it. The statements of a body are one level deeper than
+-- its block. Statements inside a statement are one level deeper than that statement. A construct
+-- within a line has no level, and its `k` is 0.
 abbrev pub line_roles : {N : Type 0} {s : Sort} → ℕ → Tree N s → List LineRole
 line_roles k none = []
 line_roles k (one t) = line_roles k t

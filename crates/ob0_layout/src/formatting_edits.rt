@@ -1,4 +1,4 @@
-//! Formats a module's text by edits.
+//! Makes the edits that format a module's text.
 
 ghost use Rattle.std.specs.Prelude.{◌≡◌, ◌≤◌, ◌<◌, ◌⊎◌, ◌↔◌, IsTrue, Some, IfOk, IfErr, IsErrOf, map, length};
 ghost use Rattle.std.specs.List.{All};
@@ -56,7 +56,8 @@ pub fn format<T: TextStore>(
     Ok(edits(alloc, store, &sites, indent)?)
 }
 
-/// Returns true if a text of `len` bytes is short enough after these gaps are formatted.
+/// Returns true if a text of `len` bytes has at most `MAX_TEXT` bytes after these gaps are
+/// formatted.
 fn is_within_limit(sites: &[GapSite], len: usize, indent: Indent) -> bool
     requires length { len ≤ max_text }
     requires within { All (LiesIn len) sites.now }

@@ -14,8 +14,8 @@ ghost use Rattle.ob0_layout.specs.Layout.{without_white_space, formatted_lexemes
 ghost use Rattle.ob0_layout.specs.Gaps.{IsWhiteSpace, all_gaps, changed_gaps, formatted_len_from};
 ghost use Rattle.ob0_layout.specs.LineRoles.{line_roles};
 
-/// Proves that scanning a formatted text gives the formatted lexemes, and that its tokens and
-/// comments are those of the original text.
+/// Proves two facts: scanning a formatted text gives `formatted_lexemes`, and formatting changes no
+/// token and no comment.
 pub fn formatting_keeps_lexemes()
     ensures lexed { (indent : Indent) (s : TextWithTokens) (scan : IsScan s)
         (tree : Tree (List ℕ) module_text)

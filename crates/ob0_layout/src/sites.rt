@@ -30,15 +30,15 @@ pub struct KindAndRole {
     pub role: LineRole,
 }
 
-/// The next lexeme of a text that isn't white space.
+/// The next token or comment of a text.
 #[derive(Clone, Copy)]
 pub enum NextLexeme {
     Token(Token),
     Comment(Span),
 }
 
-/// Returns the gaps of a text that formatting changes, in text order. `roles` are the roles of its
-/// tokens.
+/// Returns the gaps that formatting changes, in text order. `roles` has the role of each token of
+/// the text.
 pub fn changed_sites(
     alloc: Global,
     tokens: &Tokens,
@@ -158,7 +158,7 @@ fn last_gap(before: Option<KindAndRole>) -> Gap
 }
 
 /// Returns the level of the next token's line, or 0 if no token follows. `level` is the level of
-/// the current line.
+/// the current line, and `roles` has the roles of the remaining tokens.
 fn next_line_level(level: u32, roles: &[LineRole]) -> u32
     ensures { result ≡ next_line_level level roles.now }
 {
@@ -173,7 +173,8 @@ fn next_line_level(level: u32, roles: &[LineRole]) -> u32
     }
 }
 
-/// Returns the role of the next token, or Plain if no token follows.
+/// Returns the role of the next token, or `Plain` if no token follows. `roles` has the roles of the
+/// remaining tokens.
 fn next_role(roles: &[LineRole]) -> LineRole
     ensures { result ≡ next_role roles.now }
 {
@@ -183,7 +184,7 @@ fn next_role(roles: &[LineRole]) -> LineRole
     roles[0]
 }
 
-/// Returns a list without its first item.
+/// Returns a list without its first item. Returns an empty list unchanged.
 fn without_first_item<T>(items: &[T]) -> &[T]
     ensures { result.now ≡ drop 1 items.now }
 {
@@ -193,8 +194,8 @@ fn without_first_item<T>(items: &[T]) -> &[T]
     &items[1..]
 }
 
-/// Returns the role of a comment. If a line break comes before the comment, it begins a line of
-/// this level.
+/// Returns the role of a comment. If a line break comes before the comment (`broken`), the comment
+/// begins a line of this level. Otherwise its role is `Plain`.
 fn comment_role(broken: bool, level: u32) -> LineRole
     ensures { result ≡ comment_role broken level }
 {
@@ -213,7 +214,7 @@ fn begins_line(before: Option<KindAndRole>, gap: &[u8]) -> bool
     before.is_none() || has_break(gap)
 }
 
-/// Returns true if white space contains a line feed or a carriage return.
+/// Returns true if the gap contains a line feed or a carriage return.
 fn has_break(gap: &[u8]) -> bool
     ensures { result ≡ has_break gap.now }
 {

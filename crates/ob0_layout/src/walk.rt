@@ -15,7 +15,7 @@ use ob0_tree::{
 };
 use std::alloc::{AllocError, Global};
 
-/// Returns the roles of a module's tokens in their lines, in text order.
+/// Returns the role of each token of a module in its line, in text order.
 pub(crate) fn line_roles(alloc: Global, module: &Module) -> Result<Vec<LineRole>, AllocError>
     ensures { IfOk result (λ out. out.items ≡ line_roles 0 (tree_of module.now)) }
 {
@@ -30,14 +30,14 @@ pub(crate) fn line_roles(alloc: Global, module: &Module) -> Result<Vec<LineRole>
     Ok(out)
 }
 
-/// Returns the level that is one deeper.
+/// Returns the level that is one deeper, but at most 2^32 - 1.
 fn deeper(level: u32) -> u32
     ensures { result ≡ deeper level }
 {
     level.saturating_add(1)
 }
 
-/// Appends the role `Plain`, of a token whose gaps depend only on its kind.
+/// Appends the role `Plain` of one token.
 fn add_plain_role(out: &mut Vec<LineRole>) -> Result<(), AllocError>
     ensures { IfOk result (λ _. out.new.items ≡ out.old.items ++ (Plain ∷ [])) }
 {
@@ -57,7 +57,7 @@ fn add_expression_roles(out: &mut Vec<LineRole>, e: &Expression) -> Result<(), A
     }
 }
 
-/// Appends the roles of the tokens of an expression that isn't a single factor.
+/// Appends the roles of the tokens in an expression that isn't a single factor.
 #[cycle(expressions)]
 fn add_compound_roles(out: &mut Vec<LineRole>, c: &CompoundExpression) -> Result<(), AllocError>
     ensures { IfOk result (λ _. out.new.items ≡ out.old.items ++ line_roles 0 (compound_of c.now)) }
@@ -127,7 +127,7 @@ fn add_factor_roles(out: &mut Vec<LineRole>, f: &Factor) -> Result<(), AllocErro
     }
 }
 
-/// Appends the roles of the tokens of a name with its selectors.
+/// Appends the roles of a designator's tokens: its name and its selectors.
 #[cycle(expressions)]
 fn add_designator_roles(out: &mut Vec<LineRole>, d: &Designator) -> Result<(), AllocError>
     ensures { IfOk result
@@ -168,7 +168,8 @@ fn add_separator_role(out: &mut Vec<LineRole>, first: bool) -> Result<(), AllocE
     Ok(())
 }
 
-/// Appends the roles of a sequence of statements of this level, with a `;` between them.
+/// Appends the roles of the tokens in a statement sequence of this level, with the `;` between
+/// statements.
 #[cycle(statements)]
 fn add_sequence_roles(
     out: &mut Vec<LineRole>,
@@ -285,7 +286,8 @@ fn add_if_roles(out: &mut Vec<LineRole>, level: u32, i: &If) -> Result<(), Alloc
     }
 }
 
-/// Appends the roles of the ELSIF parts of an IF statement of this level.
+/// Appends the roles of the tokens in the ELSIF parts of an IF statement. `level` is the level of
+/// the IF statement.
 #[cycle(statements)]
 fn add_elsif_roles(
     out: &mut Vec<LineRole>,
@@ -304,7 +306,8 @@ fn add_elsif_roles(
     Ok(())
 }
 
-/// Appends the roles of a list of names; `first` is the role of the first name.
+/// Appends the roles of the tokens in a list of names, with the commas between the names. `first`
+/// is the role of the first name.
 fn add_name_roles(out: &mut Vec<LineRole>, first: LineRole, ns: &Names) -> Result<(), AllocError>
     ensures { IfOk result (λ _. out.new.items
         ≡ out.old.items ++ (first ∷ line_roles 0 (items_of then_name ns.now.more.items))) }
@@ -349,7 +352,7 @@ fn add_record_roles(out: &mut Vec<LineRole>, r: &RecordType) -> Result<(), Alloc
     add_plain_role(out)
 }
 
-/// Appends the roles of the tokens of a group of fields, which may be empty.
+/// Appends the roles of the tokens in a group of fields. An empty group has no tokens.
 #[cycle(types)]
 fn add_field_roles(out: &mut Vec<LineRole>, f: &Fields) -> Result<(), AllocError>
     ensures { IfOk result (λ _. out.new.items ≡ out.old.items ++ line_roles 0 (fields_of f.now)) }
@@ -364,7 +367,8 @@ fn add_field_roles(out: &mut Vec<LineRole>, f: &Fields) -> Result<(), AllocError
     }
 }
 
-/// Appends the roles of formal parameters with their parentheses, if there are any.
+/// Appends the roles of the tokens in formal parameters, with the parentheses. If `sections` is
+/// None, appends nothing.
 fn add_formal_roles(
     out: &mut Vec<LineRole>,
     sections: &Option<Vec<ParameterSection>>,
@@ -385,7 +389,7 @@ fn add_formal_roles(
     add_plain_role(out)
 }
 
-/// Appends the roles of a section of parameters.
+/// Appends the roles of the tokens in a section of parameters.
 fn add_section_roles(out: &mut Vec<LineRole>, s: &ParameterSection) -> Result<(), AllocError>
     ensures { IfOk result (λ _. out.new.items ≡ out.old.items ++ line_roles 0 (section_of s.now)) }
 {
@@ -397,7 +401,8 @@ fn add_section_roles(out: &mut Vec<LineRole>, s: &ParameterSection) -> Result<()
     add_type_roles(out, &s.written)
 }
 
-/// Appends the roles of the CONST section of a block of this level, if there is one.
+/// Appends the roles of the tokens in a block's CONST section, if there is one. `level` is the
+/// level of the block.
 fn add_constant_roles(
     out: &mut Vec<LineRole>,
     level: u32,
@@ -419,7 +424,8 @@ fn add_constant_roles(
     Ok(())
 }
 
-/// Appends the roles of the TYPE section of a block of this level, if there is one.
+/// Appends the roles of the tokens in a block's TYPE section, if there is one. `level` is the level
+/// of the block.
 fn add_type_declaration_roles(
     out: &mut Vec<LineRole>,
     level: u32,
@@ -441,7 +447,8 @@ fn add_type_declaration_roles(
     Ok(())
 }
 
-/// Appends the roles of the VAR section of a block of this level, if there is one.
+/// Appends the roles of the tokens in a block's VAR section, if there is one. `level` is the level
+/// of the block.
 fn add_variable_roles(
     out: &mut Vec<LineRole>,
     level: u32,
@@ -463,7 +470,8 @@ fn add_variable_roles(
     Ok(())
 }
 
-/// Appends the roles of the body of a block of this level, if there is one. Its statements are one level deeper.
+/// Appends the roles of the tokens in a block's body, if there is one. `level` is the level of the
+/// block, and the statements are one level deeper.
 fn add_body_roles(
     out: &mut Vec<LineRole>,
     level: u32,
@@ -496,7 +504,8 @@ fn add_block_roles(out: &mut Vec<LineRole>, level: u32, b: &Block) -> Result<(),
     add_body_roles(out, level, &b.body)
 }
 
-/// Appends the roles of a procedure that a block of this level declares. The procedure is one level deeper.
+/// Appends the roles of a procedure's tokens. `level` is the level of the block that declares it,
+/// and the procedure is one level deeper.
 #[cycle(blocks)]
 fn add_procedure_roles(out: &mut Vec<LineRole>, level: u32, p: &Procedure) -> Result<(), AllocError>
     ensures { IfOk result

@@ -1,4 +1,5 @@
--- Texts, given by the kinds of their tokens, with the places at which the descent stops in them.
+-- States at which token the descent stops in example texts. Each text is given by the kinds of its
+-- tokens.
 -- Rule: docs/LANGUAGE.md, Syntax faults (its examples).
 use Rattle.std.specs.Prelude.{ℕ, zero, suc, ◌+◌, List, [], ◌∷◌, ◌++◌}
 use Rattle.ob0_scan.specs.declared.lexeme.TokenKind.{TokenKind}

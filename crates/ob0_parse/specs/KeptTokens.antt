@@ -1,5 +1,5 @@
--- Defines the procedures and the body that are kept from an earlier parse, and the tokens that they
--- spell.
+-- Says which tokens the procedures and the body kept from earlier parses have, before and after a
+-- change of the text.
 -- Rule: none; for contracts of `KeptTrees` and of `reparse_tree`.
 use Rattle.std.specs.declared.vec.Vec.{Vec}
 use Rattle.std.specs.declared.alloc.Global.{Global}
@@ -20,8 +20,8 @@ use Rattle.ob0_parse.specs.declared.kept.KeptTrees.{KeptTrees}
 use Rattle.ob0_parse.specs.declared.kept.KeptBody.{KeptBody}
 use Rattle.ob0_parse.specs.declared.kept.KeptProcedure.{KeptProcedure}
 
--- Returns tokens of these kinds, as a tree over indexes spells them. The first token has the index
--- `i`.
+-- Returns tokens of these kinds with their indexes, as a tree whose leaves are token indexes spells
+-- them. The first token has the index `i`.
 abbrev pub index_terminals_of_kinds : ℕ → List TokenKind → List (Terminal ℕ)
 index_terminals_of_kinds i [] = []
 index_terminals_of_kinds i (k ∷ ks) = index_terminal i k ∷ index_terminals_of_kinds (i + 1) ks
@@ -34,17 +34,16 @@ first_token_index (declares_procedure name fs b closing) = name - 1
 abbrev pub end_token_index : Tree ℕ (item procedure) → ℕ
 end_token_index (declares_procedure name fs b closing) = closing + 2
 
--- Holds if the tokens `at..next` have the kinds that the tree spells, and its nesting is within the
--- limit. The leaves of the tree are the indexes in a text in which its first token has the index
--- `from`.
+-- Holds if the tokens `at..next` have the kinds that the tree spells, and the tree isn't nested too
+-- deeply. Its leaves are token indexes that count from its first token, which has the index `from`.
 pub record HasTokensAt {s : Sort} (ts : List Token) (from at next : ℕ) (t : Tree ℕ s) : Type 0 where
   pub spelled : spell t ≡ index_terminals_of_kinds from (slice_range (kinds ts) at next)
   pub shallow : nesting t ≤ max_nesting
   pub forward : at < next
   pub within : next ≤ length ts
 
--- Holds if the tokens `at..next` have the kinds that the tree spells, its leaves are the indexes of
--- these tokens, and its nesting is within the limit.
+-- Holds if the tokens `at..next` have the kinds that the tree spells, and the tree isn't nested too
+-- deeply. Its leaves are the indexes of these tokens.
 abbrev pub IsInPlace : {s : Sort} → List Token → ℕ → ℕ → Tree ℕ s → Type 0
 IsInPlace ts at next t = HasTokensAt ts at at next t
 
@@ -53,17 +52,19 @@ IsInPlace ts at next t = HasTokensAt ts at at next t
 abbrev pub IsProcedureInPlace : List Token → Procedure → Type 0
 IsProcedureInPlace ts p = IsInPlace ts (first_token_index (procedure_of p)) (end_token_index (procedure_of p)) (procedure_of p)
 
--- Holds if the tokens of the waiting procedure are at `at..next`. Its leaves may have to be moved.
+-- Holds if the tokens of the kept procedure are at `k.at..k.next`. Its leaves may still be the
+-- indexes of these tokens in an earlier text.
 abbrev pub IsWaiting : List Token → KeptProcedure → Type 0
 IsWaiting ts k =
     HasTokensAt ts (first_token_index (procedure_of k.procedure)) k.at k.next (procedure_of k.procedure)
 
--- Holds if BEGIN and the statements of the kept body are at `at..next`. Its leaves may have to be
--- moved.
+-- Holds if BEGIN and the statements of the kept body are at `k.at..k.next`. Its leaves may still be
+-- the indexes of these tokens in an earlier text.
 abbrev pub IsBodyWaiting : List Token → KeptBody → Type 0
 IsBodyWaiting ts k = HasTokensAt ts k.from k.at k.next (body_of (Some k.statements))
 
--- Holds if no body is kept, or BEGIN and the statements of the kept body are at their place.
+-- Holds if no body is kept, or BEGIN and the statements of the kept body are at the place kept with
+-- it.
 abbrev pub IsAnyBodyWaiting : List Token → Option KeptBody → Type 0
 IsAnyBodyWaiting ts body = IfSome body (IsBodyWaiting ts)
 
@@ -72,14 +73,16 @@ abbrev pub HoldsForEach : {A : Type 0} → (A → Type 0) → List A → Type 0
 HoldsForEach P [] = Unit {0}
 HoldsForEach P (x ∷ xs) = P x × HoldsForEach P xs
 
--- Holds if the tokens of every kept tree are at the place that is kept with it.
+-- Holds if the tokens of every kept tree are in their place: at the place that its leaves give
+-- (`made`), or at the place kept with it (`waiting`, `body`).
 pub record AreKept (ts : List Token) (k : KeptTrees) : Type 0 where
   pub made : HoldsForEach (IsProcedureInPlace ts) k.made.items
   pub waiting : HoldsForEach (IsWaiting ts) k.waiting.items
   pub body : IsAnyBodyWaiting ts k.body
 
--- Holds if `k` is the body of a module with these procedures, whose closing name has the index
--- `closing`. BEGIN follows the last procedure, and END follows the statements.
+-- Holds if `k` has these statements and their place in a module with these procedures. The module's
+-- closing name is the token with the index `closing`. BEGIN follows the last procedure, and END
+-- follows the statements.
 pub record IsLocatedBody
     (ps : List Procedure) (statements : Option (Vec Statement Global)) (closing : ℕ) (k : KeptBody)
     : Type 0 where
@@ -91,8 +94,9 @@ pub record IsLocatedBody
 
 -- ---- another text
 
--- Holds if a tree at `at..next` in the old text is always at the range `place` in the new text. The
--- two texts may be any that share the tokens which `same` describes.
+-- Holds if each tree that has the tokens `at..next` in the old text has the tokens
+-- `place.0..place.1` in the new text. The two texts may be any that share the tokens which `same`
+-- describes.
 abbrev pub RelocatesRange : SameTokens → ℕ → ℕ → ℕ × ℕ → Type 0
 RelocatesRange same at next place =
     (s : Sort) (old new : List Token) (from : ℕ) (t : Tree ℕ s)
@@ -100,15 +104,15 @@ RelocatesRange same at next place =
     → HasTokensAt old from at next t
     → HasTokensAt new from place.0 place.1 t
 
--- Holds if `b` waits in the new text whenever `a` waits in the old text. The two texts may be any
--- that share the tokens which `same` describes.
+-- Holds if the kept procedure `b` is at its place in the new text whenever `a` is at its place in
+-- the old text. The two texts may be any that share the tokens which `same` describes.
 abbrev pub RelocatesProcedure : SameTokens → KeptProcedure → KeptProcedure → Type 0
 RelocatesProcedure same a b =
     (old new : List Token) → HasSameTokens same old new → IsWaiting old a → IsWaiting new b
 
--- Holds if the procedures `after` wait in the new text whenever `a` waits in the old text and the
--- procedures `before` wait in the new text. The two texts may be any that share the tokens which
--- `same` describes.
+-- Holds if the kept procedures `after` are at their places in the new text under two conditions:
+-- `a` is at its place in the old text, and the procedures `before` are at their places in the new
+-- text. The two texts may be any that share the tokens which `same` describes.
 abbrev pub AppendsRelocated : SameTokens
     → KeptProcedure
     → List KeptProcedure
@@ -121,8 +125,8 @@ AppendsRelocated same a before after =
     → HoldsForEach (IsWaiting new) before
     → HoldsForEach (IsWaiting new) after
 
--- Holds if the procedures `ys` wait in the new text whenever the procedures `xs` wait in the old
--- text. The two texts may be any that share the tokens which `same` describes.
+-- Holds if the kept procedures `ys` are at their places in the new text whenever `xs` are at theirs
+-- in the old text. The two texts may be any that share the tokens which `same` describes.
 abbrev pub RelocatesAll : SameTokens → List KeptProcedure → List KeptProcedure → Type 0
 RelocatesAll same xs ys =
     (old new : List Token)
@@ -130,9 +134,9 @@ RelocatesAll same xs ys =
     → HoldsForEach (IsWaiting old) xs
     → HoldsForEach (IsWaiting new) ys
 
--- Holds if the procedures `after` wait in the new text whenever `p` is in place in the old text and
--- the procedures `before` wait in the new text. The two texts may be any that share the tokens
--- which `same` describes.
+-- Holds if the kept procedures `after` are at their places in the new text under two conditions:
+-- the leaves of `p` give its place in the old text, and the procedures `before` are at their places
+-- in the new text. The two texts may be any that share the tokens which `same` describes.
 abbrev pub AppendsRelocatedMade : SameTokens
     → Procedure
     → List KeptProcedure
@@ -145,9 +149,10 @@ AppendsRelocatedMade same p before after =
     → HoldsForEach (IsWaiting new) before
     → HoldsForEach (IsWaiting new) after
 
--- Holds if the procedures `after` wait in the new text whenever the procedures `ps` are in place in
--- the old text and the procedures `before` wait in the new text. The two texts may be any that
--- share the tokens which `same` describes.
+-- Holds if the kept procedures `after` are at their places in the new text under two conditions:
+-- the leaves of the procedures `ps` give their places in the old text, and the procedures `before`
+-- are at their places in the new text. The two texts may be any that share the tokens which `same`
+-- describes.
 abbrev pub AppendsAllRelocatedMade : SameTokens
     → List Procedure
     → List KeptProcedure
@@ -185,23 +190,23 @@ IsLocatedProcedure p k =
 
 -- ---- reusing
 
--- Holds if `x` is a procedure that begins at the index `at` with its leaves in place, and the index
--- of the token after it.
+-- Holds if `x` is a pair: a procedure, and the index of the token after it. The procedure's first
+-- token has the index `at`, and its leaves are the indexes of its tokens in this text.
 abbrev pub IsReusedProcedure : List Token → ℕ → Procedure × ℕ → Type 0
 IsReusedProcedure ts at x = IsInPlace ts at x.1 (procedure_of x.0)
 
--- Holds if `IsReusedProcedure` holds for `x` in every text that has all the waiting procedures at their
--- places.
+-- Holds if `IsReusedProcedure` holds for `x` in every text that has all the kept procedures
+-- `waiting` at their places.
 abbrev pub IsReusedFromWaiting : List KeptProcedure → ℕ → Procedure × ℕ → Type 0
 IsReusedFromWaiting waiting at x = (ts : List Token) → HoldsForEach (IsWaiting ts) waiting → IsReusedProcedure ts at x
 
--- Holds if in every text in which the procedures `before` wait at their places, the procedures
--- `after` also do.
+-- Holds if every text that has the kept procedures `before` at their places also has the procedures
+-- `after` at theirs.
 abbrev pub RemainWaiting : List KeptProcedure → List KeptProcedure → Type 0
 RemainWaiting before after =
     (ts : List Token) → HoldsForEach (IsWaiting ts) before → HoldsForEach (IsWaiting ts) after
 
--- Holds if `x` has the statements of a body and the index of the token after it. The body begins at
--- the index `at` with its leaves in place.
+-- Holds if `x` is a pair: the statements of a body, and the index of the token after the last one.
+-- The body's BEGIN has the index `at`, and its leaves are the indexes of its tokens in this text.
 abbrev pub IsReusedBody : List Token → ℕ → Vec Statement Global × ℕ → Type 0
 IsReusedBody ts at x = IsInPlace ts at x.1 (body_of (Some x.0))

@@ -1,5 +1,5 @@
--- Defines the results of parsing a module and its own block, whose procedures the parser stores
--- with the kept trees.
+-- Says what the parser returns for a module and for the procedures of the module's own block. It
+-- stores these procedures with the kept trees.
 -- Rule: none; for private contracts of the parser.
 use Rattle.std.specs.Prelude.{ℕ, List, [], ◌∷◌, Result, Ok, Err, length}
 use Rattle.ob0_scan.specs.declared.lexeme.Token.{Token}

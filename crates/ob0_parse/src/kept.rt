@@ -1,16 +1,16 @@
 //! Keeps procedures and bodies from earlier parses, and the places of their tokens in another text.
 //!
 //! `KeptTrees` holds trees with the places of their tokens: the procedures of the last parse, the
-//! procedures that it didn't reach, and the body of the module. `HasTokensAt` says that a tree's tokens
-//! have the kinds that the tree spells, counted from its own first token. So only the kinds of
-//! these tokens decide whether a tree can be used in another text (`KeptTrees::relocate`), whatever else
-//! either text contains. A text with a syntax fault keeps the trees that its parser made up to the
-//! fault, and the ones that wait after the fault.
+//! procedures that it didn't reach, and the body of the module. `HasTokensAt` says that a tree's
+//! tokens have the kinds that the tree spells, and that its leaves count from its first token. So
+//! only the kinds of these tokens decide whether a tree can be used in another text
+//! (`KeptTrees::relocate`). If a text has a syntax fault, the trees that its parser made up to the
+//! fault are kept. The older trees after the fault are also kept.
 //!
-//! Reusing such a tree requires nothing about the parse that made it, except that the next token
-//! ends it. Nothing continues a procedure, which ends in a semicolon (`stops_zero`), and END
-//! continues no body. So no other tree has these tokens (`same`). The descent reads every tree that
-//! is spelled (`finishes`), so `IsReadTree` follows from the spelling (`taken_there`).
+//! Such a tree can be reused whatever parse made it, if the token after it doesn't continue it. No
+//! token continues a procedure, which ends in a semicolon (`stops_zero`), and END continues no
+//! body. So no other tree has these tokens (`same`). The descent reads every tree that is spelled
+//! (`finishes`), so `IsReadTree` follows from the spelling (`taken_there`).
 //!
 //! The leaves of a procedure give its place: its name is its second token, and its closing name is
 //! the last but one. The leaves of a body don't give its place, so a body is kept with the index of
@@ -19,8 +19,8 @@
 //!
 //! A kept tree waits with unchanged leaves while the parser hasn't reached it. When the parser
 //! reaches it, a walk in place adds the distance that its tokens have moved to its leaves
-//! (`move_leaves`, `leaf_moves.rt`). So each procedure and the body, before or after the change, are
-//! reused. The moved tree is `mapped` from the old one, so it spells the current tokens
+//! (`move_leaves`, `leaf_moves.rt`). So each procedure and the body, before or after the change,
+//! are reused. The moved tree is `mapped` from the old one, so it spells the current tokens
 //! (`moved_there`). No index exceeds the largest one, because `next` is itself an index.
 
 ghost use Rattle.std.specs.Prelude.{◌≡◌, ◌+◌, ◌≤◌, ◌++◌, [], List, IfOk, OnOk, IfSome};
@@ -60,11 +60,13 @@ pub struct KeptBody {
 /// module's body. A later parse reuses them when it reaches their tokens.
 #[derive(Drop)]
 pub struct KeptTrees {
-    /// The procedures that the last parse made or reused, in text order. Their leaves are in place.
+    /// The procedures that the last parse made or reused, in text order. Their leaves are the
+    /// present indexes of their tokens.
     pub made: Vec<Procedure>,
     /// The procedures that the last parse didn't reach, in reverse text order.
     pub waiting: Vec<KeptProcedure>,
-    /// The body from an earlier parse, unless the last parse reused it.
+    /// The module's body from an earlier parse. It is None if no body can be reused, or if the last
+    /// parse has reused it.
     pub body: Option<KeptBody>,
 }
 
@@ -216,8 +218,9 @@ fn relocate_body(body: Option<KeptBody>, same: SameTokens) -> Option<KeptBody>
     }
 }
 
-/// Returns the procedure with the place of its tokens. Its leaves must be in place, because they
-/// give that place. Returns None if the index after its last token is too large.
+/// Returns the procedure with the place of its tokens. Its leaves must be the present indexes of
+/// its tokens, because they give that place. Returns None if the index after its last token is too
+/// large.
 fn locate_procedure(procedure: Procedure) -> Option<KeptProcedure>
     ensures { IfSome result (IsLocatedProcedure procedure) }
 {
@@ -260,7 +263,8 @@ impl KeptBody {
         })
     }
 
-    /// Returns the statements with their leaves in place, and the index of the token after them.
+    /// Moves the leaves of the statements to the present indexes of their tokens. Returns the
+    /// statements and the index of the token after them.
     pub(crate) fn move_leaves(self) -> (Vec<Statement>, usize)
         ensures placed { (ts : List Token)
             → IsBodyWaiting ts self
@@ -321,8 +325,8 @@ pub(crate) fn take_procedure_at(
     None
 }
 
-/// Removes and returns the next waiting procedure if it begins at or before this token, otherwise
-/// returns None.
+/// Removes and returns the waiting procedure that comes first in the text, if it begins at or
+/// before this token. Otherwise returns None.
 fn pop_up_to(waiting: &mut Vec<KeptProcedure>, at: usize) -> Option<KeptProcedure>
     ensures rest { waiting.old.items ≡ waiting.new.items ++ option_to_list result }
 {
@@ -337,7 +341,8 @@ fn pop_up_to(waiting: &mut Vec<KeptProcedure>, at: usize) -> Option<KeptProcedur
     waiting.pop()
 }
 
-/// Returns the procedure with its leaves in place, and the index of the token after it.
+/// Moves the procedure's leaves to the present indexes of its tokens. Returns the procedure and the
+/// index of the token after it.
 fn move_leaves(kept: KeptProcedure) -> (Procedure, usize)
     ensures { (ts : List Token) → IsWaiting ts kept → IsReusedProcedure ts kept.at result }
 {

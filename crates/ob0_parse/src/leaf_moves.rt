@@ -283,7 +283,7 @@ fn move_names(ns: &mut Names, by: LeafMove)
     move_further_names(&mut ns.more, by);
 }
 
-/// Applies the move `by` to each token index in the names of a list after the first.
+/// Applies the move `by` to the token index of each name after the first in a list.
 fn move_further_names(leaves: &mut Vec<usize>, by: LeafMove)
     ensures { items_of then_name leaves.new.items ≡ moved_tree by (items_of then_name leaves.old.items) }
 {
@@ -347,7 +347,7 @@ fn move_section(s: &mut ParameterSection, by: LeafMove)
     move_type(&mut s.written, by);
 }
 
-/// Applies the move `by` to each token index in formal parameters.
+/// Applies the move `by` to each token index in formal parameters, if there are any.
 fn move_formals(sections: &mut Option<Vec<ParameterSection>>, by: LeafMove)
     ensures { formals_of sections.new ≡ moved_tree by (formals_of sections.old) }
 {
@@ -392,7 +392,7 @@ fn move_constant(c: &mut Constant, by: LeafMove)
 }
 
 /// Applies the move `by` to each token index in a TYPE section, if there is one.
-fn move_type_faults(declared: &mut Option<Vec<TypeDeclaration>>, by: LeafMove)
+fn move_type_section(declared: &mut Option<Vec<TypeDeclaration>>, by: LeafMove)
     ensures { types_of declared.new ≡ moved_tree by (types_of declared.old) }
 {
     if let Some(listed) = declared {
@@ -443,7 +443,7 @@ fn move_variable(v: &mut VariableDeclaration, by: LeafMove)
     move_type(&mut v.written, by);
 }
 
-/// Applies the move `by` to each token index in a block's statements.
+/// Applies the move `by` to each token index in a block's statements, if it has a body.
 fn move_body(statements: &mut Option<Vec<Statement>>, by: LeafMove)
     ensures { body_of statements.new ≡ moved_tree by (body_of statements.old) }
 {
@@ -458,7 +458,7 @@ fn move_block(b: &mut Block, by: LeafMove)
     ensures { block_of b.new ≡ moved_tree by (block_of b.old) }
 {
     move_constants(&mut b.constants, by);
-    move_type_faults(&mut b.types, by);
+    move_type_section(&mut b.types, by);
     move_variables(&mut b.variables, by);
     move_procedures(&mut b.procedures, by);
     move_body(&mut b.body, by);

@@ -18,7 +18,7 @@ use Rattle.ob0_parse_descent.specs.declared.refusal.Expected.{Expected}
 use Rattle.ob0_parse_descent.specs.declared.refusal.Expected.TheVariants as expected
 
 -- A part of a production: a reserved word or symbol, an identifier, an integer, a construct with at
--- most this many levels of nesting, or the end of the text.
+-- most `room` levels of nesting, or the end of the text.
 pub data ProductionPart : Type 0 where
   token : TokenKind → ProductionPart
   name : ProductionPart
@@ -43,8 +43,8 @@ reserved_part w = token (kind.ReservedWord w)
 abbrev pub symbol_part : Symbol → ProductionPart
 symbol_part s = token (kind.Symbol s)
 
--- Returns the choice for a construct that counts for nesting, whose inside has one level less
--- (LANGUAGE.md, Nesting and limits). If no level is left, the construct is too deep.
+-- Returns the choice for a construct that opens a level of nesting: its parts, with one level less
+-- left for them (LANGUAGE.md, Nesting and limits). If no level is left, the construct is too deep.
 abbrev pub nested_choice : ℕ → (ℕ → List ProductionPart) → ProductionChoice
 nested_choice zero inside = too_deep
 nested_choice (suc room) inside = parts (inside room)
@@ -67,14 +67,14 @@ is_section_next (Name n ∷ tokens) = true
 is_section_next (Mark (kind.ReservedWord reserved.Var) ∷ tokens) = true
 is_section_next tokens = false
 
--- Returns true if a statement is an assignment: `:=` or a selector follows its identifier, which
--- precedes these tokens.
+-- Returns true if a statement whose identifier precedes these tokens is an assignment: the next
+-- token is `:=` or begins a selector.
 abbrev pub is_assignment_next : List (Terminal ℕ) → Bool
 is_assignment_next (Mark (kind.Symbol symbol.Becomes) ∷ tokens) = true
 is_assignment_next tokens = is_item_next selector tokens
 
--- Returns the parts of an item that consists of an operator, the next token, and a construct of the
--- sort `s` on its right side.
+-- Returns the parts of an item that consists of an operator and a construct of the sort `s` after
+-- it. The operator is the next token.
 abbrev pub operation_choice : Sort → ℕ → List (Terminal ℕ) → ProductionChoice
 operation_choice s room (Mark k ∷ tokens) = parts (token k ∷ node s room ∷ [])
 operation_choice s room tokens = missing expected.Expression
@@ -157,7 +157,7 @@ chosen_item_production procedure room tokens =
 -- the item of [BEGIN sequence]
 chosen_item_production body room tokens = parts (reserved_part reserved.Begin ∷ node sequence room ∷ [])
 
--- Returns the production of a construct that the next tokens determine, with `room` levels of
+-- Returns the production that the next tokens determine for a construct, with `room` levels of
 -- nesting left. No part of a list of names counts for nesting, so such a list needs no level.
 abbrev pub chosen_production : Sort → (room : ℕ) → List (Terminal ℕ) → ProductionChoice
 chosen_production (item i) room tokens = chosen_item_production i room tokens

@@ -91,7 +91,7 @@ impl<'t> Parser<'t> {
         Ok((sections, next))
     }
 
-    /// Parses `"(" [section {";" section}] ")"`.
+    /// Parses `["(" [section {";" section}] ")"]`. The sections are None if no `(` comes next.
     fn parse_formals(&self, at: usize, room: u32) -> ConstructResult<Option<Vec<ParameterSection>>>
         requires { at ≤ length self.now.tokens.now }
         ensures { Reads formals_of room self.now.tokens.now at result }
@@ -108,7 +108,7 @@ impl<'t> Parser<'t> {
         Ok((Some(sections), end))
     }
 
-    /// Parses `[CONST {constant}]`.
+    /// Parses `[CONST {constant}]`. The list is None if CONST doesn't come next.
     pub fn parse_constants(&self, at: usize, room: u32) -> ConstructResult<Option<Vec<Constant>>>
         requires { at ≤ length self.now.tokens.now }
         ensures { Reads constants_of room self.now.tokens.now at result }
@@ -120,7 +120,7 @@ impl<'t> Parser<'t> {
         Ok((Some(constants), next))
     }
 
-    /// Parses `{expect_identifier "=" expression ";"}`.
+    /// Parses `{ident "=" expression ";"}`.
     fn parse_constant_list(&self, at: usize, room: u32) -> ConstructResult<Vec<Constant>>
         requires { at ≤ length self.now.tokens.now }
         ensures { Reads constants_of_vec room self.now.tokens.now at result }
@@ -134,8 +134,7 @@ impl<'t> Parser<'t> {
         Ok((constants, next))
     }
 
-    /// Parses an optional `expect_identifier "=" expression ";"`. Returns None if no identifier comes
-    /// next.
+    /// Parses an optional `ident "=" expression ";"`. Returns None if no identifier comes next.
     fn parse_constant(&self, at: usize, room: u32) -> ItemResult<Constant>
         requires { at ≤ length self.now.tokens.now }
         ensures { ReadsItem constant_of room self.now.tokens.now at result }
@@ -149,7 +148,7 @@ impl<'t> Parser<'t> {
         Ok(Some((Constant { name: at, value }, end)))
     }
 
-    /// Parses `[TYPE {type declaration}]`.
+    /// Parses `[TYPE {type declaration}]`. The list is None if TYPE doesn't come next.
     pub fn parse_types(&self, at: usize, room: u32) -> ConstructResult<Option<Vec<TypeDeclaration>>>
         requires { at ≤ length self.now.tokens.now }
         ensures { Reads types_of room self.now.tokens.now at result }
@@ -161,7 +160,7 @@ impl<'t> Parser<'t> {
         Ok((Some(types), next))
     }
 
-    /// Parses `{expect_identifier "=" type ";"}`.
+    /// Parses `{ident "=" type ";"}`.
     fn parse_type_list(&self, at: usize, room: u32) -> ConstructResult<Vec<TypeDeclaration>>
         requires { at ≤ length self.now.tokens.now }
         ensures { Reads types_of_vec room self.now.tokens.now at result }
@@ -175,7 +174,7 @@ impl<'t> Parser<'t> {
         Ok((types, next))
     }
 
-    /// Parses an optional `expect_identifier "=" type ";"`. Returns None if no identifier comes next.
+    /// Parses an optional `ident "=" type ";"`. Returns None if no identifier comes next.
     fn parse_type_declaration(&self, at: usize, room: u32) -> ItemResult<TypeDeclaration>
         requires { at ≤ length self.now.tokens.now }
         ensures { ReadsItem type_declaration_of room self.now.tokens.now at result }
@@ -189,7 +188,7 @@ impl<'t> Parser<'t> {
         Ok(Some((TypeDeclaration { name: at, written }, end)))
     }
 
-    /// Parses `[VAR {variables}]`.
+    /// Parses `[VAR {variables}]`. The list is None if VAR doesn't come next.
     pub fn parse_variables(
         &self,
         at: usize,
@@ -232,7 +231,7 @@ impl<'t> Parser<'t> {
         Ok(Some((VariableDeclaration { names, written }, end)))
     }
 
-    /// Parses `[BEGIN sequence]`.
+    /// Parses `[BEGIN sequence]`. The statements are None if BEGIN doesn't come next.
     pub fn parse_body(&self, at: usize, room: u32) -> ConstructResult<Option<Vec<Statement>>>
         requires { at ≤ length self.now.tokens.now }
         ensures { Reads body_of room self.now.tokens.now at result }
@@ -282,8 +281,8 @@ impl<'t> Parser<'t> {
         Ok((procedures, next))
     }
 
-    /// Parses an optional `PROCEDURE expect_identifier [formals] ";" block END expect_identifier ";"`. Returns
-    /// None if PROCEDURE doesn't come next.
+    /// Parses an optional `PROCEDURE ident [formals] ";" block END ident ";"`. Returns None if
+    /// PROCEDURE doesn't come next.
     #[cycle(blocks)]
     pub fn parse_procedure(&self, at: usize, room: u32) -> ItemResult<Procedure>
         requires { at ≤ length self.now.tokens.now }

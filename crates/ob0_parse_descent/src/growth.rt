@@ -17,8 +17,8 @@ pub fn push_doubling<T: Drop>(list: &mut Vec<T>, item: T) -> Result<(), AllocErr
     Ok(())
 }
 
-/// Returns the number of items to reserve room for before adding one: 1 if there is room or the
-/// list is empty, otherwise its length, so that the capacity doubles.
+/// Returns how many items to reserve room for before one is added. Returns 1 if the list has room
+/// or is empty, otherwise its length, so that the capacity doubles.
 fn extra_capacity(len: usize, capacity: usize) -> usize
     ensures { (1 ≤ result) × (len < capacity → result ≡ 1) }
 {

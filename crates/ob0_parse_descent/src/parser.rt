@@ -22,8 +22,8 @@ use ob0_tree::{
 };
 use std::alloc::{AllocError, Global};
 
-/// The strength with which a selector binds the operand before it (see `binding_strength`). A smaller number
-/// binds more strongly.
+/// The strength with which a selector binds the operand before it (see `binding_strength`). A
+/// smaller number binds more strongly.
 const SELECTOR_STRENGTH: u8 = 1;
 
 /// The strength with which `*`, DIV, MOD and `&` bind the operand before them.
@@ -130,7 +130,7 @@ impl<'t> Parser<'t> {
         self.kind(at) == Some(TokenKind::Identifier)
     }
 
-    /// Parses an optional `"," expect_identifier`. Returns None if no comma comes next.
+    /// Parses an optional `"," ident`. Returns None if no comma comes next.
     fn parse_further_name(&self, at: usize) -> ItemResult<usize>
         requires { at ≤ length self.now.tokens.now }
         ensures read { ReadsItem then_name 0 self.now.tokens.now at result }
@@ -144,7 +144,7 @@ impl<'t> Parser<'t> {
         }
     }
 
-    /// Parses `expect_identifier {"," expect_identifier}`.
+    /// Parses `ident {"," ident}`.
     pub(crate) fn parse_names(&self, at: usize) -> ConstructResult<Names>
         requires { at ≤ length self.now.tokens.now }
         ensures { Reads names_of 0 self.now.tokens.now at result }
@@ -226,8 +226,8 @@ impl<'t> Parser<'t> {
     }
 
     /// Returns the factor that consists of the token at `at`. Returns None if that token is neither
-    /// an identifier nor an integer. Also returns None if the next token binds it with the strength
-    /// `level` or more strongly.
+    /// an identifier nor an integer. Also returns None if the token after it binds it with the
+    /// strength `level` or more strongly (a number of at most `level`).
     #[inline(always)]
     fn single_token_factor(&self, at: usize, level: u8) -> Option<Factor>
         requires within { at ≤ length self.now.tokens.now }
@@ -388,7 +388,7 @@ impl<'t> Parser<'t> {
         Ok(Some((Multiplier { operator, factor }, next)))
     }
 
-    /// Parses `expect_identifier selector | integer | "(" expression ")" | "~" factor`.
+    /// Parses `ident selector | integer | "(" expression ")" | "~" factor`.
     #[cycle(expressions)]
     #[inline(never)]
     fn parse_factor(&self, at: usize, room: u32) -> ConstructResult<Factor>
@@ -439,7 +439,7 @@ impl<'t> Parser<'t> {
         Ok((Factor::Not(boxed), next))
     }
 
-    /// Parses a name and its selectors.
+    /// Parses a name and its selectors, `ident {"." ident | "[" expression "]"}`.
     #[cycle(expressions)]
     pub(crate) fn parse_designator(&self, at: usize, room: u32) -> ConstructResult<Designator>
         requires { at ≤ length self.now.tokens.now }
@@ -454,8 +454,8 @@ impl<'t> Parser<'t> {
         Ok((Designator { name, selectors }, next))
     }
 
-    /// Parses an optional `"." expect_identifier | "[" expression "]"`. Returns None if neither `.` nor
-    /// `[` comes next.
+    /// Parses an optional `"." ident | "[" expression "]"`. Returns None if neither `.` nor `[`
+    /// comes next.
     #[cycle(expressions)]
     fn parse_selector(&self, at: usize, room: u32) -> ItemResult<Selector>
         requires { at ≤ length self.now.tokens.now }

@@ -201,7 +201,7 @@ impl<'t> Parser<'t> {
         Ok(Some((Elsif { condition, then }, end)))
     }
 
-    /// Parses `[ELSE sequence]`.
+    /// Parses `[ELSE sequence]`. The statements are None if ELSE doesn't come next.
     #[cycle(statements)]
     fn parse_else(&self, at: usize, room: u32) -> ConstructResult<Option<Vec<Statement>>>
         requires { at ≤ length self.now.tokens.now }

@@ -1,4 +1,4 @@
--- Laws of the hover texts of procedures.
+-- States a law about the hover texts of procedures.
 -- Rule: none; laws of hover texts.
 use Rattle.std.specs.Prelude.{◌≡◌, ℕ, List, [], ◌++◌, ◌∷◌, Some, length, map, take}
 use Rattle.std.specs.List.{All}
@@ -36,7 +36,8 @@ pub record HasParametersAfter (m : ParsedModule) (heading : ℕ × List ℕ) : T
       ≡ Some heading.0
   pub following : take (length heading.1) (names_declared_after m ordinal) ≡ map (text_at m.source) heading.1
 
--- The first names declared after each procedure's name are the names of its parameters, in order.
+-- Holds if the first names declared after each procedure's name are the names of its parameters, in
+-- order.
 abbrev pub ParametersFollowProcedure : Type 0
 ParametersFollowProcedure =
     (m : ParsedModule) → All (HasParametersAfter m) (block_headings (module_block (tree_of m)))

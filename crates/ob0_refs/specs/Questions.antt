@@ -1,4 +1,5 @@
--- The answers to questions about the name or field that the identifier at a place refers to.
+-- Defines the answers to questions about the name or field that the identifier at a place refers
+-- to.
 -- Rule: docs/PROTOCOL.md, Requests on documents 3 to 5.
 use Rattle.std.specs.Prelude.{◌≡◌, ◌==◌, ℕ, Bool, true, false, not, nat_lt, List, [], map, if◌then◌else◌, Option, Some, None, option_map, option_and_then, unwrap_or}
 use Rattle.std.specs.List.{filter}
@@ -24,7 +25,8 @@ use Rattle.ob0_refs.specs.declared.answers.Of.TheVariants as answer_of
 
 -- ---- the name or field at a place
 
--- returns the index of a field in its record, found by its name; 0 if it isn't found
+-- returns the index of a field among the fields of its record, found by its name; 0 if it isn't
+-- found
 abbrev pub field_index : ParsedModule → FieldName → ℕ
 field_index m x = unwrap_or (field_position m x.owner (text_at m.source x.token)) 0
 
@@ -34,27 +36,28 @@ abbrev pub field_answer : ParsedModule → FieldName → answer.At
 field_answer m x =
     record { span = span_at m.source x.token; of = answer_of.Field x.owner (field_index m x) }
 
--- returns the answer about the identifier at a token with this meaning: its span and the thing it
--- refers to
+-- returns the answer about the identifier that is this token and has this meaning: its span and the
+-- thing that it refers to
 abbrev pub answer_of_identified : ParsedModule → ℕ → IdentifierMeaning → answer.At
 answer_of_identified m token (Name ordinal) = name_answer m (record { token = token; ordinal = ordinal })
 answer_of_identified m token (Field k) = field_answer m (record { token = token; owner = k })
 
--- returns the answer about the name or field at a byte offset; None if there is none
+-- returns the answer about the name or field at a byte offset; None if there is neither
 abbrev pub identified_at : Resolution → ℕ → Option answer.At
 identified_at r offset =
     option_map (λ (x : ResolvedIdentifier). answer_of_identified r.module_read x.token x.means) (identifier_meaning_at r offset)
 
 -- ---- the name or field that can be renamed
 
--- returns the span of the identifier at a token with this meaning; None if its name is predeclared
+-- returns the span of the identifier that is this token and has this meaning; None if it is a
+-- predeclared name
 abbrev pub renamable_span_of_identified : ParsedModule → ℕ → IdentifierMeaning → Option Span
 renamable_span_of_identified m token (Name ordinal) =
     if nat_lt ordinal predeclared_count then None else Some (span_at m.source token)
 renamable_span_of_identified m token (Field k) = Some (span_at m.source token)
 
--- returns the span of the name or field at a byte offset; None if it can't be renamed or there is
--- none
+-- returns the span of the name or field at a byte offset; None if there is neither, or the name is
+-- predeclared
 abbrev pub renamable_span_at : Resolution → ℕ → Option Span
 renamable_span_at r offset =
     option_and_then (λ (x : ResolvedIdentifier). renamable_span_of_identified r.module_read x.token x.means)
@@ -74,7 +77,7 @@ definition_of_identified m token (Name ordinal) = declaring_span m ordinal
 definition_of_identified m token (Field k) = field_definition m (record { token = token; owner = k })
 
 -- returns the span of the identifier that declares the name or field at a byte offset; None if
--- there is none
+-- there is neither, or the name is predeclared
 abbrev pub definition_at : Resolution → ℕ → Option Span
 definition_at r offset =
     option_and_then (λ (x : ResolvedIdentifier). definition_of_identified r.module_read x.token x.means)
@@ -82,13 +85,13 @@ definition_at r offset =
 
 -- ---- the references
 
--- returns the list of tokens without this token; for None, the whole list
+-- returns the list of token indexes without this one; for None, the whole list
 abbrev pub other_tokens : Option ℕ → List ℕ → List ℕ
 other_tokens None tokens = tokens
 other_tokens (Some token) tokens = filter (λ other. not (other == token)) tokens
 
--- returns the tokens of a field's identifiers, in text order; if the Bool is false, without the
--- declaring token
+-- returns the token indexes of the field's identifiers, in text order; if the Bool is false,
+-- without the declaring one
 abbrev pub field_reference_tokens : Resolution → FieldName → Bool → List ℕ
 field_reference_tokens r x true = field_tokens r x.owner (text_at r.module_read.source x.token)
 field_reference_tokens r x false =
@@ -106,8 +109,8 @@ abbrev pub references_of_identified : Resolution → Bool → ℕ → Identifier
 references_of_identified r include token (Name ordinal) = references_to r.module_read ordinal include
 references_of_identified r include token (Field k) = field_reference_spans r include (record { token = token; owner = k })
 
--- returns the spans of the references to the name or field that an optional identifier refers to;
--- the empty list for None
+-- returns the spans of the references to the name or field that an identifier refers to; the empty
+-- list if there is no identifier (None); if `include` is false, without the declaring identifier
 abbrev pub references_of_optional : Resolution → Bool → Option ResolvedIdentifier → List Span
 references_of_optional r include None = []
 references_of_optional r include (Some x) = references_of_identified r include x.token x.means
@@ -132,8 +135,8 @@ field_hover_with_type r token s =
       text = field_text (text_at r.module_read.source token) (type_text s);
     }
 
--- returns the hover text of a field, which shows its type, at the declaration and at each selector;
--- None if the field isn't found
+-- returns the hover text of a field's identifier, which may declare or select the field; the text
+-- shows the field's type; None if the field isn't found
 abbrev pub field_hover : Resolution → FieldName → Option HoverText
 field_hover r x = option_map (λ f. field_hover_with_type r x.token f.shape) (typed_field r x)
 

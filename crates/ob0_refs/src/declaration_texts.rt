@@ -49,7 +49,8 @@ pub(crate) fn name_text(
     }
 }
 
-/// Returns the hover text of a declaration with this object. Returns None for a constant with a fault.
+/// Returns the hover text of a declaration with this name and object. Returns None for a constant
+/// with a fault.
 fn object_text(
     alloc: Global,
     known: &DeclarationTable,
@@ -118,7 +119,7 @@ pub(crate) fn field_hover_text(
 }
 
 /// Returns the hover text of a procedure: its name and its parameters. The parameters' names are
-/// the next names that the text declares.
+/// the first names that the text declares after the procedure's name.
 fn procedure_hover_text(
     alloc: Global,
     known: &DeclarationTable,
@@ -140,13 +141,14 @@ fn procedure_hover_text(
     )
 }
 
-/// Returns the declaring tokens after the declaration with this ordinal.
+/// Returns the token indexes of the identifiers that are declared after the declaration with this
+/// ordinal, in text order.
 fn declarations_after<'r>(names: &'r Resolved<'_>, ordinal: usize) -> &'r [usize]
     ensures { result.now
         ≡ drop (ordinal + 1 - predeclared_count)
         (declaring_names (identifiers role.Declaring (tree_of names.now.module_read))) }
 {
-    // The contract of this call gives the proof the invariant of the module.
+    // The contract of this call states the invariant of the module, which the proof uses.
     let _module = names.module();
     let declarations = names.declarations();
     let skipped = ordinal.saturating_sub(PREDECLARED_COUNT - 1);
@@ -158,7 +160,7 @@ fn declarations_after<'r>(names: &'r Resolved<'_>, ordinal: usize) -> &'r [usize
 }
 
 /// Returns the parameters of a procedure with their names, for its hover text. `following` has the
-/// declaring tokens after the procedure's own.
+/// token indexes of the identifiers that are declared after the procedure's name.
 fn parameters_of<'s>(
     alloc: Global,
     known: &DeclarationTable,

@@ -34,7 +34,8 @@ pub fn hover(
     }
 }
 
-/// Returns the hover text of an identifier with this meaning. Returns None if its declaration isn't found.
+/// Returns the hover text of an identifier with this meaning. Returns None if its declaration isn't
+/// found.
 fn hover_of_identified(
     alloc: Global,
     well_typed: &WellTyped<'_>,
@@ -91,7 +92,7 @@ fn field_hover(
     }
 }
 
-/// Returns the hover text of a field's identifier, given its token and the field's type.
+/// Returns the hover text of a field's identifier, given its token index and the field's type.
 fn field_hover_with_type(
     alloc: Global,
     known: &DeclarationTable,

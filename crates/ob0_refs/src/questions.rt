@@ -1,9 +1,9 @@
 //! Answers questions about the name or the field at a place.
 //!
-//! Each public function finds the meaning of the identifier at the place (`identifier_meaning_at` of
-//! `ob0_types`) and has one case for a name and one for a field. The hover text does the same
-//! (`place_hovers`). Renaming also uses this meaning, so it renames the name or field of these
-//! answers.
+//! Each public function finds the meaning of the identifier at the place (`identifier_meaning_at`
+//! of `ob0_types`). It has one case for a name and one for a field. The hover text does the same
+//! (`place_hovers`). Renaming also uses this meaning, so it renames the name or field that these
+//! answers are about.
 //!
 //! The references to a field are the identifiers that its renaming changes. References to a name
 //! take one pass over the table of ordinals, starting at the declaring token. References to a field
@@ -26,9 +26,10 @@ use ob0_types::{
 use ob0_types_fields::FieldName;
 use std::alloc::{AllocError, Global};
 
-/// Returns the name or field of the identifier that contains a place, as a byte offset, or ends there. For a field this
-/// may be the declaring identifier or a selector. The closing name of a procedure is the procedure's name. Returns None
-/// if there is no such identifier, or if it is the module's name.
+/// Returns the name or field that the identifier at a byte offset refers to, with the identifier's
+/// span. The identifier contains the offset or ends there. A field's identifier may declare or
+/// select it, and a closing name refers to its procedure. Returns None if there is no such
+/// identifier, or if it is the module's name.
 pub fn at(well_typed: &WellTyped<'_>, offset: usize) -> Option<At>
     ensures { result ≡ identified_at well_typed.now offset }
 {
@@ -52,7 +53,8 @@ fn answer_of_identified(well_typed: &WellTyped<'_>, found: ResolvedIdentifier) -
     }
 }
 
-/// Returns the answer about a field's identifier: its span, its record and its index in the record.
+/// Returns the answer about a field's identifier: its span, the field's record and the field's
+/// index in the record.
 fn field_answer(well_typed: &WellTyped<'_>, field: FieldName) -> At
     ensures { result ≡ field_answer well_typed.now.module_read field }
 {
@@ -65,8 +67,8 @@ fn field_answer(well_typed: &WellTyped<'_>, field: FieldName) -> At
     }
 }
 
-/// Returns the index of the field that an identifier belongs to among the fields of its record, or
-/// 0 if the field isn't found.
+/// Returns the index, among the fields of its record, of the field that an identifier refers to.
+/// Returns 0 if the field isn't found.
 fn field_index(well_typed: &WellTyped<'_>, field: FieldName) -> usize
     ensures { result ≡ field_index well_typed.now.module_read field }
 {
@@ -121,8 +123,8 @@ pub fn definition(well_typed: &WellTyped<'_>, offset: usize) -> Option<Span>
     }
 }
 
-/// Returns the span of the identifier that declares the name or field that an identifier refers to. Returns None for a
-/// predeclared name.
+/// Returns the span of the identifier that declares the name or field that an identifier refers to.
+/// Returns None for a predeclared name.
 fn definition_of_identified(well_typed: &WellTyped<'_>, found: ResolvedIdentifier) -> Option<Span>
     ensures { result ≡ definition_of_identified well_typed.now.module_read found.token found.means }
 {
@@ -133,8 +135,8 @@ fn definition_of_identified(well_typed: &WellTyped<'_>, found: ResolvedIdentifie
     }
 }
 
-/// Returns the span of the identifier that declares the field of an identifier, or None if it isn't
-/// found.
+/// Returns the span of the identifier that declares the field that `field` refers to, or None if it
+/// isn't found.
 fn field_definition(well_typed: &WellTyped<'_>, field: FieldName) -> Option<Span>
     ensures { result ≡ field_definition well_typed.now.module_read field }
 {
@@ -163,8 +165,8 @@ pub fn references(
     }
 }
 
-/// Returns the spans of the references to the name or field that an identifier refers to. The declaring identifier is
-/// among them if `include` is true.
+/// Returns the spans of the references to the name or field that an identifier refers to. The
+/// declaring identifier is among them if `include` is true.
 fn references_of_identified(
     alloc: Global,
     well_typed: &WellTyped<'_>,
@@ -191,7 +193,7 @@ fn references_of_identified(
     }
 }
 
-/// Returns the spans of the identifiers of the field that `field` belongs to, in text order. The
+/// Returns the spans of all identifiers that refer to the same field as `field`, in text order. The
 /// declaring identifier is among them if `include` is true.
 fn field_reference_spans(
     alloc: Global,
@@ -207,8 +209,8 @@ fn field_reference_spans(
     Ok(spans)
 }
 
-/// Returns the tokens of a field's identifiers, in text order. The declaring token is among them if
-/// `include` is true.
+/// Returns the token indexes of all identifiers that refer to the same field as `field`, in text
+/// order. The declaring one is among them if `include` is true.
 fn field_reference_tokens(
     alloc: Global,
     well_typed: &WellTyped<'_>,

@@ -13,7 +13,8 @@ use crate::hovers::{array_text, record_text};
 use ob0_types_table::{ArrayShape, DeclarationTable, Parts, TypeId};
 use std::alloc::{AllocError, Global};
 
-/// Returns the text of a type. An array shows the type of its elements, and a record the number of its fields.
+/// Returns the text of a type. An array shows the type of its elements, and a record the number of
+/// its fields.
 #[cycle(types)]
 pub(crate) fn type_text(
     alloc: Global,

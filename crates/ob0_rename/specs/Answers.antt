@@ -21,9 +21,9 @@ use Rattle.ob0_edits_tokens.specs.Replaced.{edit_at, parts}
 use Rattle.ob0_language_fields.specs.Renaming.{IsFreeFieldName, with_renamed_field, is_duplicate_field}
 use Rattle.ob0_rename.specs.Renaming.{TargetsDeclaration, TargetsField, Renaming, field_tokens_to_rename, is_declared_as, renaming_target, module_of, nothing, occurrence_range, conflicting_field_range, conflicting_range, predeclared, text_after_renaming, tokens_to_rename, named_tree}
 
--- Holds if the edits write the new name at these tokens and change nothing else. Made all at once,
--- they leave a text with this tree. The tree is well-typed and has the same runs as the module
--- before.
+-- Holds if the edits write the new name at these tokens and change nothing else. Applied all at
+-- once, they give a text with this tree that isn't too long. The tree is well-typed and has the
+-- same runs as the module before.
 pub record WritesName (r : Renaming) (tokens : List ℕ) (tree : Tree Name module_text)
     (edits : List Edit) : Type 0 where
   pub short : length (text_after_renaming r tokens) ≤ max_text
@@ -38,16 +38,16 @@ pub record WritesName (r : Renaming) (tokens : List ℕ) (tree : Tree Name modul
 
 -- ---- for a declaration
 
--- Holds if the edits write the new name at every token of the declaration `d`, and leave the
--- renamed module.
+-- Holds if the new name is an identifier and is free for the declaration `d`, and the edits write
+-- it at every token of `d`. The edits leave the renamed module.
 pub record Renames (r : Renaming) (d : ℕ) (edits : List Edit) : Type 0 where
   pub identifier : IsIdentifier r.new
   pub free : Free (named_tree r) d r.new
   pub writes : WritesName r (tokens_to_rename (module_of r) d r.new)
       (renamed (named_tree r) d r.new) edits
 
--- Holds if this refusal applies to the new name of the declaration `d`. If there are several
--- reasons, it is the first of them in the order of these cases.
+-- Holds if this refusal applies to the new name of the declaration `d`. If several refusals apply,
+-- it holds only for the first of them, in the order of these cases.
 abbrev pub IsDeclarationRefusal : Renaming → ℕ → EditRefusal → Type 0
 IsDeclarationRefusal r d refusal.NoName = ⊥
 IsDeclarationRefusal r d refusal.Predeclared = ⊥
@@ -70,7 +70,7 @@ IsDeclarationRefusal r d refusal.Shadowed = ⊥
 IsDeclarationRefusal r d refusal.CommentInside = ⊥
 IsDeclarationRefusal r d refusal.Memory = ⊥
 
--- Holds for edits that rename the declaration `d`. Holds for the refusal that applies, and for
+-- Holds if the answer is edits that rename the declaration `d`, or the refusal that applies, or
 -- `Memory`.
 abbrev pub AnswersForDeclaration : Renaming → ℕ → Result (Vec Edit Global) EditRefusal → Type 0
 AnswersForDeclaration r d (Ok edits) = Renames r d edits.items
@@ -78,8 +78,9 @@ AnswersForDeclaration r d (Err why) = (why ≡ refusal.Memory) ⊎ IsDeclaration
 
 -- ---- for a field
 
--- Holds if the edits write the new name at the declaration and at all selections of the field `f`
--- of the record `k`. They leave the module with that field renamed.
+-- Holds if the new name is an identifier and is free for the field `f` of the record `k`. The edits
+-- write it at the field's declaration and at all its selections. They leave the module with that
+-- field renamed.
 pub record RenamesField (r : Renaming) (k : ℕ) (f : Name) (edits : List Edit) : Type 0 where
   pub identifier : IsIdentifier r.new
   pub free : IsFreeFieldName (named_tree r) k f r.new
@@ -106,8 +107,8 @@ IsFieldRefusal r k f refusal.Shadowed = ⊥
 IsFieldRefusal r k f refusal.CommentInside = ⊥
 IsFieldRefusal r k f refusal.Memory = ⊥
 
--- Holds for edits that rename the field `f` of the record `k`. Holds for the refusal that applies,
--- and for `Memory`.
+-- Holds if the answer is edits that rename the field `f` of the record `k`, or the refusal that
+-- applies, or `Memory`.
 abbrev pub AnswersForField : Renaming → ℕ → Name → Result (Vec Edit Global) EditRefusal → Type 0
 AnswersForField r k f (Ok edits) = RenamesField r k f edits.items
 AnswersForField r k f (Err why) = (why ≡ refusal.Memory) ⊎ IsFieldRefusal r k f why
@@ -120,8 +121,8 @@ IsTargetRefusal r why =
     ((d : ℕ) × TargetsDeclaration r d × IsDeclarationRefusal r d why)
     ⊎ ((k : ℕ) × ((f : Name) × TargetsField r k f × IsFieldRefusal r k f why))
 
--- Holds if this refusal applies to the renaming: no name is at the place, it is predeclared, or the
--- new name is refused.
+-- Holds if this refusal applies to the renaming. Either the place is on no name and no field, or
+-- the name there is predeclared, or the new name is refused.
 abbrev pub IsRenameRefusal : Renaming → EditRefusal → Type 0
 IsRenameRefusal r refusal.NoName = renaming_target r ≡ nothing
 IsRenameRefusal r refusal.Predeclared = renaming_target r ≡ predeclared
@@ -140,8 +141,8 @@ AreRenameEdits r edits =
     ((d : ℕ) × TargetsDeclaration r d × Renames r d edits)
     ⊎ ((k : ℕ) × ((f : Name) × TargetsField r k f × RenamesField r k f edits))
 
--- Holds for edits that rename the declaration or field at the place. Holds for the refusal of the
--- renaming, and for `Memory`.
+-- Holds if the answer is edits that rename the declaration or field at the place, or the refusal of
+-- the renaming, or `Memory`.
 abbrev pub RenameAnswers : Renaming → Result (Vec Edit Global) EditRefusal → Type 0
 RenameAnswers r (Ok edits) = AreRenameEdits r edits.items
 RenameAnswers r (Err why) = (why ≡ refusal.Memory) ⊎ IsRenameRefusal r why

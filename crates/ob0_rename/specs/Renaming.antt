@@ -23,8 +23,9 @@ use Rattle.ob0_scope.specs.declared.naming.Named as named
 use Rattle.ob0_types_fields.specs.declared.field_name.FieldName.{FieldName}
 use Rattle.ob0_types_fields.specs.Identifiers.{field_declaring_token, field_at, field_tokens}
 
--- A requested renaming: the text, in characters, and the unit of its positions, its module with
--- bound names, the place of the old name, and the new name.
+-- A requested renaming. `text` is the text as characters, and `unit` is the unit of its positions.
+-- `names` is the text's module with its names bound. The old name is at `place`, and `new` is the
+-- new name.
 pub record Renaming : Type 0 where
   pub unit : counting.Unit
   pub text : List ℕ
@@ -32,7 +33,8 @@ pub record Renaming : Type 0 where
   pub place : Position
   pub new : Name
 
--- Returns the renaming to `new` at a place of a text, whose module is `names`.
+-- Returns the renaming to `new` of the name at a place of a text. `names` is the text's module with
+-- its names bound.
 abbrev pub renaming_of : counting.Unit → List ℕ → Resolution → Position → List ℕ → Renaming
 renaming_of unit text names place new =
     record { unit = unit; text = text; names = names; place = place; new = new }
@@ -41,20 +43,20 @@ renaming_of unit text names place new =
 abbrev pub module_of : Renaming → read.ParsedModule
 module_of r = r.names.module_read
 
--- returns the module's tree, with texts as its names
+-- returns the module's tree, in which each name is its text
 abbrev pub named_tree : Renaming → Tree Name module_text
 named_tree r = read.named_tree_of (module_of r)
 
 -- ---- the declaration or field at a place
 
--- The target of a renaming: a predeclared name, a declaration, a field, or nothing if no name is at
--- the place.
+-- The target of a renaming: a predeclared name, a declaration, a field, or `nothing` if no name and
+-- no field is at the place.
 pub data RenameTarget : Type 0 where
   nothing : RenameTarget
   predeclared : RenameTarget
   -- the declaration with this ordinal
   declaration : ℕ → RenameTarget
-  -- the field with this name of the record with this ordinal
+  -- the field with this name, in the record with this ordinal
   field_of : ℕ → Name → RenameTarget
 
 -- Returns the target for a name with this ordinal. It is a predeclared name if the ordinal is below
@@ -62,17 +64,20 @@ pub data RenameTarget : Type 0 where
 abbrev pub ordinal_target : ℕ → RenameTarget
 ordinal_target ordinal = if nat_lt ordinal predeclared_count then predeclared else declaration ordinal
 
--- Returns the field that this identifier declares or selects, as a target, or `nothing` for None.
+-- Returns the field that this identifier declares or selects, as a target. Returns `nothing` for
+-- None.
 abbrev pub field_target : TextWithTokens → Option FieldName → RenameTarget
 field_target source None = nothing
 field_target source (Some x) = field_of x.owner (text_at source x.token)
 
--- Returns the target for the name at a place, or for the field there if no name is there.
+-- Returns the target for the name at a place. If there is no name (None), returns the target for
+-- the field at the place.
 abbrev pub meaning_of_name_or_field : TextWithTokens → Option named.Named → Option FieldName → RenameTarget
 meaning_of_name_or_field source (Some n) f = ordinal_target n.ordinal
 meaning_of_name_or_field source None f = field_target source f
 
--- Returns the target at a byte offset: the name there, or otherwise the field there.
+-- Returns the target at a byte offset: the name there, or otherwise the field there. Returns
+-- `nothing` if the offset is on neither.
 abbrev pub identifier_meaning_at : Resolution → ℕ → RenameTarget
 identifier_meaning_at names offset =
     meaning_of_name_or_field names.module_read.source (name_on names.module_read offset) (field_at names offset)
@@ -102,8 +107,8 @@ is_declared_as m d new =
     elim (declaring_token m d)
     [ Some token ↦ same_name (text_at m.source token) new | None ↦ false ]
 
--- Returns the tokens of the declaration's name, including the declaring one and closing names. The
--- list is empty if the declaration already has the name `new`.
+-- Returns the tokens at which the declaration's name is declared, used or repeated as a closing
+-- name. The list is empty if the declaration already has the name `new`.
 abbrev pub tokens_to_rename : read.ParsedModule → ℕ → Name → List ℕ
 tokens_to_rename m d new = if is_declared_as m d new then [] else tokens_bound_to m d true
 
@@ -112,7 +117,7 @@ tokens_to_rename m d new = if is_declared_as m d new then [] else tokens_bound_t
 abbrev pub field_tokens_to_rename : Resolution → ℕ → Name → Name → List ℕ
 field_tokens_to_rename names k f new = if same_name new f then [] else field_tokens names k f
 
--- returns the text with the new name at these tokens, in bytes
+-- returns the text in bytes after the new name is written at these tokens
 abbrev pub text_after_renaming : Renaming → List ℕ → List ℕ
 text_after_renaming r tokens = text_after_replacement (module_of r).source tokens r.new
 
@@ -123,7 +128,7 @@ abbrev pub token_range : Renaming → ℕ → Range
 token_range r token = range_of (width_of r.unit) r.text (span_at (module_of r).source token)
 
 -- Returns the range of the identifier that declares another object with the new name in the block
--- of `d`, or None if no other object has it.
+-- of `d`. Returns None if there is no such object.
 abbrev pub conflicting_range : Renaming → ℕ → Option Range
 conflicting_range r d =
     option_map (token_range r)

@@ -24,7 +24,7 @@ use ob0_types_fields::laws::{duplicate_has_declaring_token, renaming_changes_fie
 use std::alloc::{AllocError, Global};
 
 /// Returns the edits that rename a field to `new`, or the refusal. The field's name is at the token
-/// `token`, and `owner` is the ordinal of its record.
+/// `token`. `owner` is the ordinal of its record among the words ARRAY and RECORD of the text.
 pub(crate) fn rename_field<T: TextStore>(
     alloc: Global,
     store: &T,
@@ -71,8 +71,8 @@ pub(crate) fn rename_field<T: TextStore>(
     }
 }
 
-/// Returns the token that declares another field of the record with the name `new`. Returns None if
-/// no field has that name, or if `new` is the present name `old`.
+/// Returns the token that declares another field in the record `owner`, with the name `new`.
+/// Returns None if no field has that name, or if `new` is the present name `old`.
 fn conflicting_field(
     well_typed: &WellTyped<'_>,
     owner: usize,
@@ -90,8 +90,8 @@ fn conflicting_field(
     field_declaring_token(well_typed, owner, new)
 }
 
-/// Returns the tokens that declare or select the field `old` of a record, in text order. The list
-/// is empty if `new` is the same name.
+/// Returns the tokens that declare or select the field `old` of the record `owner`, in text order.
+/// The list is empty if `new` is the same name.
 fn field_tokens_to_rename(
     alloc: Global,
     well_typed: &WellTyped<'_>,

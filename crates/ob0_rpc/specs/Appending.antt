@@ -7,8 +7,8 @@ use Rattle.serde_json.specs.Data.{Data, Members, member, no_members, null}
 use Rattle.serde_json.specs.Read.{of_json}
 use Rattle.serde_json.specs.Written.{comma_if, compact_text, outline}
 
--- Holds if the value's text reads back as the value: whole numbers have 64 bits, members occur once
--- and in order, and texts are UTF-8.
+-- Holds if the value's text reads back as the value. For that, whole numbers must fit in 64 bits,
+-- members must occur once and in order, and texts must be UTF-8.
 pub record ReadsBack (value : Data) : Type 0 where
   pub reads : of_json (outline value) ≡ Some value
   pub numbers : HasNumbers (outline value)

@@ -17,7 +17,8 @@ pub data Notification : Type 0 where
   -- A change: the uri, the version and the changes in order.
   changes : List ℕ → ℤ → List TextChange → Notification
   closes : List ℕ → Notification
-  -- An open, a change or a close that can't be read, with its uri if that can be read.
+  -- An open, a change or a close that can't be read, with its uri or None if the uri can't be
+  -- read.
   unreadable : Option (List ℕ) → Notification
   other : Notification
 
@@ -33,8 +34,8 @@ change_with (Some range) (Some text) = Some (record { range = range; text = char
 change_with (Some range) None = None
 change_with None text = None
 
--- Reads an entry of the list `contentChanges` as a change, of a range or of the whole text. Returns
--- None if it can't be read.
+-- Reads an entry of the list `contentChanges` as a change of a range or of the whole text. Returns
+-- None if the entry can't be read.
 abbrev pub content_change : Data → Option TextChange
 content_change entry =
     change_with (range_of_change (get (codes "range") entry)) (text_member (codes "text") entry)
@@ -46,13 +47,13 @@ all_changes (item entry later) =
     option_and_then (λ change. option_map (λ changes. change ∷ changes) (all_changes later))
     (content_change entry)
 
--- Returns the changes in params, or None if one of them can't be read.
+-- Returns the changes in params, or None if the list or one of its entries can't be read.
 abbrev pub changes_of : Data → Option (List TextChange)
 changes_of params =
     option_and_then all_changes (option_and_then as_array (get (codes "contentChanges") params))
 
 -- Returns the meaning of `textDocument/didOpen` with this uri, version and text. If one of them is
--- None, the notification is unreadable, and only its uri is kept.
+-- None, returns `unreadable` with the uri.
 abbrev pub open_or_unreadable : Option (List ℕ) → Option ℤ → Option (List ℕ) → Notification
 open_or_unreadable None version text = unreadable None
 open_or_unreadable (Some uri) (Some version) (Some text) = opens uri version text
@@ -60,14 +61,14 @@ open_or_unreadable (Some uri) (Some version) None = unreadable (Some uri)
 open_or_unreadable (Some uri) None text = unreadable (Some uri)
 
 -- Returns the meaning of `textDocument/didChange` with this uri, version and changes. If one of
--- them is None, the notification is unreadable, and only its uri is kept.
+-- them is None, returns `unreadable` with the uri.
 abbrev pub change_or_unreadable : Option (List ℕ) → Option ℤ → Option (List TextChange) → Notification
 change_or_unreadable None version all = unreadable None
 change_or_unreadable (Some uri) (Some version) (Some all) = changes uri version all
 change_or_unreadable (Some uri) (Some version) None = unreadable (Some uri)
 change_or_unreadable (Some uri) None all = unreadable (Some uri)
 
--- Returns the meaning of `textDocument/didClose` with this uri. For None it is unreadable.
+-- Returns the meaning of `textDocument/didClose` with this uri, or `unreadable None` for None.
 abbrev pub close_or_unreadable : Option (List ℕ) → Notification
 close_or_unreadable None = unreadable None
 close_or_unreadable (Some uri) = closes uri

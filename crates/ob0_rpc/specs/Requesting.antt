@@ -46,7 +46,7 @@ member_at_path (name ∷ names) d = option_and_then (member_at_path names) (get 
 abbrev pub is_true : Option Data → Bool
 is_true found = unwrap_or (option_and_then as_bool found) false
 
--- Returns true if the optional text is this text, and false for None.
+-- Returns true if there is a text and it equals `text`.
 abbrev pub is_equal_text : List ℕ → Option (List ℕ) → Bool
 is_equal_text text None = false
 is_equal_text text (Some other) = bytes_eq other text
@@ -132,8 +132,8 @@ texts_of no_items = Some []
 texts_of (item d ds) =
     option_and_then (λ text. option_map (λ texts. text ∷ texts) (texts_of ds)) (as_str d)
 
--- Returns the texts of a list that may be missing. Some None means that it is absent or null, and
--- None that it can't be read.
+-- Returns the texts of a list that may be missing. Some None means that the list is absent or null,
+-- and None that the list or one of its items can't be read.
 abbrev pub optional_texts : Option Data → Option (Option (List (List ℕ)))
 optional_texts found =
     if is_absent_or_null found
@@ -162,8 +162,8 @@ code_action_request_of params =
     code_action_request_with (document_uri params) (range_member (codes "range") params)
     (option_and_then requested_kinds (get (codes "context") params))
 
--- Returns the indentation with these two options, or None if one of them is None. A level is
--- `level_spaces size` spaces if the Bool is true, otherwise a tab.
+-- Returns the indentation for these values of `tabSize` and `insertSpaces`, or None if one of them
+-- is None. A level is `level_spaces size` spaces if the Bool is true, otherwise a tab.
 abbrev pub indent_with : Option ℕ → Option Bool → Option Indent
 indent_with (Some size) (Some spaces) = Some (if spaces then Spaces (level_spaces size) else Tab)
 indent_with (Some size) None = None

@@ -1,4 +1,5 @@
--- Defines what values of the code mean: messages, requests and notifications of the definitions.
+-- Defines which message, request or notification of the definitions each value of the code stands
+-- for.
 -- Rule: none; for contracts: what values of the code mean.
 use Rattle.std.specs.Prelude.{◌≡◌, ℕ, List, Option, Some, None, Result, Ok, Err, string_bytes, String, Vec, map, option_map}
 use Rattle.std.specs.Str.{chars}
@@ -76,8 +77,8 @@ request_view (called.TheVariants.CodeAction uri range only) =
     code_action (string_bytes uri) range (kinds_view only)
 request_view (called.TheVariants.Formatting uri indent) = formatting (string_bytes uri) indent
 
--- Holds if the code's result is `requested`, the request or the error of the definitions. `Memory`
--- is always allowed, and `NotJson` and `NotAMessage` never.
+-- Holds if the code's result stands for `requested`, a request or an error of the definitions.
+-- `Memory` is always allowed, and `NotJson` and `NotAMessage` never.
 abbrev pub ReadsClientRequest : Result ClientRequest RpcFault → Result called.ClientRequest RpcFault → Type 0
 ReadsClientRequest requested (Ok call) = requested ≡ Ok (request_view call)
 ReadsClientRequest requested (Err UnknownMethod) = requested ≡ Err UnknownMethod
@@ -97,8 +98,8 @@ notification_view (noted.TheVariants.Close uri) = closes (string_bytes uri)
 notification_view (noted.TheVariants.Unreadable uri) = unreadable (option_map string_bytes uri)
 notification_view noted.TheVariants.Other = other
 
--- Holds if the code's notification is the one with this method and these params. `Memory` is always
--- allowed, and other errors never.
+-- Holds if the code's result stands for the notification with this method and these params.
+-- `Memory` is always allowed, and other errors never.
 abbrev pub ReadsNotification : List ℕ → Data → Result noted.ClientNotification RpcFault → Type 0
 ReadsNotification method params (Ok note) = notification_by_method method params ≡ notification_view note
 ReadsNotification method params (Err Memory) = Unit {0}

@@ -56,8 +56,8 @@ fn into_list(value: Value) -> Option<Vec<Value>>
     }
 }
 
-/// Returns the change that an entry of the list describes, of a range or of the whole text. Returns
-/// None if the entry can't be read.
+/// Reads an entry of the list as a change of a range or of the whole text. Returns None if the
+/// entry can't be read.
 fn read_content_change(entry: Value) -> Option<Change>
     ensures { option_map text_change_of result ≡ content_change (view entry) }
 {

@@ -1,4 +1,4 @@
-//! Reads a message's content, up to its method and params.
+//! Reads the content of a message into its id, method and params. The params stay a JSON value.
 ghost use Rattle.std.specs.Prelude.{◌≡◌, true, false, IfOk, MatchOption};
 ghost use Rattle.serde_json.specs.View.{view, number_view};
 ghost use Rattle.serde_json.specs.Data.{number};

@@ -23,8 +23,8 @@ pub use notifications::{ClientNotification, notice};
 pub use notifications::ClientNotification as Note;
 pub use objects::{OneMemberObject, end_object, write_first_member, write_next_member};
 pub use outgoing::{
-    ErrorResponse, Notification, Response, ResponseError, content_of, error, notification_of,
-    result_of,
+    ErrorResponse, Notification, Response, ResponseError, answer_text, content_of, error,
+    notification_of,
 };
 pub use ranges::{write_piece_before, write_range_before};
 pub use requests::{ClientRequest, DocumentPosition, request};

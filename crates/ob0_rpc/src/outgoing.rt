@@ -45,7 +45,8 @@ impl<'a> WriteJson for ResponseError<'a> {
     }
 }
 
-/// The refusal of a request, or (with the id None) of a content that isn't a message.
+/// The refusal of a request, or of a content that isn't a message. In the second case the id is
+/// None.
 #[derive(Drop)]
 pub struct ErrorResponse<'a> {
     pub error: ResponseError<'a>,
@@ -115,7 +116,7 @@ pub fn content_of<W: WriteJson>(alloc: Global, message: &W) -> Result<Vec<u8>, A
 
 /// Returns the text of the answer to a request. If the value is nested at most 126 deep, the text
 /// reads back as that answer.
-pub fn result_of<W: WriteJson>(alloc: Global, id: &Id, value: &W) -> Result<Vec<u8>, AllocError>
+pub fn answer_text<W: WriteJson>(alloc: Global, id: &Id, value: &W) -> Result<Vec<u8>, AllocError>
     ensures { IfOk result (λ bytes. CanBeSent (W.value value.now)
         → Writes (result_message (id_data id.now) (W.value value.now)) bytes.items) }
 {

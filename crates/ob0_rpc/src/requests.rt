@@ -223,8 +223,8 @@ fn indent_of(params: &Value) -> Option<Indent>
     })
 }
 
-/// Returns the number of spaces for one level of indentation if `size` are requested: at least 1
-/// and at most [`MAX_INDENT`].
+/// Returns the number of spaces for one level of indentation if `size` spaces are requested. It is
+/// at least 1 and at most [`MAX_INDENT`].
 fn spaces_per_level(size: u64) -> u8
     ensures { result ≡ level_spaces size }
 {
@@ -250,7 +250,7 @@ fn read_requested_kinds(
 }
 
 /// Returns the texts of the member `only`. `Some(None)` means that the member is absent or null,
-/// and `None` that it can't be read.
+/// and `None` that the member or one of its items can't be read.
 fn read_optional_texts(
     alloc: Global,
     only: Option<&Value>,

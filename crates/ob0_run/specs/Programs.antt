@@ -1,4 +1,4 @@
--- The run of a lowered program.
+-- States that a lowered program has the run of its module.
 -- Rule: none; for contracts: what a lowered program means.
 use Rattle.std.specs.Prelude.{◌≡◌, ℕ, IfSome, List, ℤ}
 use Rattle.ob0_tree.specs.Tree.{Tree, module_text}

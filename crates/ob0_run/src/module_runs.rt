@@ -2,8 +2,8 @@
 //!
 //! The contract of `lower` follows from two facts. The program means the module (`ProgramMeans`). A
 //! program that means a well-typed module has the module's run, if there is room for that run
-//! (`lowering_keeps_runs`). So `lower` ensures `RunsAs`, and `execute` returns the run of any module for
-//! which its program has `RunsAs`.
+//! (`lowering_keeps_runs`). So `lower` ensures `RunsAs`, and `execute` returns the run of any
+//! module for which its program has `RunsAs`.
 
 ghost use Rattle.std.specs.Prelude.{◌≡◌, IfOk};
 ghost use Rattle.ob0_tree.specs.ParsedModule.{named_tree_of};

@@ -1,4 +1,4 @@
--- The run of a lowered program is the run of its module.
+-- States that the run of a lowered program is the run of its module.
 -- Rule: none; laws of lowered programs.
 use Rattle.std.specs.Prelude.{◌≡◌, ℕ, IfSome, List, map, ℤ}
 use Rattle.ob0_tree.specs.Tree.{Tree, module_text}
@@ -12,12 +12,12 @@ use Rattle.ob0_run_cells.specs.Activations.{ProgramMeans}
 use Rattle.ob0_run_cells.specs.LoweredStatements.{written_of}
 use Rattle.ob0_run_cells.specs.Lowering.{end_of}
 
--- the run of a module that a run of lowered code stands for, with the same output and end
+-- the run of a module for a run of the machine: with the same output and the same end
 abbrev pub run_of : execution.MachineRun → Run
 run_of r = record { output = map written_of r.output; ending = end_of r.ending }
 
--- States that a program lowered from a well-typed module runs as the module does, for each input
--- and all bounds, if there is room.
+-- States that a program lowered from a well-typed module has the run of the module, for each input
+-- and all bounds. Claims nothing if there is no room for the program's cells.
 abbrev pub LoweringKeepsRuns : Type 0
 LoweringKeepsRuns =
     (m : Tree Name module_text) (program : lowered.LoweredCode) (c t : ℕ) (input : List ℤ)

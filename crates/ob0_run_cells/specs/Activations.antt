@@ -1,13 +1,12 @@
--- Where lowered code finds the variables and procedures of a module, and when a program means a
--- module.
--- A placement has the names of an environment with their places: a variable is in a slot, a
--- procedure at a target. The meaning of a block is the record `BlockIsPlaced`, the meaning of a
--- procedure the record `HasRoutine`; in both the recursive part is a parameter. `IsPlaced` keeps
--- the placement at a procedure's declaration with the procedure's binding, and `PlacementFits`
--- recurses over the bindings of the activation with that placement. So no slot has to be translated
--- back to an outer level. The code of a module has to meet `ProgramMeans` for its numbered tree, by
--- the laws of productions and by the recursion of `BlockMeans` over declarations. A procedure may
--- have any index whose entry in the table means the procedure's block. Variables of the module are
+-- States where lowered code finds the variables and procedures of a module, and when a program
+-- means a module. A placement gives each name of an environment its place: a slot for a variable, a
+-- target for a procedure. `BlockIsPlaced` is the meaning of a block, `HasRoutine` the meaning of a
+-- procedure. In both the recursive part is a parameter. `IsPlaced` keeps the placement at a
+-- procedure's declaration with the procedure's binding. `PlacementFits` recurses over the bindings
+-- of the activation with that placement. So no slot has to be translated back to an outer level.
+-- The code of a module has to meet `ProgramMeans` for its numbered tree. This is shown by the laws
+-- of productions and by the recursion of `BlockMeans` over declarations. A procedure may have any
+-- index whose entry in the table means the procedure's block. Variables of the module are
 -- `of_module` at offsets that begin with 0. Variables of a procedure are `held 0`, after its value
 -- parameters. VAR parameters are `by_reference 0`, by their index among the VAR parameters.
 -- Rule: none; for contracts of lowering, against docs/LANGUAGE.md, Runs 6.
@@ -58,49 +57,49 @@ target_of nowhere = record { procedure = 0; up = 0 }
 target_of (in_slot s) = record { procedure = 0; up = 0 }
 target_of (at_target t) = t
 
--- the slot of the first binding; the module's first cell if there is none
+-- the slot of the first binding of a placement; the module's first cell if the placement is empty
 abbrev pub first_slot : {N : Type 0} → Placement N → Slot
 first_slot [] = of_module 0
 first_slot (b ∷ placement) = slot_of b.1
 
--- the target of the first binding; index 0 and level 0 if there is none
+-- the target of the first binding of a placement; index 0 and level 0 if the placement is empty
 abbrev pub first_target : {N : Type 0} → Placement N → Target
 first_target [] = record { procedure = 0; up = 0 }
 first_target (b ∷ placement) = target_of b.1
 
--- the slot that a name has in a placement
+-- the slot that a name has in a placement; the module's first cell if the name has no slot
 abbrev pub slot_in_placement : {N : Type 0} → Naming N → Placement N → N → Slot
 slot_in_placement naming placement x = first_slot (suffix_from_name naming placement x)
 
--- the target that a name has in a placement
+-- the target that a name has in a placement; index 0 and level 0 if the name has no target
 abbrev pub target_in_placement : {N : Type 0} → Naming N → Placement N → N → Target
 target_in_placement naming placement x = first_target (suffix_from_name naming placement x)
 
--- a slot, seen from one more level inside
+-- the same slot, as seen from an activation one level further in
 abbrev pub inward_slot : Slot → Slot
 inward_slot (of_module at) = of_module at
 inward_slot (held up at) = held (suc up) at
 inward_slot (by_reference up at) = by_reference (suc up) at
 
--- the place of a declaration, seen from one more level inside
+-- the same place of a declaration, as seen from an activation one level further in
 abbrev pub inward_binding_place : BindingPlace → BindingPlace
 inward_binding_place nowhere = nowhere
 inward_binding_place (in_slot s) = in_slot (inward_slot s)
 inward_binding_place (at_target t) = at_target record t { up = suc t.up }
 
--- a placement, seen from one more level inside
+-- the same placement, as seen from an activation one level further in
 abbrev pub inward_placement : {N : Type 0} → Placement N → Placement N
 inward_placement [] = []
 inward_placement (b ∷ placement) = (b.0, inward_binding_place b.1) ∷ inward_placement placement
 
--- the placement so far of the names of an activation, the number of its cells, and the number of
--- its VAR parameters
+-- the state while the names of an activation are placed: the placement so far, the number of its
+-- cells, and the number of its VAR parameters
 pub record Placed (N : Type 0) : Type 0 where
   pub placement : Placement N
   pub cells : ℕ
   pub reference_places : ℕ
 
--- The placement after one more name: a value has n new cells, a VAR parameter has the next index.
+-- Adds a name to a placement. A value gets n new cells, a VAR parameter gets the next index.
 abbrev pub place_name : {N : Type 0} → (ℕ → Slot) → Mode → N → ℕ → Placed N → Placed N
 place_name at by_value x n p =
     record p { placement = (x, in_slot (at p.cells)) ∷ p.placement; cells = p.cells + n }
@@ -110,12 +109,13 @@ place_name at by_place x n p =
       reference_places = suc p.reference_places;
     }
 
--- The placement after names of one type, each in n new cells.
+-- Adds names of one type to a placement, each with n new cells.
 abbrev pub place_names : {N : Type 0} → (ℕ → Slot) → List N → ℕ → Placed N → Placed N
 place_names at [] n p = p
 place_names at (x ∷ xs) n p = place_names at xs n (place_name at by_value x n p)
 
--- The placement after the variables of a block. None if one of their types denotes nothing.
+-- Adds the variables of a block to a placement. None if one of their type expressions denotes no
+-- type.
 unfoldable pub place_variables : {N : Type 0}
     → Naming N
     → (ℕ → Slot)
@@ -131,13 +131,13 @@ place_variables naming at checked k (more (declares_variable ns u) gs) p =
     (bind_names (names_in_list ns) (a_variable s) checked) (k + constructor_count u) gs
     (place_names at (names_in_list ns) (size s) p)) (denoted (meanings naming checked) k u)
 
--- The placement after these parameters.
+-- Adds parameters to a placement.
 abbrev pub place_parameters : {N : Type 0} → List (TypedParameter N) → Placed N → Placed N
 place_parameters [] p = p
 place_parameters (q ∷ ps) p =
     place_parameters ps (place_name (held 0) q.formal.mode q.name (size q.formal.shape) p)
 
--- A placement with names added that are nowhere, such as the names of constants and types.
+-- Adds names without a place to a placement, such as the names of constants and types.
 abbrev pub bind_to_nowhere : {N : Type 0} → List N → Placement N → Placement N
 bind_to_nowhere [] placement = placement
 bind_to_nowhere (x ∷ xs) placement = bind_to_nowhere xs ((x, nowhere) ∷ placement)
@@ -146,8 +146,8 @@ bind_to_nowhere (x ∷ xs) placement = bind_to_nowhere xs ((x, nowhere) ∷ plac
 abbrev pub local_target : ℕ → BindingPlace
 local_target i = at_target record { procedure = i; up = 0 }
 
--- the placement of a procedure's parameters, followed by the names around the procedure, seen from
--- one more level inside
+-- the placement in a procedure: its parameters, then the names around the procedure, as seen from
+-- one level further in
 abbrev pub parameter_placement : {N : Type 0} → List (TypedParameter N) → Placement N → Placed N
 parameter_placement ps placement =
     place_parameters ps record { placement = inward_placement placement; cells = 0; reference_places = 0 }
@@ -189,7 +189,7 @@ pub record HasRoutine {N : Type 0} (table : RoutineTable N) (checked : TypeEnvir
       (parameter_placement parameters ((x, local_target index) ∷ placement)) routine
 
 -- Runs 1 and 6: states that the variables of a block are placed in `cells` cells after the cells of
--- p; `Inside` is the meaning of its procedures and statements
+-- p; `Inside` is what has to hold for its procedures and statements
 pub record BlockIsPlaced {N : Type 0} (table : RoutineTable N) (at : ℕ → Slot)
     (checked : TypeEnvironment N) (p : Placed N) (k cells : ℕ) (b : Tree N block)
     (Inside : TypeEnvironment N → Placement N → Type 0) : Type 0 where
@@ -213,7 +213,7 @@ pub record BlockIsPlaced {N : Type 0} (table : RoutineTable N) (at : ℕ → Slo
 -- `cells` is the number of cells of the block's own variables
 abbrev mutual
   -- Runs 1 and 6: states that the variables of a block are placed after the cells of p, and that
-  -- `code` means its statements
+  -- `code` means the statements of the block
   pub BlockMeans : {N : Type 0}
       → RoutineTable N
       → (ℕ → Slot)
@@ -263,8 +263,9 @@ abbrev mutual
       BlockMeans table (held 0) checked p (k + formals_constructor_count (formal_sections fs))
       routine.cells routine.body b
 
--- states that one binding is placed, in front of older ones: the slot of a variable has the address
--- of its place (Runs 1), and the code of a procedure means its block at its declaration (Runs 6)
+-- states that one binding is placed, in front of older ones: a variable's slot has the address of
+-- the variable's place (Runs 1), and a procedure's routine means its block at the place of its
+-- declaration (Runs 6)
 abbrev pub IsPlaced : {N : Type 0}
     → RoutineTable N
     → StoreTyping
@@ -291,8 +292,8 @@ IsPlaced table typing ls checked Fits x (a_constant v) nowhere (a_constant w) = 
 IsPlaced table typing ls checked Fits x (a_standard p) nowhere (a_standard q) = Unit {0}
 IsPlaced table typing ls checked Fits x _ _ _ = ⊥
 
--- states that the first binding of an environment, a placement and an activation has one name;
--- `Here` is the fact about it, and `Further` the fact about the older bindings
+-- states that the first bindings of an environment, a placement and an activation have the same
+-- name; `Here` is the fact about these, and `Further` the fact about the older bindings
 pub record FitsFirst {N : Type 0} (checked placed active : N) (Here Further : Type 0)
     : Type 0 where
   pub same_active : checked ≡ active
@@ -300,8 +301,8 @@ pub record FitsFirst {N : Type 0} (checked placed active : N) (Here Further : Ty
   pub here : Here
   pub further : Further
 
--- Runs 1 and 6: states that a placement is right for the bindings of an activation, as seen from
--- these levels
+-- Runs 1 and 6: states that each binding of an activation is placed right (`IsPlaced`), as seen
+-- from the activations `ls`; environment, placement and activation have to bind the same names
 abbrev pub PlacementFits : {N : Type 0}
     → RoutineTable N
     → StoreTyping

@@ -16,7 +16,7 @@ use Rattle.ob0_run_machine.specs.Lowered as lowered
 use Rattle.ob0_run_cells.specs.Cells.{address, all_cells, cells_of, size, store_size}
 use Rattle.ob0_run_cells.specs.Lowering.{NumberMeans, PlaceMeans, Slot, TruthMeans, HoldsValue, end_of, place_of_designator, slot_address, value_of_expression}
 
--- the item of a module's output that an item of the machine's output stands for
+-- the item of a module's output for an item of the machine's output
 abbrev pub written_of : execution.OutputItem → PrintedItem
 written_of (execution.number_out n) = number_out n
 written_of execution.line_out = line_out
@@ -30,8 +30,9 @@ pub record Represents (typing : StoreTyping) (low : execution.MachineState) (s :
   pub same_input : low.input ≡ s.input
   pub same_output : map written_of low.output ≡ s.output
 
--- States that a lowered run and a run continue in states that represent each other, or that both
--- have ended with the same end and output. Holds also if the lowered run has no room.
+-- States that a run of the machine and a run of the module agree. They continue in states that
+-- represent each other, or have ended with the same end and output. Holds also if the machine has
+-- no room for its cells.
 abbrev pub ProgressRepresents : StoreTyping → execution.MachineProgress → Progress → Type 0
 ProgressRepresents typing execution.no_room q = Unit {0}
 ProgressRepresents typing (execution.running low) (running s) = Represents typing low s
@@ -52,7 +53,7 @@ argument_addresses typing (place_argument p ∷ args) =
     address typing p ∷ argument_addresses typing args
 argument_addresses typing (value_argument v ∷ args) = argument_addresses typing args
 
--- the target of a call: a procedure's index, and how many levels out it is declared
+-- the target of a call: a procedure's index, and how many levels out the procedure is declared
 pub record Target : Type 0 where
   pub procedure : ℕ
   pub up : ℕ
@@ -81,7 +82,7 @@ CallsRepresent {N} checked targets b =
     { cells = p.cells }) (b.enters x args s)
 
 -- states that a body belongs to a checked module: its variables are in their slots, its procedures
--- have their targets, and its cells have addresses
+-- have their targets, and its store has fewer than 2^64 cells
 pub record ShowsBody {N : Type 0} (checked : TypeMeanings N) (slots : N → Slot) (targets : N → Target)
     (b : Body N) : Type 0 where
   pub names_fit : MeaningsFit b.typing checked b.active

@@ -1,12 +1,12 @@
--- The meaning of lowered places, numbers and truths: they give the places and values of a module's
--- designators and expressions, at each moment of a run.
--- A meaning is a relation between lowered code and a function of the moment (`OutcomeByMoment`), not a
--- tree. So operators need no types: a number of lowered code means a number. Only places and
--- variables need types. The value of an array or a record is in the cells at a place (`HoldsValue`),
--- even if its expression is in parentheses. Only a VAR argument has to be a designator without
--- operators (`IsAt`). While arguments are passed, their cells follow the cells of the store
--- (`passed` of a moment), so a meaning also holds then. A sign `+` is lowered to a sum with 0,
--- which is in range exactly if the number is.
+-- States the meaning of lowered places, numbers and truths: they give the places and values of a
+-- module's designators and expressions, at each moment of a run. A meaning is a relation between
+-- lowered code and a function of the moment (`OutcomeByMoment`). It doesn't mention the tree of the
+-- expression. So operators need no types: a number of lowered code means a number. Only places and
+-- variables need types. The value of an array or a record is in the cells at a place
+-- (`HoldsValue`), even if its expression is in parentheses. Only a VAR argument has to be a
+-- designator without operators (`IsAt`). While arguments are passed, their cells follow the cells
+-- of the store (`passed` of a moment), so a meaning also holds then. A sign `+` is lowered to a sum
+-- with 0, which is in range exactly if the number is.
 -- Rule: none; for contracts of lowering, against docs/LANGUAGE.md, Runs 2 to 4.
 use Rattle.std.specs.Prelude.{◌≡◌, ℕ, zero, suc, ◌+◌, ◌^◌, ◌<◌, true, List, ◌++◌, ℤ, slice_index_or, Some}
 use Rattle.ob0_tree.specs.declared.tree.Relation.{Relation}
@@ -63,7 +63,7 @@ abbrev pub cells_in : {N : Type 0} → Moment N → List ℤ
 cells_in m = all_cells m.store ++ m.passed
 
 -- states that a moment belongs to a checked module: its store and names fit, its variables are in
--- their slots, and it has fewer cells than addresses
+-- their slots, and its store has fewer than 2^64 cells
 pub record Shows {N : Type 0} (checked : TypeMeanings N) (slots : N → Slot) (m : Moment N) : Type 0 where
   pub store_fits : StoreFits m.typing m.store
   pub names_fit : MeaningsFit m.typing checked m.active
@@ -72,7 +72,7 @@ pub record Shows {N : Type 0} (checked : TypeMeanings N) (slots : N → Slot) (m
       → slot_address m.levels (slots x) ≡ address m.typing p
   pub has_addresses : store_size m.typing < 2 ^ 64
 
--- the end of a run that an end of a lowered run stands for
+-- the end of a module's run for an end of the machine's run
 abbrev pub end_of : machine.Halt → End
 end_of machine.Done = Done
 end_of machine.Overflow = Overflow
@@ -82,7 +82,7 @@ end_of machine.InputEnd = InputEnd
 end_of machine.CallBound = CallBound
 end_of machine.TurnBound = TurnBound
 
--- the outcome in the module that an outcome of the machine stands for; `f` converts its value
+-- the outcome in the module for an outcome of the machine; `f` converts the value
 abbrev pub outcome_of : {A B : Type 0} → (A → B) → machine.StepResult A → Outcome B
 outcome_of f (machine.gives a) = gives (f a)
 outcome_of f (machine.ends e) = ends (end_of e)
@@ -91,8 +91,8 @@ outcome_of f (machine.ends e) = ends (end_of e)
 abbrev pub OutcomeByMoment : Type 0 → Type 0 → Type 0
 OutcomeByMoment N A = Moment N → Outcome A
 
--- states that a number of lowered code has the outcome of an evaluation at each moment of the
--- module
+-- states that a number of lowered code and an evaluation have the same outcome at each moment of
+-- the module
 abbrev pub NumberMeans : {N : Type 0}
     → TypeMeanings N
     → (N → Slot)
@@ -104,7 +104,8 @@ NumberMeans {N} checked slots n value =
     → Shows checked slots m
     → outcome_of number (machine.number m.levels (cells_in m) n) ≡ value m
 
--- states that a truth of lowered code has the outcome of an evaluation at each moment of the module
+-- states that a truth of lowered code and an evaluation have the same outcome at each moment of the
+-- module
 abbrev pub TruthMeans : {N : Type 0}
     → TypeMeanings N
     → (N → Slot)
@@ -121,8 +122,8 @@ abbrev pub PlaceOutcomeFits : StoreTyping → Shape → Outcome Place → Type 0
 PlaceOutcomeFits typing s (gives p) = PlaceFits typing p s
 PlaceOutcomeFits typing s (ends e) = Unit {0}
 
--- states that a place of lowered code has the address of an evaluated place, which holds values of
--- a type
+-- states that a place of lowered code has the address of the place that an evaluation gives, and
+-- that this place holds values of a type
 abbrev pub PlaceMeans : {N : Type 0}
     → TypeMeanings N
     → (N → Slot)
@@ -136,8 +137,8 @@ PlaceMeans {N} checked slots q s value =
     ≡ (value m >>= (λ p. gives (address m.typing p))))
     × PlaceOutcomeFits m.typing s (value m)
 
--- states that an evaluated value of a type is the value in the store at the place that a place of
--- lowered code means
+-- states that an evaluation gives the value in the store at the place that a place of lowered code
+-- means, which holds values of a type
 abbrev pub HoldsValue : {N : Type 0}
     → TypeMeanings N
     → (N → Slot)
@@ -195,8 +196,8 @@ remaining_selectors rest m p =
     or_stuck (read_place m.store p) >>=
     (λ v. follow m.active m.store v rest >>= (λ steps. gives (extended_place p steps)))
 
--- states that some evaluation that `Means` describes, followed by the rest of a chain, is the
--- evaluation of the whole
+-- states that there is an evaluation for which `Means` holds, and which, followed by the rest of a
+-- chain, is the evaluation of the whole chain
 abbrev pub StartsChain : {N A : Type 0}
     → TypeMeanings N
     → (N → Slot)
@@ -209,8 +210,8 @@ StartsChain {N} {A} checked slots Means rest whole =
     × Means so_far
     × ((m : Moment N) → Shows checked slots m → (so_far m >>= rest m) ≡ whole m)
 
--- States that a place of lowered code means a place so far, which with the remaining selectors
--- gives the whole designator.
+-- States that a place of lowered code means the first part of a designator. From this place the
+-- remaining selectors give the place of the whole designator.
 abbrev pub PlaceStartsChain : {N : Type 0}
     → TypeMeanings N
     → (N → Slot)
@@ -222,8 +223,8 @@ abbrev pub PlaceStartsChain : {N : Type 0}
 PlaceStartsChain checked slots q s rest =
     StartsChain checked slots (PlaceMeans checked slots q s) (remaining_selectors rest)
 
--- States that a number of lowered code means a number so far, which with the rest of a chain gives
--- the whole.
+-- States that a number of lowered code means the first part of a chain. From this number the rest
+-- of the chain gives the value of the whole.
 abbrev pub NumberStartsChain : {N : Type 0}
     → TypeMeanings N
     → (N → Slot)
@@ -233,8 +234,8 @@ abbrev pub NumberStartsChain : {N : Type 0}
     → Type 0
 NumberStartsChain checked slots n = StartsChain checked slots (NumberMeans checked slots n)
 
--- States that a truth of lowered code means a truth so far, which with the rest of a chain gives
--- the whole.
+-- States that a truth of lowered code means the first part of a chain. From this truth the rest of
+-- the chain gives the value of the whole.
 abbrev pub TruthStartsChain : {N : Type 0}
     → TypeMeanings N
     → (N → Slot)
@@ -244,7 +245,7 @@ abbrev pub TruthStartsChain : {N : Type 0}
     → Type 0
 TruthStartsChain checked slots t = StartsChain checked slots (TruthMeans checked slots t)
 
--- the machine's relation that a relation of the language stands for
+-- the machine's comparator for a relation of the language
 abbrev pub relation_of : Relation → lowered.Comparator
 relation_of relation.Equal = lowered.equal
 relation_of relation.NotEqual = lowered.not_equal

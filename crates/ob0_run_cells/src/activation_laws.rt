@@ -2,8 +2,8 @@
 
 ghost use Rattle.ob0_run_cells.specs.ActivationLaws.{LoweringKeepsRuns};
 
-/// States that a program lowered from a well-typed module runs as the module does, if the run has
-/// room.
+/// States that a program lowered from a well-typed module has the output and the end of the
+/// module's run, if there is room for the program's cells.
 pub fn lowering_keeps_runs()
     ensures { LoweringKeepsRuns }
 {}

@@ -1,5 +1,5 @@
--- The code of values by their types: of the value at a place, of an operation on two values, of a
--- part.
+-- Defines the code of values by their types: of the value at a place, of an operation, and of a
+-- field or an element.
 -- Rule: none; for contracts of lowering.
 use Rattle.std.specs.Prelude.{◌≡◌, ℕ, ◌*◌, ◌%◌, ◌^◌, pos, Some, None, Option, option_map, if◌then◌else◌, nat_lt}
 use Rattle.ob0_tree.specs.declared.tree.Relation.{Relation}
@@ -26,8 +26,8 @@ pub data ExpressionCode : Type 0 where
   a_block : lowered.Place → (cells : ℕ) → ExpressionCode
   no_code : ExpressionCode
 
--- states that code means an evaluated value of a type; never true for code of another type, or for
--- no code
+-- states that code means an evaluated value of a type; never true if the code is for a value of
+-- another type, or is `no_code`
 abbrev pub CodeMeans : TypeMeanings Label → (Label → Slot) → ExpressionCode → Shape
     → OutcomeByMoment Label Value
     → Type 0
@@ -51,7 +51,7 @@ code_at_place q boolean_shape = a_truth (lowered.flag q)
 code_at_place q (array_shape k n s) = a_block q (size (array_shape k n s))
 code_at_place q (record_shape k fs) = a_block q (size (record_shape k fs))
 
--- the code of the value at a place; no code without a place
+-- the code of the value at a place; no code for None
 abbrev pub code_at : Option FoundPlace → ExpressionCode
 code_at None = no_code
 code_at (Some f) = code_at_place f.place f.shape
@@ -63,8 +63,8 @@ constant_code (truth b) = a_truth (lowered.constant b)
 constant_code (elements vs) = no_code
 constant_code (members k ms) = no_code
 
--- the code of a designator: of a constant's value if there is one, otherwise of the value at a
--- place
+-- the code of a designator: the code of a constant's value if it is a constant, otherwise the code
+-- of the value at its place
 abbrev pub named_code : Option Value → Option FoundPlace → ExpressionCode
 named_code (Some v) found = constant_code v
 named_code None found = code_at found
@@ -95,7 +95,9 @@ multiplication_code multiply_operator.Divide = number_operation lowered.quotient
 multiplication_code multiply_operator.Modulo = number_operation lowered.remainder
 multiplication_code multiply_operator.And = truth_operation lowered.both
 
--- the code of a term with its sign: `+x` is `x + 0`, so it has the value of `x` if that is in range
+-- The code of a term with its sign. Without a sign, this is the code of the term. There is no code
+-- if a term with a sign isn't a number. `+x` is lowered to `x + 0`, which is in range exactly if
+-- `x` is.
 abbrev pub signed_code : Option Sign → ExpressionCode → ExpressionCode
 signed_code None c = c
 signed_code (Some sign.Plus) (a_number n) =
@@ -103,26 +105,28 @@ signed_code (Some sign.Plus) (a_number n) =
 signed_code (Some sign.Minus) (a_number n) = a_number (lowered.negative n)
 signed_code _ _ = no_code
 
--- the code of `~`
+-- the code of a negation `~`; no code if the operand isn't a truth
 abbrev pub negation_code : ExpressionCode → ExpressionCode
 negation_code (a_truth t) = a_truth (lowered.negation t)
 negation_code _ = no_code
 
--- the code of a relation between two numbers, or of `=` or `#` between two truth values
+-- the code of a relation between two numbers, or of `=` or `#` between two truth values; no code
+-- for other operands
 abbrev pub related : Relation → ExpressionCode → ExpressionCode → ExpressionCode
 related r (a_number m) (a_number n) = a_truth (lowered.related (relation_of r) m n)
 related relation.Equal (a_truth t) (a_truth u) = a_truth (lowered.same t u)
 related relation.NotEqual (a_truth t) (a_truth u) = a_truth (lowered.different t u)
 related _ _ _ = no_code
 
--- the offset of an element at a literal index within its array; otherwise None
+-- the offset of an array's element if its index is a literal below the array's length, otherwise
+-- None
 abbrev pub known_offset : lowered.Number → (length stride : ℕ) → Option ℕ
 known_offset (lowered.literal (pos i)) n s =
     if nat_lt i n then Some ((i * s) % 2 ^ 64) else None
 known_offset _ n s = None
 
--- an element of an array: a part of the array if its offset is known, otherwise the element at an
--- index
+-- the place of an array's element: a part of the array if its offset is known, otherwise the
+-- element at an index
 abbrev pub element_or_part : Option ℕ → lowered.Place → lowered.Number → (length stride : ℕ)
     → lowered.Place
 element_or_part None q i n s = lowered.element q i n s 0
@@ -132,7 +136,7 @@ element_or_part (Some k) q i n s = part_at q k
 abbrev pub element_at_place : lowered.Place → lowered.Number → (length stride : ℕ) → lowered.Place
 element_at_place q i n s = element_or_part (known_offset i n s) q i n s
 
--- the place and type of a field: the part at the field's offset; None if there is no such field
+-- the place and type of a field of the value at a place; None if there is no such field
 abbrev pub record_field_place : Name → FoundPlace → Option FoundPlace
 record_field_place x f =
     option_map
@@ -146,7 +150,8 @@ element_place (a_number i) q (array_shape k n s) =
     Some (record { place = element_at_place q i n (size s); shape = s })
 element_place _ _ _ = None
 
--- the place and type of an element of the array that was found; None if none was found
+-- the place and type of an element of a found array; None if no place was found, the index isn't a
+-- number, or the type isn't an array type
 abbrev pub indexed_place : ExpressionCode → Option FoundPlace → Option FoundPlace
 indexed_place c None = None
 indexed_place c (Some f) = element_place c f.place f.shape

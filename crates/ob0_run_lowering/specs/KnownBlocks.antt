@@ -1,9 +1,9 @@
--- The bindings of a module's declarations, and the table of its declarations by ordinal.
+-- States that the bindings of a module agree with the table of its declarations by ordinal.
 -- `BlockIsDeclared` recurses over the tree. It says about each environment in which procedures or
--- statements of a block are checked: each binding is of an ordinal, and binds it to the object of
--- its declaration. A well-typed module has this property (`module-declared`). In its numbered tree
--- ordinals descend in each environment, so each binding is the one that a look-up finds. No other
--- fact about the order of ordinals is used.
+-- statements of a block are checked: each binding has an ordinal, and the object that is declared
+-- under this ordinal. A well-typed module has this property (`module-declared`). In its numbered
+-- tree ordinals descend in each environment, so each binding is the one that a look-up finds. No
+-- other fact about the order of ordinals is used.
 -- Rule: none; for contracts of lowering.
 use Rattle.std.specs.Prelude.{◌≡◌, ℕ, [], ◌∷◌, Some, Option}
 use Rattle.ob0_tree.specs.Tree.{Tree, block, items, procedure}
@@ -24,12 +24,12 @@ AreDeclared objects [] = Unit {0}
 AreDeclared objects (b ∷ env) =
     ((k : ℕ) × (b.0 ≡ declared k) × (objects k ≡ Some b.1)) × AreDeclared objects env
 
--- States `AreDeclared` for each environment in which the procedures and statements of a block, or
--- of a block in it, are checked.
+-- States `AreDeclared` for each environment in which procedures and statements of a block are
+-- checked. This includes the environments of all blocks inside this block.
 abbrev pub BlockIsDeclared : Objects → TypeEnvironment Label → ℕ → Tree Label block → Type 0
 BlockIsDeclared objects = BlockHas (AreDeclared objects)
 
--- States `AreDeclared` for each environment in which procedures and their blocks are checked.
+-- States `AreDeclared` for each environment in which these procedures and their blocks are checked.
 abbrev pub ProceduresAreDeclared : Objects
     → TypeEnvironment Label
     → ℕ

@@ -9,7 +9,7 @@ use Rattle.ob0_run_lowering.specs.declared.types.Layout.{Layout}
 use Rattle.ob0_run_lowering.specs.declared.types.Layout.TheVariants as layout
 use Rattle.ob0_run_lowering.specs.declared.types.RecordLayout.{RecordLayout}
 
--- the offsets of fields that are one after the other, the first at this offset
+-- the offsets of fields that are stored one after the other, if the first has the offset n
 abbrev pub offsets_from : ℕ → FieldShapes → List ℕ
 offsets_from n no_field_shape = []
 offsets_from n (next_field_shape x s rest) = n ∷ offsets_from (n + size s) rest
@@ -31,8 +31,7 @@ HaveLayouts [] [] = Unit {0}
 HaveLayouts (s ∷ shapes) (l ∷ layouts) = HasLayout s l × HaveLayouts shapes layouts
 HaveLayouts _ _ = ⊥
 
--- states that a layout is the layout of a record type; without a layout, that the type is
--- `faulty_shape`
+-- states that a layout is the layout of a record type; for None, that the type is `faulty_shape`
 abbrev pub IsLayoutOfRecord : Option (Bor RecordLayout) → Shape → Type 0
 IsLayoutOfRecord None s = s ≡ faulty_shape
 IsLayoutOfRecord (Some r) s = (k : ℕ) × (fs : FieldShapes) × (s ≡ record_shape k fs) × AreLaidOut fs r.now

@@ -1,10 +1,10 @@
--- The meaning of the lowered code of statements in a scene.
--- `HoldsInScene` is the form of every clause about statements except the clause of `body`: for all
--- checked names, slots and targets that the scene sees, a tree that fits has its meaning. Each law
--- of `ob0_run_cells` is lifted to this form once (`proofs/HoldsInScene`): if the whole fits, its parts
--- fit. The clause of `body` states the meaning of a body by `BodyMeans` of
--- `ob0_run_cells`, in each environment and at each placement that the scene sees, if the body
--- fits. A tree that occurs in no well-typed module doesn't fit, so its clause holds for any code.
+-- States that statements are lowered to code that means them in a scene. `HoldsInScene` is the form
+-- of every clause about statements except the clause of `body`. It says: for all checked names,
+-- slots and targets that the scene sees, a tree that fits has its meaning. Each law of
+-- `ob0_run_cells` is lifted to this form once (`proofs/HoldsInScene`): if the whole fits, its parts
+-- fit. The clause of `body` states the meaning of a body by `BodyMeans` of `ob0_run_cells`. It does
+-- so in each environment and at each placement that the scene sees, if the body fits. A tree that
+-- occurs in no well-typed module doesn't fit, so its clause holds for any code.
 -- Rule: none; for contracts of lowering.
 use Rattle.std.specs.Prelude.{◌≡◌, ◌&&◌, Bool, List, [], IsTrue, Option, Some, None}
 use Rattle.std.specs.declared.alloc.Global.{Global}
@@ -21,8 +21,8 @@ use Rattle.ob0_run_cells.specs.Lowering.{Slot, TruthMeans, value_of_expression}
 use Rattle.ob0_run_lowering.specs.declared.scene.Scene.{Scene}
 use Rattle.ob0_run_lowering.specs.Scenes.{Sees}
 
--- States that `Means` holds for all checked names, slots and targets that a scene sees and by which
--- a tree fits.
+-- States `Means` for all checked names, slots and targets that a scene sees, if the tree fits by
+-- these names.
 abbrev pub HoldsInScene : Scene
     → (TypeMeanings Label → Bool)
     → (TypeMeanings Label → (Label → Slot) → (Label → Target) → Type 0)
@@ -55,7 +55,7 @@ StatementLowers scene c a =
     HoldsInScene scene (λ checked. statement_fits checked a)
     (λ checked slots targets. StatementMeans checked slots targets c a)
 
--- the arguments of a call, or no arguments if it has no argument list
+-- the arguments of a call, or no arguments if the call has no argument list
 abbrev pub given_arguments : Option (Vec Expression Global) → List Expression
 given_arguments None = []
 given_arguments (Some es) = es.items
@@ -79,7 +79,7 @@ FurtherStatementsLower scene cs rest =
     HoldsInScene scene (λ checked. statements_fit checked rest)
     (λ checked slots targets. FurtherStatementsMean checked slots targets cs rest)
 
--- States that instructions mean an ELSE part in a scene, which may be missing.
+-- States that instructions mean an ELSE part in a scene. The ELSE part may be missing.
 abbrev pub ElseLowers : Scene → lowered.Instructions → Tree Label (maybe else_part) → Type 0
 ElseLowers scene cs last =
     HoldsInScene scene (λ checked. else_fits checked last)

@@ -1,4 +1,5 @@
--- The meaning of the code of expressions, designators and arguments, if a scene is right.
+-- States that expressions, designators and arguments are lowered to code that means them, if a
+-- scene is right.
 -- Rule: none; for contracts of lowering.
 use Rattle.std.specs.Prelude.{◌≡◌, ℕ, true, Some}
 use Rattle.ob0_tree.specs.Tree.{Tree, expression, items, selector}
@@ -57,7 +58,8 @@ LowersTruth scene e t =
     → TruthMeans checked slots (truth_of t)
     (value_of_expression (tree_with_labels scene.resolved.now e)))
 
--- states that a place and its type are the place and the type of a variable with its selectors
+-- states that `l` has the place and the type of a variable with its selectors; claims nothing if
+-- this designator has no type
 abbrev pub Locates : Scene → ℕ → Tree ℕ (items selector) → TypedPlace → Type 0
 Locates scene x path l =
     ForAllSeen scene (λ checked slots. (s : Shape)
@@ -67,8 +69,8 @@ Locates scene x path l =
     × PlaceMeans checked slots (place_of l.place) s
     (place_of_designator (label_at_token scene.resolved.now x) (tree_with_labels scene.resolved.now path)))
 
--- states that a place and its type are the place and the type of an expression that is only a
--- designator; claims nothing about other expressions
+-- states that `l` has the place and the type of an expression that is only a designator; claims
+-- nothing about other expressions
 abbrev pub LocatesLoneDesignator : Scene → Tree ℕ expression → TypedPlace → Type 0
 LocatesLoneDesignator scene e l =
     ForAllSeen scene (λ checked slots. (s : Shape)

@@ -19,7 +19,7 @@ abbrev pub IsTruthOf : Lowered → Truth → Type 0
 IsTruthOf (code.Truth u) t = u ≡ t
 IsTruthOf _ t = Unit {0}
 
--- states that an argument passes the value of an expression's code by value, if there is code
+-- states that an argument passes the value that code has, if there is code
 abbrev pub IsValueOf : Lowered → Argument → Type 0
 IsValueOf (code.Number n) a = argument.Number n ≡ a
 IsValueOf (code.Truth t) a = argument.Truth t ≡ a

@@ -1,9 +1,10 @@
--- The sites of placed names, and the placement of the names of a block or a heading, one by one.
--- Constants and types need no code, so their place is `nowhere`, and `LocatesAll` claims nothing
--- about them. Functions of the names say which names are placed (`place_groups`, `place_sections`),
--- so loops over names need no types or environments. For each there is a lemma (`groups_placed`,
--- `sections_placed`): if the declarations fit, the sizes are the sizes of the declared types. The
--- steps have the order of the definition. So a frame (`Frame`: depth, cells, VAR parameters) has
+-- States where lowered code finds the names of a block or a heading, which are placed one by one.
+-- The site of a name has the depth of the activation to which the name belongs. Its place has the
+-- number of levels out instead, as seen from one activation. Constants and types need no code, so
+-- their place is `nowhere`, and `LocatesAll` claims nothing about them. `place_groups` and
+-- `place_sections` depend on names and their sizes only, so loops over names need no types or
+-- environments. The lemmas `groups_placed` and `sections_placed` show: if the declarations fit,
+-- these are the sizes of the declared types. A frame (`Frame`: depth, cells, VAR parameters) has
 -- the numbers of the placement so far, without its names (`IsFrame`).
 -- Rule: none; for contracts of lowering.
 use Rattle.std.specs.Prelude.{◌≡◌, ℕ, zero, suc, ◌≤◌, List, [], ◌∷◌, ◌++◌, length, if◌then◌else◌, ◌==◌, Some, None, Option}
@@ -26,7 +27,7 @@ use Rattle.ob0_run_lowering.specs.declared.visible_sites.Frame.{Frame}
 use Rattle.ob0_run_lowering.specs.declared.visible_sites.HiddenSite.{HiddenSite}
 use Rattle.ob0_run_lowering.specs.declared.visible_sites.VisibleSites.{VisibleSites}
 
--- the place of the first name of a placement; `nowhere` if it is empty
+-- the place of the first name of a placement; `nowhere` if the placement is empty
 abbrev pub first_binding_place : Placement Label → BindingPlace
 first_binding_place [] = nowhere
 first_binding_place (b ∷ placement) = b.1
@@ -43,13 +44,14 @@ site_depth (site.Held at offset) = at
 site_depth (site.ByReference at index) = at
 site_depth (site.Procedure at index) = at
 
--- states that a site, seen from a depth, is the place of a name; claims nothing for `nowhere`
+-- states that a site, seen from a depth, is this place of a name; claims nothing if the place is
+-- `nowhere`
 abbrev pub LocatesAs : ℕ → Site → BindingPlace → Type 0
 LocatesAs depth s nowhere = Unit {0}
 LocatesAs depth s (in_slot slot) = (site_depth s ≤ depth) × (place_seen_from depth s ≡ in_slot slot)
 LocatesAs depth s (at_target t) = (site_depth s ≤ depth) × (place_seen_from depth s ≡ at_target t)
 
--- states that a table has the site of each placed name, as seen from a depth
+-- states that a table of sites, by ordinal, gives each placed name its place, as seen from a depth
 abbrev pub LocatesAll : List Site → ℕ → Placement Label → Type 0
 LocatesAll sites depth placement =
     (k : ℕ) → LocatesAs depth (site_at sites k) (binding_place_in placement (declared k))
@@ -67,12 +69,12 @@ PlacementMatches [] [] = Unit {0}
 PlacementMatches (b ∷ env) (w ∷ placement) = (b.0 ≡ w.0) × PlaceSuits b.1 w.1 × PlacementMatches env placement
 PlacementMatches _ _ = ⊥
 
--- the number of cells of a variable with this type; 0 without a type
+-- the number of cells of a variable with this type; 0 for None
 abbrev pub optional_shape_size : Option Shape → ℕ
 optional_shape_size None = 0
 optional_shape_size (Some s) = size s
 
--- the number of cells of the variable that a name declares
+-- the number of cells of the variable that a name declares; 0 if the name has no type
 abbrev pub declared_size : Tables → Label → ℕ
 declared_size t x = optional_shape_size (type_of_declaration (object_at t x))
 
@@ -82,18 +84,19 @@ abbrev pub variable_slot : ℕ → ℕ → Slot
 variable_slot zero = of_module
 variable_slot (suc depth) = held 0
 
--- states that a site is the slot of the next variable of an activation
+-- states that a site is the slot that the next variable of a frame gets, after the cells so far
 abbrev pub IsNextSite : Frame → Site → Type 0
 IsNextSite f s =
     (site_depth s ≤ f.depth) × (place_seen_from f.depth s ≡ in_slot (variable_slot f.depth f.cells))
 
--- a placement with the names of one declaration added one by one, by their sizes
+-- adds the names of one declaration to a placement, one by one; `size_of` gives the number of cells
+-- of each name
 abbrev pub place_each : (ℕ → Slot) → (Label → ℕ) → Mode → List Label → Placed Label → Placed Label
 place_each at size_of mode [] p = p
 place_each at size_of mode (x ∷ xs) p =
     place_each at size_of mode xs (place_name at mode x (size_of x) p)
 
--- a placement with the variables of a block added one by one
+-- adds the variables of a block to a placement, one by one
 abbrev pub place_groups : (ℕ → Slot)
     → (Label → ℕ)
     → Tree Label (items variable)
@@ -103,7 +106,7 @@ place_groups at size_of end p = p
 place_groups at size_of (more (declares_variable ns u) gs) p =
     place_groups at size_of gs (place_each at size_of by_value (names_in_list ns) p)
 
--- a placement with the parameters of a heading added one by one
+-- adds the parameters of a heading to a placement, one by one
 abbrev pub place_sections : (ℕ → Slot)
     → (Label → ℕ)
     → Tree Label (items further_section)
@@ -113,17 +116,18 @@ place_sections at size_of end p = p
 place_sections at size_of (more (then_section f) fs) p =
     place_sections at size_of fs (place_each at size_of (section_mode f) (section_names f) p)
 
--- the sites of ordinals, with another site for one ordinal
+-- the function `sites` from ordinals to sites, changed at one ordinal
 abbrev pub sites_with : ℕ → Site → (ℕ → Site) → ℕ → Site
 sites_with ordinal s sites k = if k == ordinal then s else sites k
 
--- the sites of ordinals, with another site for the ordinal of a name; unchanged if the name has no
--- ordinal
+-- the function `sites` from ordinals to sites, changed at one ordinal; unchanged if the ordinal is
+-- None
 abbrev pub sites_with_binding : Option ℕ → Site → (ℕ → Site) → ℕ → Site
 sites_with_binding None s sites = sites
 sites_with_binding (Some ordinal) s sites = sites_with ordinal s sites
 
--- the sites of ordinals before these sites were hidden, which are listed in the order of hiding
+-- the function `sites` from ordinals to sites, with all hidden sites restored; the site that was
+-- hidden first is first in the list
 abbrev pub sites_before_hiding : List HiddenSite → (ℕ → Site) → ℕ → Site
 sites_before_hiding [] sites = sites
 sites_before_hiding (h ∷ later) sites = sites_with h.ordinal h.before (sites_before_hiding later sites)
@@ -133,8 +137,8 @@ abbrev pub OrdinalsAreBelow : ℕ → List HiddenSite → Type 0
 OrdinalsAreBelow n [] = Unit {0}
 OrdinalsAreBelow n (h ∷ hs) = (suc h.ordinal ≤ n) × OrdinalsAreBelow n hs
 
--- states that a table `v` results from `w` by hiding more sites, and that `w` can be restored from
--- `v`
+-- states that the table `v` results from the table `w` by hiding more sites, and that restoring
+-- these in `v` gives the sites of `w`
 pub record Follows (w v : VisibleSites) : Type 0 where
   pub more : List HiddenSite
   pub added : v.hidden.items ≡ w.hidden.items ++ more
@@ -142,21 +146,24 @@ pub record Follows (w v : VisibleSites) : Type 0 where
   pub longer : length w.sites.items ≤ length v.sites.items
   pub goes_back : (k : ℕ) → sites_before_hiding more (site_at v.sites.items) k ≡ site_at w.sites.items k
 
--- states that `v` has the sites and the hidden sites of `w`, and is as long as `u`
+-- States that the table `v` is a restored table. It has the sites and the hidden sites of `w`, the
+-- table before sites were hidden. It is as long as `u`, the table after they were hidden.
 abbrev pub IsRestored : VisibleSites → VisibleSites → VisibleSites → Type 0
 IsRestored w u v =
     (v.hidden.items ≡ w.hidden.items)
     × ((k : ℕ) → site_at v.sites.items k ≡ site_at w.sites.items k)
     × (length v.sites.items ≡ length u.sites.items)
 
--- states that a frame has the numbers of a placement so far, and the table of sites all its names
+-- states that a frame has the numbers of cells and of VAR parameters of a placement, and that the
+-- table of sites has the places of all names of the placement
 pub record IsFrame (sites : List Site) (f : Frame) (p : Placed Label) : Type 0 where
   pub holds : LocatesAll sites f.depth p.placement
   pub cells : f.cells ≡ p.cells
   pub reference_places : f.references ≡ p.reference_places
 
--- states that a table and a frame change from `w` and `f` to `v` and `g` as `step` changes the
--- placement
+-- States that names are placed in a table of sites and a frame. `w` and `f` are the table and the
+-- frame before, `v` and `g` are the table and the frame after. If `w` and `f` match a placement,
+-- `v` and `g` match the placement after `step`.
 pub record Places (w v : VisibleSites) (f : Frame) (step : Placed Label → Placed Label) (g : Frame)
     : Type 0 where
   pub placed : (p : Placed Label) → IsFrame w.sites.items f p → IsFrame v.sites.items g (step p)

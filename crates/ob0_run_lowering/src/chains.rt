@@ -1,14 +1,14 @@
-//! Chains of operations. The second operation after a number makes a `Chain`, the second `&` or OR
-//! an `All` or an `Any`.
+//! Makes chains of operations. A second operation on the result of the first makes a `Chain`. A
+//! third operand of `&` makes an `All`, a third operand of OR an `Any`.
 //!
-//! In `v + i * j` the sum becomes the last operation of its right operand's chain. According to
-//! `View` these nodes have the same meaning as nested ones, so no other module has to distinguish
-//! them. The same holds for the forms of places, negations and assignments that the machine
-//! evaluates in fewer steps. Since the meaning is the same, the nesting has separate clauses
-//! (`specs/Rows`). One more operand makes a conjunction at most as deep on the left as before,
-//! or as a pair (`IsNoDeeper`). So the first operand of a conjunction isn't a conjunction
-//! (`IsFlat`). `both` and `either` list each case of the left operand, since a proof knows nothing
-//! about an operand in a wildcard arm.
+//! In `v + i * j` the sum becomes the last operation of the chain that begins with `i * j`.
+//! According to `View` these nodes have the same meaning as nested ones, so no other module has to
+//! distinguish them. The same holds for the forms of places, negations and assignments that the
+//! machine evaluates in fewer steps. Since the meaning is the same, separate clauses state how deep
+//! the code is nested (`specs/Rows`). One more operand makes a conjunction at most as deep on the
+//! left as before, or as a pair (`IsNoDeeper`). So the first operand of a conjunction isn't a
+//! conjunction (`IsFlat`). `both` and `either` list each case of the left operand, since a proof
+//! knows nothing about an operand in a wildcard arm.
 
 ghost use Rattle.std.specs.Prelude.{◌≡◌, ◌≤◌, IfOk, IfSome, max, suc};
 ghost use Rattle.ob0_run_machine.specs.Lowered as machine;
@@ -21,7 +21,7 @@ use ob0_run_machine::code::{
 };
 use std::alloc::{AllocError, Global};
 
-/// Returns the link of an operator and its right operand.
+/// Returns the link that applies an operator to a number, with `right` as its right operand.
 fn link(operator: Operator, right: Number) -> Link
     ensures { (left : machine.Number)
         → applied result left ≡ machine.operation (operator_of operator) left (number_of right) }
@@ -55,8 +55,8 @@ fn link(operator: Operator, right: Number) -> Link
     }
 }
 
-/// Returns the link of an operator with a variable as its left operand. Returns None for a quotient
-/// or a remainder, for which there is no such link.
+/// Returns the link that applies an operator to a number, with a variable as its left operand.
+/// Returns None for a quotient or a remainder, for which there is no such link.
 fn reversed_link(operator: Operator, variable: Variable) -> Option<Link>
     ensures { IfSome result (λ l. (right : machine.Number) → applied l right
         ≡ machine.operation (operator_of operator) (machine.cell (variable_of variable)) right) }
@@ -70,7 +70,7 @@ fn reversed_link(operator: Operator, variable: Variable) -> Option<Link>
     }
 }
 
-/// Returns one operation as a number.
+/// Returns one operation as a number: the link applied to the first operand.
 fn single_operation(alloc: Global, first: FirstOperand, link: Link) -> Result<Number, AllocError>
     ensures { IfOk result (λ n. number_of n ≡ applied link (first_of first)) }
 {
@@ -97,7 +97,7 @@ fn extended_chain(alloc: Global, chain: Chain, link: Link) -> Result<Number, All
     Ok(Number::Chain(Box::new(alloc, Chain { first, rest })?))
 }
 
-/// Returns an operation between a variable and a number, as a single operation.
+/// Returns an operation between a variable and a number. It isn't made part of a chain.
 fn plain_operation(
     alloc: Global,
     operator: Operator,

@@ -25,7 +25,8 @@ impl<'g, 'k, 't> LoweringContext<'g, 'k, 't> {
     ghost use Rattle.ob0_run_lowering.specs.Scenes.{object_at};
     ghost use Rattle.ob0_run_lowering.specs.Placed.{declared_size};
 
-    /// Returns the type of the variable that a name declares.
+    /// Returns the type that the name at a token declares: of a variable, a parameter or a
+    /// constant, or the type with this name. Returns None for any other declaration.
     fn type_of(&self, name: usize) -> Option<TypeId>
         ensures { option_map (type_shape (shapes_of self.now.types.now)) result
             ≡ type_of_declaration (object_at self.now.types.now (label_at_token self.now.resolved.now name)) }
@@ -34,7 +35,8 @@ impl<'g, 'k, 't> LoweringContext<'g, 'k, 't> {
         self.types.declarations().declared_type(ordinal)
     }
 
-    /// Returns the number of cells of the variable that a name declares.
+    /// Returns the number of cells of the variable that the name at a token declares, or 0 if the
+    /// name has no type.
     pub(crate) fn size(&self, name: usize) -> usize
         ensures { result ≡ declared_size self.now.types.now (label_at_token self.now.resolved.now name) }
     {

@@ -1,4 +1,5 @@
-//! The lowering of expressions, places and arguments, as statements need them.
+//! Makes the code that statements need from expressions: numbers, truths, places and arguments. If
+//! an expression has no such code, a default is returned, for example 0 or FALSE.
 
 ghost use Rattle.std.specs.Prelude.{IfOk};
 ghost use Rattle.ob0_tree.specs.View.{expression_of};
@@ -17,7 +18,7 @@ use ob0_types_table::designated::lone_designator;
 use ob0_types_table::{FormalParameter, TypeId};
 use std::alloc::{AllocError, Global};
 
-/// Returns the number of an expression's code, or 0 if the code isn't a number.
+/// Returns the number that is an expression's code, or 0 if the code isn't a number.
 fn number_or_zero(lowered: Lowered) -> Number
     ensures { IsNumberOf lowered result }
 {
@@ -29,7 +30,7 @@ fn number_or_zero(lowered: Lowered) -> Number
     }
 }
 
-/// Returns the truth of an expression's code, or FALSE if the code isn't a truth.
+/// Returns the truth that is an expression's code, or FALSE if the code isn't a truth.
 fn truth_or_false(lowered: Lowered) -> Truth
     ensures taken { IsTruthOf lowered result }
     ensures flat { IsFlat lowered → IsFlat (code.Truth result) }
@@ -42,7 +43,8 @@ fn truth_or_false(lowered: Lowered) -> Truth
     }
 }
 
-/// Returns the argument that passes an expression by value. Without code it is FALSE.
+/// Returns the argument that passes an expression by value. If the expression has no code, the
+/// argument is FALSE.
 fn by_value_argument(lowered: Lowered) -> Argument
     ensures { IsValueOf lowered result }
 {
@@ -61,7 +63,7 @@ fn unknown_place() -> TypedPlace {
     }
 }
 
-/// Returns the place that was found, or the module's first cell if none was.
+/// Returns the place that was found, or the module's first cell if no place was found.
 fn found_or_unknown_place(found: Option<TypedPlace>) -> TypedPlace
     ensures { IsTypedPlaceOf found result }
 {
@@ -84,7 +86,7 @@ impl<'s, 'k, 't> Scene<'s, 'k, 't> {
         self.lower_expression(alloc, e)
     }
 
-    /// Returns the number that an expression means, or 0 if it isn't an INTEGER.
+    /// Returns the number that an expression means, or 0 if the expression isn't an INTEGER.
     pub fn number(&self, alloc: Global, e: &Expression) -> Result<Number, AllocError>
         ensures { IfOk result (LowersNumber self.now (expression_of e.now)) }
     {
@@ -110,8 +112,8 @@ impl<'s, 'k, 't> Scene<'s, 'k, 't> {
         Ok(found_or_unknown_place(found))
     }
 
-    /// Returns the place of an argument for a VAR parameter. If the argument isn't only a
-    /// designator, it is the module's first cell.
+    /// Returns the place of an argument for a VAR parameter. Returns the module's first cell if the
+    /// argument isn't only a designator.
     pub fn locate_argument(&self, alloc: Global, e: &Expression) -> Result<TypedPlace, AllocError>
         ensures { IfOk result (LocatesLoneDesignator self.now (expression_of e.now)) }
     {

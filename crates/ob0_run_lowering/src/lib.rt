@@ -5,8 +5,8 @@
 //! `slots` and `targets` for which the scene is right (`Sees`): each bound name has the object of
 //! its declaration, and is at the place that the scene has for it. So these contracts mention no
 //! environments, placements or blocks. The code that lowers blocks shows `Sees` at each body. The
-//! code of an expression means the expression if it has a type (`Lowers`); otherwise nothing is
-//! claimed. So every tree is accepted, and each has some code.
+//! code of an expression means the expression if the expression has a type (`Lowers`). Otherwise
+//! nothing is claimed about the code. So every tree is accepted, and code is made for each.
 #![tactic(auto)]
 
 mod chains;

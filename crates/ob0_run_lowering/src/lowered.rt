@@ -8,10 +8,10 @@ use ob0_types_table::TypeId;
 pub enum Lowered {
     Number(Number),
     Truth(Truth),
-    /// The cells of an array or a record: their first place, and their number.
+    /// The cells of an array or a record: the place of the first cell, and the number of cells.
     Block(Place, usize),
     /// No code, which no expression of a well-typed module has. If a number, a truth or a place is
-    /// needed for it, it is 0, FALSE or the module's first cell.
+    /// needed instead, lowering uses 0, FALSE or the module's first cell.
     Nothing,
 }
 

@@ -15,7 +15,7 @@ use ob0_run_machine::code::{
 use ob0_tree::Assignment;
 use std::alloc::{AllocError, Global};
 
-/// Returns the code of an assignment of a number.
+/// Returns the code that assigns a number to a place.
 fn number_assignment(alloc: Global, place: Place, n: Number) -> Result<Instruction, AllocError>
     ensures { IfOk result
         (λ made. statement_of made ≡ machine.stores_number (place_of place) (number_of n)) }
@@ -26,7 +26,7 @@ fn number_assignment(alloc: Global, place: Place, n: Number) -> Result<Instructi
     }
 }
 
-/// Returns the code of an assignment of a number to a variable.
+/// Returns the code that assigns a number to a variable.
 fn variable_assignment(
     alloc: Global,
     variable: Variable,
@@ -96,7 +96,7 @@ fn constant_assignment(place: Place, b: bool) -> Instruction
     }
 }
 
-/// Returns the code of an assignment of a truth value.
+/// Returns the code that assigns a truth value to a place.
 fn truth_assignment(place: Place, t: Truth) -> Instruction
     ensures { statement_of result ≡ machine.stores_truth (place_of place) (truth_of t) }
 {
@@ -106,7 +106,7 @@ fn truth_assignment(place: Place, t: Truth) -> Instruction
     }
 }
 
-/// Returns the code of an assignment: of a number, of a truth, or of the cells of an array or a record.
+/// Returns the code of an assignment of a number, a truth, or the cells of an array or a record.
 pub(crate) fn lower_assignment(
     alloc: Global,
     scene: &Scene<'_, '_, '_>,

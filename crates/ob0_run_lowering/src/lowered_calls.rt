@@ -2,8 +2,8 @@
 //! variable, or calls Read without an argument. Such calls are lowered to `WriteLine`, since some
 //! instruction has to be returned.
 //!
-//! Arguments and parameters are visited in pairs, and their numbers aren't compared. If one list is
-//! longer, the arguments don't fit, and nothing is claimed. Read needs the place of its argument
+//! Arguments and parameters are visited in pairs, without comparing how many there are. If one list
+//! is longer, the arguments don't fit, and nothing is claimed. Read needs the place of its argument
 //! (`locate_argument`), Write the number (`number`).
 
 ghost use Rattle.std.specs.Prelude.{◌≡◌, IfOk, Some, map, option_map, slice_get};

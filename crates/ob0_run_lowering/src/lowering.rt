@@ -52,7 +52,8 @@ fn constant(value: Scalar) -> Lowered
 }
 
 impl<'s, 'k, 't> Scene<'s, 'k, 't> {
-    /// Returns the type of the variable that a name refers to, or None if it refers to no variable.
+    /// Returns the type of the variable that the name at a token refers to, or None if the name
+    /// refers to no variable.
     fn variable_type(&self, name: usize) -> Option<TypeId>
         ensures { option_map (type_shape (shapes_of self.now.types.now)) result
             ≡ variable_shape (object_at self.now.types.now (label_at_token self.now.resolved.now name)) }
@@ -67,8 +68,8 @@ impl<'s, 'k, 't> Scene<'s, 'k, 't> {
         }
     }
 
-    /// Returns the value of the constant that a name refers to, or None if it refers to no
-    /// constant.
+    /// Returns the value of the constant that the name at a token refers to, or None if the name
+    /// refers to no constant.
     fn constant(&self, name: usize) -> Option<Scalar>
         ensures { option_map scalar_value result
             ≡ constant_of (object_at self.now.types.now (label_at_token self.now.resolved.now name)) }
@@ -83,7 +84,8 @@ impl<'s, 'k, 't> Scene<'s, 'k, 't> {
         }
     }
 
-    /// Returns the text of a field's name, or the empty text if the name is bound to a declaration.
+    /// Returns the text of the field's name at a token, or the empty text if the name is bound to a
+    /// declaration.
     fn field_name(&self, token: usize) -> &'t str
         ensures { result.now ≡ label_text (label_at_token self.now.resolved.now token) }
     {
@@ -93,15 +95,15 @@ impl<'s, 'k, 't> Scene<'s, 'k, 't> {
         }
     }
 
-    /// Returns the value of a number token.
+    /// Returns the value of the number at a token.
     fn integer(&self, token: usize) -> i32
         ensures { result ≡ pos (value_at self.now.resolved.now.module_read.source token) }
     {
         number_at(self.resolved.tokens(), token)
     }
 
-    /// Returns the place of a variable without selectors, or None if the name refers to no
-    /// variable.
+    /// Returns the place of the variable that the name at a token refers to, without selectors.
+    /// Returns None if the name refers to no variable.
     fn locate_base(&self, alloc: Global, name: usize) -> Result<Option<TypedPlace>, AllocError>
         ensures { IfOk result (λ o. option_map (found_place_of (shapes_of self.now.types.now)) o
             ≡ base_place self.now (label_at_token self.now.resolved.now name)) }
@@ -143,7 +145,8 @@ impl<'s, 'k, 't> Scene<'s, 'k, 't> {
         }
     }
 
-    /// Returns the place of a field of a record, or None if its type has no such field.
+    /// Returns the place of a field of the record at a place, or None if the type of this place has
+    /// no such field.
     fn field(
         &self,
         alloc: Global,
@@ -166,7 +169,8 @@ impl<'s, 'k, 't> Scene<'s, 'k, 't> {
         }
     }
 
-    /// Returns the place of an element of an array, or None if the type isn't an array type.
+    /// Returns the place of an element of the array at a place, or None if the type of this place
+    /// isn't an array type.
     fn element(
         &self,
         alloc: Global,
@@ -329,8 +333,8 @@ impl<'s, 'k, 't> Scene<'s, 'k, 't> {
         }
     }
 
-    /// Returns the place of a designator: a variable with its selectors. Returns None if there is
-    /// none.
+    /// Returns the place of a designator: a variable with its selectors. Returns None if the
+    /// designator has no place.
     #[cycle(lowering)]
     pub(crate) fn locate(
         &self,

@@ -1,4 +1,4 @@
-//! The lowering of operations: of the code of their operands to the code of the result.
+//! Makes the code of an operation from the code of its operands.
 
 ghost use Rattle.std.specs.Prelude.{◌≡◌, IfOk, Some};
 ghost use Rattle.ob0_tree.specs.declared.tree.Sign.TheVariants as signs;
@@ -20,7 +20,7 @@ use ob0_run_machine::code::{
 use ob0_tree::{AddOperator, MultiplyOperator, Relation, Sign};
 use std::alloc::{AllocError, Global};
 
-/// Returns the number of an operand's code, or None if the code isn't a number.
+/// Returns the number that is an operand's code, or None if the code isn't a number.
 fn number_in(operand: Lowered) -> Option<Number>
     ensures { result ≡ number_in operand }
 {
@@ -32,7 +32,7 @@ fn number_in(operand: Lowered) -> Option<Number>
     }
 }
 
-/// Returns the truth of an operand's code, or None if the code isn't a truth.
+/// Returns the truth that is an operand's code, or None if the code isn't a truth.
 fn truth_in(operand: Lowered) -> Option<Truth>
     ensures { result ≡ truth_in operand }
 {
@@ -158,7 +158,7 @@ fn lower_plus(alloc: Global, operand: Lowered) -> Result<Lowered, AllocError>
     )
 }
 
-/// Returns the code of a term with its sign, if it has one.
+/// Returns the code of a term with its sign, or the term's own code if it has no sign.
 pub(crate) fn lower_sign(
     alloc: Global,
     sign: Option<Sign>,
@@ -201,7 +201,7 @@ fn comparator_of(relation: Relation) -> code::Comparator
     }
 }
 
-/// Returns the truth that a relation holds between a variable and a literal.
+/// Returns the code of a comparison of a variable with a literal.
 fn compare_to_literal(relation: code::Comparator, variable: Variable, n: i32) -> Truth
     ensures code { truth_of result ≡ view.variable_relation relation variable (machine.literal n) }
     ensures flat { (and_depth result ≡ 0) × (or_depth result ≡ 0) }
@@ -212,8 +212,8 @@ fn compare_to_literal(relation: code::Comparator, variable: Variable, n: i32) ->
     }
 }
 
-/// Returns the truth that a relation holds between a variable and a number. For a literal or
-/// another variable it is one node.
+/// Returns the code of a comparison of a variable with a number. If the number is a literal or
+/// another variable, the code is one node.
 fn compare_variable(
     alloc: Global,
     relation: code::Comparator,
@@ -235,8 +235,8 @@ fn compare_variable(
     }
 }
 
-/// Returns the truth that a relation holds between the number at a place and another number. It is
-/// one node if an element whose array and index are variables is compared with a variable.
+/// Returns the code of a comparison of the number at a place with another number. The code is one
+/// node if an element whose array and index are variables is compared with a variable.
 fn compare_cell(
     alloc: Global,
     relation: code::Comparator,
@@ -280,7 +280,7 @@ fn compare_element(
     }
 }
 
-/// Returns the truth that a relation holds between two numbers.
+/// Returns the code of a comparison of two numbers.
 fn relate_numbers(
     alloc: Global,
     relation: Relation,

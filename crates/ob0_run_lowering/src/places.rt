@@ -1,10 +1,11 @@
-//! The code of places and of the values in them, in the form that is evaluated in the fewest steps.
+//! Makes the code of places and of the values in them, in the form that the machine evaluates in
+//! the fewest steps.
 //!
 //! Offsets are added when a place is lowered (`part_at`). A field of a variable is a variable, and
 //! a field of an element is an element with an offset. An element at a literal index within its
-//! array is a part of the array (`element_at_place`). It has the same address in all activations
-//! and over all cells (`proofs/PartsFound`). So the machine takes one step for a field of a
-//! variable, as for the variable itself.
+//! array is a part of the array (`element_at_place`). The part has the same address as the element
+//! in all activations and over all cells (`proofs/PartsFound`). So the machine takes one step for a
+//! field of a variable, as for the variable itself.
 
 ghost use Rattle.std.specs.Prelude.{◌≡◌, IfOk, length};
 ghost use Rattle.ob0_run_machine.specs.Lowered as machine;
@@ -181,8 +182,8 @@ fn known_offset(index: &Number, length: usize, stride: usize) -> Option<usize>
     }
 }
 
-/// Returns the place of an element of the array at a place. At a literal index within the array it
-/// is a part of the array.
+/// Returns the place of an element of the array at a place. If the index is a literal within the
+/// array, the element is a part of the array.
 pub(crate) fn element(
     alloc: Global,
     array: Place,

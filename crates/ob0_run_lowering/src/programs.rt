@@ -23,7 +23,8 @@ use ob0_tree::{Block, Procedure};
 use ob0_types_table::DeclarationTable;
 use std::alloc::{AllocError, Global};
 
-/// The state of lowering a module: the sites of the names in scope, and the procedures so far.
+/// The state while a module is lowered: the sites of the names in scope, and the code of the
+/// procedures so far.
 #[derive(Drop)]
 pub(crate) struct Lowering {
     pub(crate) visible: VisibleSites,

@@ -36,7 +36,7 @@ pub struct CallTarget {
 }
 
 impl CallTarget {
-    /// Returns the target that is used if a name isn't a procedure's: index 0 and level 0.
+    /// Returns the target for a name that isn't a procedure's name: index 0 and level 0.
     fn none() -> CallTarget
         ensures { result ≡ record { procedure = 0; up = 0 } }
     {
@@ -64,8 +64,8 @@ impl<'s, 'k, 't> Scene<'s, 'k, 't> {
     ghost use Rattle.ob0_types_table.specs.Tables.{object_view};
     ghost use Rattle.ob0_run_lowering.specs.Scenes.{object_at, place_seen_from, slot_at, target_at, binding_place};
 
-    /// Returns the object of the declaration that a name refers to, or None if the name isn't
-    /// bound.
+    /// Returns the object of the declaration that the name at a token refers to, or None if the
+    /// name isn't bound.
     pub fn object(&self, name: usize) -> Option<&'k Object>
         ensures { option_and_then (λ o. object_view (shapes_of self.now.types.now) o.now) result
             ≡ object_at self.now.types.now (label_at_token self.now.resolved.now name) }
@@ -74,7 +74,8 @@ impl<'s, 'k, 't> Scene<'s, 'k, 't> {
         self.types.declarations().object(ordinal)
     }
 
-    /// Returns the site of the declaration that a name refers to.
+    /// Returns the site of the declaration that the name at a token refers to, or `Nowhere` if
+    /// there is none.
     fn site(&self, name: usize) -> Site
         ensures { place_seen_from self.now.depth result
             ≡ binding_place self.now (label_at_token self.now.resolved.now name) }
@@ -88,7 +89,8 @@ impl<'s, 'k, 't> Scene<'s, 'k, 't> {
         }
     }
 
-    /// Returns the procedure that a name refers to, as seen from the body.
+    /// Returns the procedure that the name at a token refers to, as seen from the body. For any
+    /// other name this is index 0 and level 0.
     pub fn target(&self, name: usize) -> CallTarget
         ensures { record { procedure = result.procedure; up = result.up }
             ≡ target_at self.now (label_at_token self.now.resolved.now name) }
@@ -105,8 +107,8 @@ impl<'s, 'k, 't> Scene<'s, 'k, 't> {
         }
     }
 
-    /// Returns the place of the variable that a name refers to. For any other name this is the
-    /// module's first cell.
+    /// Returns the place of the variable that the name at a token refers to. For any other name
+    /// this is the module's first cell.
     pub(crate) fn variable(&self, alloc: Global, name: usize) -> Result<Place, AllocError>
         ensures { IfOk result (λ p. place_of p
             ≡ slot_place (slot_at self.now (label_at_token self.now.resolved.now name))) }

@@ -1,8 +1,8 @@
 //! The types of a module, with their numbers of cells and the offsets of fields.
 //!
 //! Sizes and offsets are computed once. The layout of each entry of the checker's table results
-//! from the layouts before it, in the order of `extended_shapes` (`HaveLayouts`). So the offset of a field
-//! is a look-up by its place in the record.
+//! from the layouts before it, in the order of `extended_shapes` (`HaveLayouts`). So the offset of
+//! a field is found by the index of the field in the record.
 
 ghost use Rattle.std.specs.Prelude.{◌≡◌, ◌≤◌, ◌+◌, ◌*◌, ◌^◌, ℕ, IfOk, List, MatchResult, slice_index_or};
 ghost use Rattle.ob0_run_cells.specs.Cells.{field_offset, size, step_offset};
@@ -17,7 +17,7 @@ use ob0_types_table::{DeclarationTable, Field, FieldId, TypeEntry, TypeId};
 use std::alloc::{AllocError, Global};
 use std::marker::Model;
 
-/// The layout of a record: its number of cells, and the offset of each field in its cells.
+/// The layout of a record: its number of cells, and the offset of each field within these cells.
 #[derive(Drop)]
 struct RecordLayout {
     cells: usize,
@@ -38,8 +38,8 @@ pub struct TypeLayouts<'k> {
     layouts: Vec<Layout>,
 }
 
-/// Returns the sum of two numbers of cells. Fails exactly if the sum has more than 64 bits: no
-/// allocation is that large.
+/// Returns the sum of two numbers of cells. Fails exactly if the sum has more than 64 bits, since
+/// no allocation is that large.
 fn cell_sum(cells: usize, more: usize) -> Result<usize, AllocError>
     ensures { MatchResult result (λ n. n ≡ cells + more) (λ _. 2 ^ 64 ≤ cells + more) }
 {
@@ -49,7 +49,8 @@ fn cell_sum(cells: usize, more: usize) -> Result<usize, AllocError>
     }
 }
 
-/// Returns the product of a count and a number of cells. Fails exactly if it has more than 64 bits.
+/// Returns the product of a count and a number of cells. Fails exactly if the product has more than
+/// 64 bits.
 fn cell_product(count: usize, cells: usize) -> Result<usize, AllocError>
     ensures { MatchResult result (λ n. n ≡ count * cells) (λ _. 2 ^ 64 ≤ count * cells) }
 {
@@ -59,8 +60,8 @@ fn cell_product(count: usize, cells: usize) -> Result<usize, AllocError>
     }
 }
 
-/// Returns the number of cells of the array type at a place of the table, or 0 if the table has no
-/// array type at this place.
+/// Returns the number of cells of the array type at an index of the table, or 0 if the table has no
+/// array type at this index.
 fn array_cells(layouts: &[Layout], place: usize) -> usize
     ensures { (shapes : List values.Shape)
         → HaveLayouts shapes layouts.now
@@ -75,8 +76,8 @@ fn array_cells(layouts: &[Layout], place: usize) -> usize
     }
 }
 
-/// Returns the layout of the record type at a place of the table, or None if the table has no
-/// record type at this place.
+/// Returns the layout of the record type at an index of the table, or None if the table has no
+/// record type at this index.
 fn record_at(layouts: &[Layout], place: usize) -> Option<&RecordLayout>
     ensures { (shapes : List values.Shape)
         → HaveLayouts shapes layouts.now
@@ -242,8 +243,8 @@ fn named_field_offset(known: &DeclarationTable, layouts: &[Layout], of: TypeId, 
     }
 }
 
-/// Returns the layouts of all types of the table, in its order. Each results from the layouts
-/// before it.
+/// Returns the layouts of all types of the table, in the order of the table. Each layout results
+/// from the layouts before it.
 fn lay_out_types(alloc: Global, known: &DeclarationTable) -> Result<Vec<Layout>, AllocError>
     ensures { IfOk result (λ layouts. HaveLayouts (shapes_of known.now) layouts.items) }
 {

@@ -27,8 +27,8 @@ pub(crate) struct VisibleSites {
     pub(crate) hidden: Vec<HiddenSite>,
 }
 
-/// The activation of a block, as far as its names are placed: its depth, which is 0 for the module,
-/// the number of its cells, and the number of its VAR parameters.
+/// The activation of a block, as far as names are placed in it: its depth, which is 0 for the
+/// module, the number of its cells, and the number of its VAR parameters.
 #[derive(Clone, Copy)]
 pub(crate) struct Frame {
     pub(crate) depth: usize,
@@ -119,7 +119,7 @@ impl VisibleSites {
         }
     }
 
-    /// Brings a declaration into scope: sets the site of its ordinal and records the hidden one.
+    /// Brings a declaration into scope: sets the site of its ordinal and records the site before.
     fn bind_ordinal(&mut self, ordinal: usize, site: Site) -> Result<(), AllocError>
         ensures sites { OnOk result ((k : ℕ)
             → site_at self.new.sites.items k
@@ -146,7 +146,8 @@ impl VisibleSites {
         }
     }
 
-    /// Returns the number of hidden sites. Later `restore_hidden` restores the sites hidden after them.
+    /// Returns the number of hidden sites. Given this number, `restore_hidden` later restores the
+    /// sites that were hidden in between.
     pub(crate) fn hidden_count(&self) -> usize
         ensures { result ≡ length self.now.hidden.items }
     {
@@ -169,7 +170,7 @@ impl VisibleSites {
     }
 
     /// Places a declared name in an activation: a VAR parameter gets the next index, a variable new
-    /// cells. Returns the activation with this name. Fails also if a number has more than 64 bits.
+    /// cells. Returns the frame with this name added. Also fails if a number has more than 64 bits.
     fn place(
         &mut self,
         context: &LoweringContext<'_, '_, '_>,
@@ -204,7 +205,8 @@ impl VisibleSites {
         Ok(next)
     }
 
-    /// Places the names of one declaration, one after the other.
+    /// Places the names of one declaration, one after the other. Returns the frame with these names
+    /// added.
     fn place_names(
         &mut self,
         context: &LoweringContext<'_, '_, '_>,
@@ -240,7 +242,8 @@ impl VisibleSites {
         Ok(now)
     }
 
-    /// Places the variables of a block, one after the other.
+    /// Places the variables of a block, one after the other. Returns the frame with these variables
+    /// added.
     pub(crate) fn variables(
         &mut self,
         context: &LoweringContext<'_, '_, '_>,
@@ -274,7 +277,8 @@ impl VisibleSites {
         Ok(now)
     }
 
-    /// Places the parameters of a procedure, one after the other.
+    /// Places the parameters of a procedure, one after the other. Returns the frame with these
+    /// parameters added.
     pub(crate) fn place_formals(
         &mut self,
         context: &LoweringContext<'_, '_, '_>,

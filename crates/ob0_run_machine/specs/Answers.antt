@@ -1,4 +1,4 @@
--- The outcomes that the results of the machine's functions stand for.
+-- Converts the results of the machine's functions to outcomes of the semantics.
 -- Rule: none; for contracts of the machine's steps.
 use Rattle.std.specs.Prelude.{ℤ, List, Option, Some, None, Ok, Err, Result}
 use Rattle.ob0_run_machine.specs.declared.ending.EvaluationFault.{EvaluationFault}
@@ -34,7 +34,7 @@ abbrev pub outcome_of_result : {A : Type 0} → Result A EvaluationFault → Ste
 outcome_of_result (Ok a) = gives a
 outcome_of_result (Err e) = ends (end_of e)
 
--- the outcome of an evaluation that is returned with one tag
+-- the outcome of an evaluation that is returned as a `FlatOutcome`
 abbrev pub outcome_of : {A : Type 0} → FlatOutcome A → StepResult A
 outcome_of (flat_outcome.Value a) = gives a
 outcome_of flat_outcome.Overflow = ends evaluation.Overflow
@@ -46,6 +46,6 @@ abbrev pub number_or_overflow : Option ℤ → StepResult ℤ
 number_or_overflow None = ends evaluation.Overflow
 number_or_overflow (Some n) = gives n
 
--- the outcome of a link that is applied to a number
+-- the outcome of applying a link to a number
 abbrev pub link_outcome : Levels → List ℤ → Link → ℤ → StepResult ℤ
 link_outcome ls cells l left = number ls cells (applied l (literal left))

@@ -1,4 +1,4 @@
--- The value of places, numbers and truths of lowered code, in activations and over cells.
+-- Defines the value of places, numbers and truths of lowered code, for given activations and cells.
 -- Rule: none; for contracts of the machine: what lowered expressions mean,
 -- by the rules of docs/LANGUAGE.md, Runs 2 to 4.
 use Rattle.std.specs.Prelude.{ℕ, suc, zero, ◌+◌, ◌*◌, ◌%◌, ◌^◌, Bool, true, false, not, ◌&&◌, List, [], ◌∷◌, Option, None, Some, ℤ, pos, negsuc, ◌+ℤ◌, ◌-ℤ◌, ◌*ℤ◌, neg_ℤ, if◌then◌else◌, nat_lt, slice_index_or, int_lt, int_le, drop}
@@ -17,8 +17,7 @@ pub data StepResult (A : Type 0) : Type 0 where
   gives : A → StepResult A
   ends : Halt → StepResult A
 
--- an evaluation, and then another one of its value; if the first ends the run, the second is
--- skipped
+-- continues with the value of an evaluation; if the evaluation ends the run, `next` is skipped
 abbrev pub ◌>>=◌ : {A B : Type 0} → StepResult A → (A → StepResult B) → StepResult B
 ◌>>=◌ (gives a) next = next a
 ◌>>=◌ (ends e) next = ends e
@@ -110,7 +109,8 @@ abbrev pub as_cell : Bool → ℤ
 as_cell false = pos 0
 as_cell true = pos 1
 
--- the value of a truth; the right side of `both` and `either` is evaluated only if it decides
+-- the value of a truth; the right side of `both` or `either` is evaluated only if the left side
+-- doesn't decide the value
 abbrev pub truth : Levels → List ℤ → Truth → StepResult Bool
 truth ls cells (constant b) = gives b
 truth ls cells (flag p) = address ls cells p >>= (λ a. gives (is_true (cell_at cells a)))

@@ -1,6 +1,6 @@
--- Runs of lowered code, by big steps: statements, calls and whole programs. They depend on the
--- activations that are seen, the cells, the rest of the input, the bound c on open calls, and the
--- bound t on the iterations of a loop.
+-- Defines runs of lowered code, by big steps: of statements, calls and whole programs. They depend
+-- on the activations that are seen, the cells, the rest of the input, the bound c on open calls,
+-- and the bound t on the iterations of a loop.
 -- Rule: none; for contracts of the machine: what lowered statements mean,
 -- by the rules of docs/LANGUAGE.md, Runs 5 to 10.
 use Rattle.std.specs.Prelude.{ℕ, zero, suc, ◌+◌, ◌-◌, ◌^◌, Bool, true, false, ◌&&◌, List, [], ◌∷◌, ◌++◌, length, take, drop, replicate, ℤ, pos, Some, None, Option, if◌then◌else◌, nat_le, nat_lt, slice_get, slice_set}
@@ -25,19 +25,21 @@ pub data MachineProgress : Type 0 where
   stopped : Halt → List OutputItem → MachineProgress
   no_room : MachineProgress
 
--- the run after an evaluation: `next` uses its value, or its end is the end of the run
+-- continues a run with the value of an evaluation; if the evaluation ends the run, `next` is
+-- skipped
 abbrev pub use_result : {A : Type 0} → MachineState → StepResult A → (A → MachineProgress)
     → MachineProgress
 use_result s (gives a) next = next a
 use_result s (ends e) next = stopped e s.output
 
--- a run, followed by a further step if the run hasn't ended
+-- continues a run with a further step if the run hasn't ended
 abbrev pub continue_with : MachineProgress → (MachineState → MachineProgress) → MachineProgress
 continue_with (running s) next = next s
 continue_with (stopped e out) next = stopped e out
 continue_with no_room next = no_room
 
--- one of two steps, chosen by the value of a condition; its end is the end of the run
+-- continues a run with one of two steps, chosen by the value of a condition; if the evaluation of
+-- the condition ends the run, both are skipped
 abbrev pub choose : MachineState → StepResult Bool
     → (MachineState → MachineProgress)
     → (MachineState → MachineProgress)
@@ -50,7 +52,7 @@ choose s (ends e) when_true when_false = stopped e s.output
 abbrev pub append_output : MachineState → OutputItem → MachineState
 append_output s i = record s { output = s.output ++ i ∷ [] }
 
--- the state after a number was stored at an address; unchanged if there is no cell at it
+-- the state after a number was stored at an address; unchanged if there is no cell at this address
 abbrev pub store_at : MachineState → ℕ → ℤ → MachineState
 store_at s a n = record s { cells = slice_set s.cells a n }
 
@@ -66,7 +68,7 @@ cells_after_copy cells to from n =
 abbrev pub zeros : ℕ → List ℤ
 zeros n = replicate n (pos 0)
 
--- the n cells at an address, or n zeros if there are too few
+-- the n cells at an address, or n zeros if there are fewer cells
 abbrev pub block_at : List ℤ → (from n : ℕ) → List ℤ
 block_at cells from n =
     if nat_le (from + n) (length cells) then take n (drop from cells) else zeros n
@@ -103,8 +105,9 @@ abbrev pub pass_all : Levels → List LoweredArgument → CallArguments → Step
 pass_all ls [] done = gives done
 pass_all ls (a ∷ as_given) done = pass ls a done >>= pass_all ls as_given
 
--- the run of a WHILE: if its condition is TRUE and no iteration of t is left, the run ends with
--- TurnBound; if one is left, it is made; if the condition is FALSE, the statement ends
+-- The run of a WHILE, with at most t iterations. If its condition is FALSE, the statement ends. If
+-- the condition is TRUE, one more iteration is made. If no iteration is left, the run ends with
+-- TurnBound instead.
 abbrev pub execute_while : ℕ → (MachineState → StepResult Bool)
     → (MachineState → MachineProgress)
     → MachineState
@@ -115,9 +118,9 @@ execute_while (suc t) condition statements s =
     choose s (condition s) (λ s'. continue_with (statements s') (execute_while t condition statements))
     running
 
--- the run of a REPEAT: it makes an iteration and then evaluates its condition; TRUE ends the
--- statement; FALSE ends the run with TurnBound if no iteration of t after the first is left;
--- otherwise one more is made
+-- The run of a REPEAT, with at most t iterations after the first. Its condition is evaluated after
+-- each iteration. If the condition is TRUE, the statement ends. If it is FALSE, one more iteration
+-- is made. If no iteration is left, the run ends with TurnBound instead.
 abbrev pub execute_repeat : ℕ → (MachineState → StepResult Bool)
     → (MachineState → MachineProgress)
     → MachineState
@@ -129,11 +132,12 @@ execute_repeat (suc t) condition turn s =
     continue_with (turn s) (λ s'. choose s' (condition s') running (execute_repeat t condition turn))
 
 -- the effect of a call whose arguments have been passed: a function of the procedure's index, the
--- activations that its body sees, its own first, and the state
+-- activations that the procedure's body sees (its own first), and the state
 abbrev pub CallEffect : Type 0
 CallEffect = ℕ → Levels → MachineState → MachineProgress
 
--- the activations that a called procedure sees: its own, and those from `up` levels out
+-- the activations that a called procedure sees: its own activation, then the activation `up` levels
+-- out and all around this one
 abbrev pub levels_in_call : Levels → (base up : ℕ) → CallArguments → Levels
 levels_in_call ls base up p = record { base = base; addresses = p.addresses } ∷ drop up ls
 
@@ -181,13 +185,14 @@ unfoldable mutual
       choose s (truth ls s.cells c) (execute_all enter t ls body)
       (execute_branches enter t ls rest otherwise)
 
--- the run after a call: if the call has returned, only the first n cells are kept
+-- the run after a call: if the call has returned, only the first n cells remain
 abbrev pub drop_variables : ℕ → MachineProgress → MachineProgress
 drop_variables n (running s) = running record s { cells = take n s.cells }
 drop_variables n (stopped e out) = stopped e out
 drop_variables n no_room = no_room
 
--- a run that begins with n new cells at the end, if all cells have addresses of 64 bits
+-- adds n cells at the end and continues the run with `next`; if the number of cells doesn't fit 64
+-- bits, the run has no room
 abbrev pub run_with_cells : ℕ → (MachineState → MachineProgress) → MachineState → MachineProgress
 run_with_cells n next s =
     if nat_lt (length s.cells + n) (2 ^ 64)
@@ -201,7 +206,7 @@ unfolding execute_all
 activate enter t ls None s = running s
 activate enter t ls (Some p) s = run_with_cells p.cells (execute_all enter t ls p.body) s
 
--- the effect of calls, of which c more may be open: the procedure's body runs, then its cells are
+-- the effect of a call if c more calls may be open: the procedure's body runs, then its cells are
 -- dropped; if c is 0, the run ends with CallBound
 unfoldable pub call : List Routine → ℕ → ℕ → CallEffect
 unfolding activate
@@ -226,7 +231,7 @@ run_result no_room = None
 abbrev pub outermost : Levels
 outermost = record { base = 0; addresses = [] } ∷ []
 
--- the run of a program on an input, if there is room for it
+-- the run of a program on an input, with the bounds c and t; None if there is no room for its cells
 unfoldable pub run : LoweredCode → List ℤ → ℕ → ℕ → Option MachineRun
 unfolding execute_all call
 run program input c t =

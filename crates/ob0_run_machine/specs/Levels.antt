@@ -1,4 +1,4 @@
--- The activations that an activation sees, itself first, and the addresses of VAR parameters.
+-- Converts the machine's activations and addresses to lists.
 -- Rule: none; for contracts of the machine.
 use Rattle.std.specs.Prelude.{ℕ, List, Option, Some, None, [], ◌∷◌}
 use denote.Ref.{Bor}
@@ -13,12 +13,12 @@ abbrev mutual
   levels_of (code.Level' base addresses enclosing) =
       record { base = base; addresses = addresses.now } ∷ levels_after enclosing
 
-  -- the activations around an activation; none around the module's
+  -- the activations around an activation; empty for the module's
   pub levels_after : code.Held-Level-enclosing → Levels
   levels_after code.None' = []
   levels_after (code.Some' pointer l) = levels_of l
 
--- the activations that a `Level` sees, itself first; none without a `Level`
+-- the activations that a `Level` sees, itself first; empty for None
 abbrev pub levels_of_option : Option (Bor code.Level) → Levels
 levels_of_option None = []
 levels_of_option (Some l) = levels_of l.now

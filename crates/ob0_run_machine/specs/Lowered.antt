@@ -78,7 +78,7 @@ mutual
     no_statement : Instructions
     before : Instruction → Instructions → Instructions
 
-  -- conditions, each with the statements that run if it is the first that is TRUE
+  -- conditions, each with the statements that run if this condition is the first that is TRUE
   pub data Branches : Type 0 where
     no_branch : Branches
     branch : Truth → Instructions → Branches → Branches

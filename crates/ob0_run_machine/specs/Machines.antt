@@ -1,10 +1,10 @@
--- The meaning of the machine's state, and of the result of a step.
--- The bound on iterations is a parameter, so the state of the machine is only cells, input and
--- output. Contracts of steps that allocate nothing are equations (`progress_after_step`, `statement_effect`); the
--- contracts of other steps have a case for each result (`MachineSteps`, `Passes`). `MachineDoes`
--- and the invariants of loops (`InSequence`, `InBranches`, `InWhile`, `InRepeat`) are records, so
--- their lemmas can have implicit arguments, and an answer is one line. Each loop has one fact about
--- the iterations so far, and a lemma for each way to continue or to end.
+-- States the meaning of the machine's state, and of the result of a step. The bound on iterations
+-- is a parameter, so the state of the machine is only cells, input and output. Contracts of steps
+-- that allocate nothing are equations (`progress_after_step`, `statement_effect`). The contracts of
+-- other steps have a case for each result (`MachineSteps`, `Passes`). `MachineDoes` and the
+-- invariants of loops (`InSequence`, `InBranches`, `InWhile`, `InRepeat`) are records, so their
+-- lemmas can have implicit arguments. Each loop has one fact about the iterations so far, and a
+-- lemma for each way to continue or to end.
 -- Rule: none; for contracts of the machine.
 use Rattle.std.specs.Prelude.{◌≡◌, ℕ, ℤ, List, map, Ok, Err, None, Option, Some, Result, true}
 use denote.MutBor.{MutBor}
@@ -45,8 +45,8 @@ abbrev pub progress_after_step : Result (Unit {0}) EvaluationFault → Machine �
 progress_after_step (Ok done) m = running (state_of m)
 progress_after_step (Err e) m = stopped (end_of e) (output_items m.output.items)
 
--- states that a run has ended with this end and the machine's output; without an end, that an
--- allocation has failed
+-- states that a run has ended with this end and the machine's output; for None, that an allocation
+-- has failed
 abbrev pub StopsRun : Option Halt → Machine → MachineProgress → Type 0
 StopsRun (Some e) m p = p ≡ stopped e (output_items m.output.items)
 StopsRun None m p = has_failed m.memory ≡ true
@@ -94,7 +94,7 @@ pub record MachineDoes (post : CallPostcondition) (r : Result (Unit {0}) Stop) (
       → PerformsCalls post enters
       → MachineSteps r m' (doing enters (state_of m))
 
--- the passed arguments with these cells, which end with the passed values, and these addresses
+-- the call arguments with these cells and addresses; the passed values are at the end of the cells
 abbrev pub passed_arguments : List ℤ → List ℕ → CallArguments
 passed_arguments cells addresses = record { cells = cells; addresses = addresses }
 
@@ -104,8 +104,8 @@ abbrev pub entry_effect : ℕ → ℕ → Levels → ℕ → List ℕ → CodeEf
 entry_effect k up ls base addresses enters s =
     enters k (levels_in_call ls base up (passed_arguments s.cells addresses)) s
 
--- states that the evaluation of arguments ends the run with this end; without an end, that an
--- allocation has failed
+-- states that the evaluation of arguments ends the run with this end; for None, that an allocation
+-- has failed
 abbrev pub StopsPassing : Option Halt → Memory → StepResult CallArguments → Type 0
 StopsPassing (Some e) memory o = o ≡ ends e
 StopsPassing None memory o = has_failed memory ≡ true
@@ -115,12 +115,12 @@ abbrev pub Passes : Result (Unit {0}) Stop → Memory → List ℤ → List ℕ 
 Passes (Ok done) memory cells addresses o = o ≡ gives (passed_arguments cells addresses)
 Passes (Err s) memory cells addresses o = StopsPassing (end_of_stop s) memory o
 
--- the effect of a procedure's body; none if there is no procedure
+-- the effect of a procedure's body; without a procedure nothing happens
 abbrev pub activation_effect : Option Routine → ℕ → Levels → CodeEffect
 activation_effect o t ls enters s = activate enters t ls o s
 
--- states that a call, of which c may be open, leads from `m` to `m'` with the result `r` as `call`
--- defines for the program
+-- states that a call leads from `m` to `m'` with the result `r`, as `call` defines for the program
+-- if c calls may be open
 abbrev pub CallSteps : Result (Unit {0}) Stop
     → Machine
     → Machine

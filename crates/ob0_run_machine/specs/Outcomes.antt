@@ -1,4 +1,4 @@
--- The ends and the runs that values of the code stand for.
+-- Converts the ends and outcomes that the machine returns to the ends and runs of the semantics.
 -- Rule: none; for contracts: what values of the code mean.
 use Rattle.std.specs.Prelude.{◌≡◌, ℕ, IsErr, Ok, Err, None, Option, Result, Some}
 use Rattle.std.specs.declared.alloc.AllocError.{AllocError}
@@ -22,13 +22,13 @@ meaning_of_end code.InputEnd = InputEnd
 meaning_of_end code.CallBound = CallBound
 meaning_of_end code.TurnBound = TurnBound
 
--- states that this end is returned; without an end, that an error is returned
+-- states that this end is returned; for None, that an error is returned
 abbrev pub ReturnsEnd : Option Halt → Result End AllocError → Type 0
 ReturnsEnd (Some e) r = (x : End) × (r ≡ Ok x) × (meaning_of_end x ≡ e)
 ReturnsEnd None r = IsErr r
 
--- states which end is returned for the result of a program's statements: Done if they return
--- normally, an error if an allocation failed, otherwise the end for their `Stop`
+-- states which end is returned for the result of a program's statements: Done if the statements
+-- return normally, an error if an allocation failed, otherwise the end for their `Stop`
 abbrev pub IsEndOf : Result (Unit {0}) Stop → Result End AllocError → Type 0
 IsEndOf (Ok done) r = r ≡ Ok code.Done
 IsEndOf (Err s) r = ReturnsEnd (end_of_stop s) r

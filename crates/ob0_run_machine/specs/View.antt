@@ -1,4 +1,4 @@
--- The lowered code that a value of the code's types stands for.
+-- Converts values of the machine's types (`src/code.rt`) to the lowered code that they stand for.
 -- Rule: none; for contracts: what values of the code mean.
 use Rattle.std.specs.Prelude.{List, [], ◌∷◌, ℤ, map}
 use Rattle.ob0_run_machine.specs.declared.code.Place as place
@@ -55,7 +55,8 @@ variable_of (variable.ByReference index offset) = lowered.passed 0 index offset
 abbrev pub reference_of : Reference → lowered.Place
 reference_of r = lowered.passed r.up r.index r.offset
 
--- the lowered place that a `VariableElement` stands for: an element whose index is the value of a variable
+-- the lowered place that a `VariableElement` stands for: an element whose index is the value of a
+-- variable
 abbrev pub variable_element_of : VariableElement → lowered.Place
 variable_element_of r =
     lowered.element (variable_of r.array) (lowered.cell (variable_of r.index)) r.length r.stride
@@ -120,7 +121,7 @@ abbrev mutual
   chain_by_row number.end_of-Link left = left
   chain_by_row (number.more_of-Link l row) left = chain_by_row row (applied l left)
 
--- the lowered place that an `Element` stands for, by its fields
+-- the lowered place for the fields of an `Element`
 abbrev pub element_of : Element → lowered.Place
 element_of e =
     lowered.element (place_of (out-Element e).array) (number_of (out-Element e).index)
@@ -148,15 +149,15 @@ relation_of relation.LessEqual = lowered.less_equal
 relation_of relation.Greater = lowered.greater
 relation_of relation.GreaterEqual = lowered.greater_equal
 
--- the truth that a relation holds between two numbers of the code
+-- the lowered truth that compares two operands
 abbrev pub operands_relation : Comparator → Operands → lowered.Truth
 operands_relation r o = lowered.related (relation_of r) (number_of o.left) (number_of o.right)
 
--- the truth that a relation holds between a variable of the code and a lowered number
+-- the lowered truth that compares a variable with a lowered number
 abbrev pub variable_relation : Comparator → Variable → lowered.Number → lowered.Truth
 variable_relation r v n = lowered.related (relation_of r) (lowered.cell (variable_of v)) n
 
--- the truth that a relation holds between an element and a variable of the code
+-- the lowered truth that compares an element with a variable
 abbrev pub element_relation : Comparator → VariableElement → Variable → lowered.Truth
 element_relation r q v =
     lowered.related (relation_of r) (lowered.cell (variable_element_of q)) (lowered.cell (variable_of v))
@@ -271,11 +272,11 @@ abbrev pub sequence_of : List Instruction → lowered.Instructions
 sequence_of [] = lowered.no_statement
 sequence_of (s ∷ ss) = lowered.before (statement_of s) (sequence_of ss)
 
--- the lowered WHILE that a `WhileLoop` stands for, by its fields
+-- the lowered WHILE for the fields of a `WhileLoop`
 abbrev pub while_of : WhileLoop → lowered.Instruction
 while_of w = lowered.while_loop (truth_of w.condition) (sequence_of w.body.items)
 
--- the lowered REPEAT that a `RepeatLoop` stands for, by its fields
+-- the lowered REPEAT for the fields of a `RepeatLoop`
 abbrev pub repeat_of : RepeatLoop → lowered.Instruction
 repeat_of r = lowered.repeat_loop (sequence_of r.body.items) (truth_of r.condition)
 
@@ -306,7 +307,7 @@ elsif_branches i = all_branches (if_statement.out-Conditional i).others.items
 abbrev pub else_statements : if_statement.Conditional → lowered.Instructions
 else_statements i = sequence_of (if_statement.out-Conditional i).otherwise.items
 
--- the lowered IF that a `Conditional` stands for, by its fields
+-- the lowered IF for the fields of a `Conditional`
 abbrev pub conditional_of : if_statement.Conditional → lowered.Instruction
 conditional_of i =
     lowered.chooses

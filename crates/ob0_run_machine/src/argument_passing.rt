@@ -1,4 +1,5 @@
-//! Argument passing: a value becomes cells at the end, a VAR argument becomes an address.
+//! Passes arguments: a value becomes cells at the end of all cells, a VAR argument becomes an
+//! address.
 
 ghost use Rattle.std.specs.Prelude.{map};
 ghost use Rattle.ob0_run_machine.specs.Execution.{pass, pass_all};

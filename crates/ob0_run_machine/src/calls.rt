@@ -1,4 +1,4 @@
-//! Calls of procedures. A call's cells are dropped when it returns.
+//! Calls of procedures. The cells of a call are dropped when the call returns.
 
 ghost use Rattle.std.specs.Prelude.{◌≡◌, map, option_map, slice_get, take};
 ghost use Rattle.ob0_run_machine.specs.Evaluation.{innermost_level};

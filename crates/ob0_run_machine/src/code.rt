@@ -9,8 +9,8 @@
 //!   and as the array and the index of a `VariableElement`.
 //! - The operations of a chain are links, which are applied to the result so far. A `Link` has the
 //!   operator and a literal or a variable in one tag. Any other right operand is evaluated by a
-//!   called function (`apply_to_expression`). `v + i * j` is also a chain (`VariableSum`), since `v` has
-//!   the same value before and after the product is evaluated.
+//!   called function (`apply_to_expression`). `v + i * j` is also a chain (`VariableSum`), since
+//!   `v` has the same value before and after the product is evaluated.
 //! - `x := x + k` is an `Increase`, `x := x * y` an `Update`. The assignment of a chain to a
 //!   variable is a `StoreChain`.
 //! - A variable compared with a literal or a variable is one node (`LessThanLiteral`,
@@ -22,8 +22,8 @@
 //!
 //! Long sums, conjunctions and disjunctions are a `Chain`, an `All` and an `Any`. They mean pairs
 //! that are nested on the left, and loops evaluate them. So a long chain of operators needs no
-//! stack. A chain begins with a `FirstOperand`, which can't be an operation. So its type excludes a
-//! chain whose first operand is a chain.
+//! stack. A chain begins with a `FirstOperand`, which can't be an operation. So the first operand
+//! of a chain is never a chain.
 
 /// An operator on two numbers.
 #[derive(Clone, Copy, PartialEq, Eq, Debug)]
@@ -35,8 +35,8 @@ pub enum Operator {
     Remainder,
 }
 
-/// A place with one tag: a variable of the module or of the running activation, by its offset in
-/// their cells, or a place at an offset from the address of a VAR parameter of the running
+/// A variable, with its kind in one tag. It is at an offset in the cells of the module or of the
+/// running activation, or at an offset from the address of a VAR parameter of the running
 /// activation.
 #[derive(Clone, Copy, PartialEq, Eq, Debug)]
 pub enum Variable {
@@ -190,7 +190,8 @@ pub enum Truth {
     /// Many truths joined by `OR`.
     Any(Box<TruthList>),
     Related(Comparator, Box<Operands>),
-    /// A variable that is less than a literal: a `Related` in one step, like the next three.
+    /// A variable that is less than a literal. This case and the next three are a `Related` that is
+    /// evaluated in one step.
     LessThanLiteral(Variable, i32),
     /// A variable compared with a literal.
     ComparedToLiteral(Comparator, Variable, i32),
@@ -223,7 +224,7 @@ pub enum Argument {
     Place(Place),
     Number(Number),
     Truth(Truth),
-    /// The cells of an array or a record: their first place, and their number.
+    /// The cells of an array or a record: the place of the first cell, and the number of cells.
     Block(Place, usize),
 }
 
@@ -243,7 +244,7 @@ pub enum Instruction {
     StoreTruth(Place, Truth),
     /// Assigns TRUE or FALSE to an element.
     StoreConstant(Box<VariableElement>, bool),
-    /// Copies cells from the second place to the first; the last field is their number.
+    /// Copies cells from the second place to the first; the last field is the number of cells.
     Copy(Place, Place, usize),
     Read(Place),
     Write(Number),

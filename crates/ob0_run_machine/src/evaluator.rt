@@ -1,5 +1,5 @@
 //! The evaluation of places, numbers and truths, in an activation and over the cells. An inlined
-//! function returns a `Result`. A function that is called returns the type `FlatOutcome`, in
+//! function returns a `Result`. A function that isn't inlined returns a `FlatOutcome`, in
 //! registers.
 
 ghost use Rattle.std.specs.Prelude.{◌≡◌, List, ℤ, false, if◌then◌else◌, true};
@@ -57,8 +57,8 @@ fn value_of(variable: Variable, level: &Level<'_>, cells: &[i32]) -> i32
     cell_at(cells, variable_address(variable, level))
 }
 
-/// Returns the address of a place in an element whose array and index are variables, or the fault
-/// Index.
+/// Returns the address of a place in an element whose array and index are variables. Returns the
+/// fault Index if the array has no such element.
 #[inline(always)]
 pub(crate) fn row(
     row: &VariableElement,
@@ -72,7 +72,7 @@ pub(crate) fn row(
     element_address(array, row.length, row.stride, index)
 }
 
-/// Returns the address of a place, or the fault that ends the evaluation of an index in it.
+/// Returns the address of a place, or the fault that an index in this place causes.
 #[inline(always)]
 #[cycle(evaluation)]
 pub(crate) fn locate(
@@ -135,7 +135,8 @@ pub(crate) fn evaluate_number(
     }
 }
 
-/// Returns the value of the first operand of an operation or a chain.
+/// Returns the value of the first operand of an operation or a chain, or the fault that ends its
+/// evaluation.
 #[inline(always)]
 #[cycle(evaluation)]
 fn evaluate_first_operand(
@@ -247,7 +248,8 @@ fn apply(link: &Link, left: i32, level: &Level<'_>, cells: &[i32]) -> Result<i32
     }
 }
 
-/// Applies an operator to a number and the value of an expression.
+/// Evaluates an expression, and applies an operator with `left` as its left operand and this value
+/// as its right operand.
 #[inline(never)]
 #[cycle(evaluation)]
 fn apply_to_expression(
@@ -267,7 +269,7 @@ fn apply_to_expression(
     }
 }
 
-/// Returns the result of a link that is applied to the value of a variable.
+/// Applies a link to the value of a variable and returns the result.
 #[inline(always)]
 pub(crate) fn evaluate_update(
     variable: Variable,

@@ -1,11 +1,11 @@
 //! The result of an evaluation, in a form that is returned in registers.
 //!
-//! A `Result` of a number or an address is returned through memory, an enum with one payload in
-//! registers. So the functions that aren't inlined (`operation`, `evaluate_truth_flat`, ..) return the type
-//! `FlatOutcome`. The inlined ones return a `Result` and use `?`. `into_flat` and `into_result` convert
-//! between the two. The steps of statements return `Result<(), Stop>`. A `Stop` is only a tag, so
-//! this result is also returned in registers. `end_of_stop` gives the end of the run for a `Stop`, or
-//! None if an allocation failed.
+//! A `Result` of a number or an address is returned through memory. An enum with one payload is
+//! returned in registers. So the functions that aren't inlined (`operation`, `evaluate_truth_flat`,
+//! ..) return the type `FlatOutcome`. The inlined ones return a `Result` and use `?`. `into_flat`
+//! and `into_result` convert between the two. The steps of statements return `Result<(), Stop>`. A
+//! `Stop` is only a tag, so this result is also returned in registers. `end_of_stop` gives the end
+//! of the run for a `Stop`, or None if an allocation failed.
 
 ghost use Rattle.std.specs.Prelude.{◌≡◌};
 ghost use Rattle.ob0_run_machine.specs.Answers.{outcome_of, outcome_of_result};
@@ -21,7 +21,7 @@ pub(crate) enum FlatOutcome<T> {
     Index,
 }
 
-/// Returns a `Result` as a value with one tag: with the same value or the same fault.
+/// Converts a `Result` to a `FlatOutcome` with the same value or the same fault.
 #[inline(always)]
 pub(crate) fn into_flat<T: Copy>(given: Result<T, EvaluationFault>) -> FlatOutcome<T>
     ensures { outcome_of result ≡ outcome_of_result given }
@@ -36,7 +36,7 @@ pub(crate) fn into_flat<T: Copy>(given: Result<T, EvaluationFault>) -> FlatOutco
     }
 }
 
-/// Returns an evaluation as a `Result`: with the same value or the same fault.
+/// Converts a `FlatOutcome` to a `Result` with the same value or the same fault.
 #[inline(always)]
 pub(crate) fn into_result<T: Copy>(given: FlatOutcome<T>) -> Result<T, EvaluationFault>
     ensures { outcome_of_result result ≡ outcome_of given }

@@ -1,17 +1,17 @@
 //! The activations of a run, as a linked list.
 //!
-//! The static chain is a linked list on the machine's own stack. A `Level` has its base, the
-//! addresses of its VAR parameters, and a reference to the level in which its procedure is
-//! declared. `levels_of` reads the list by structural recursion, so no invariant about a table of
-//! frames is needed. A call's `Addresses` holds one or two addresses of VAR parameters itself, and
-//! more of them in a `Vec`. Apart from that, only cells and output allocate memory.
+//! The static chain is a linked list on the machine's own stack. A `Level` has the address of its
+//! first cell, the addresses of its VAR parameters, and a reference to the level in which its
+//! procedure is declared. `levels_of` reads the list by structural recursion, so no invariant about
+//! a table of frames is needed. A call's `Addresses` holds one or two addresses of VAR parameters
+//! itself, and more of them in a `Vec`. Apart from that, only cells and output allocate memory.
 
 ghost use Rattle.std.specs.Prelude.{◌≡◌, drop, slice_index_or};
 ghost use Rattle.ob0_run_machine.specs.Evaluation.{innermost_level, level_at};
 ghost use Rattle.ob0_run_machine.specs.Levels.{levels_of, levels_of_option};
 
-/// An activation: the address of its first cell, the addresses of its VAR parameters, and the activation in which its
-/// procedure is declared.
+/// An activation: the address of its first cell, the addresses of its VAR parameters, and the
+/// activation in which its procedure is declared.
 #[derive(Clone, Copy)]
 pub(crate) struct Level<'l> {
     pub base: usize,
@@ -19,7 +19,7 @@ pub(crate) struct Level<'l> {
     pub enclosing: Option<&'l Level<'l>>,
 }
 
-/// Returns the activation `up` levels out, or None if there are fewer levels. For 0 or 1 levels no
+/// Returns the activation `up` levels out, or None if there are fewer levels. If `up` is 0 or 1, no
 /// function is called.
 #[inline(always)]
 pub(crate) fn enclosing_level<'l>(level: &'l Level<'l>, up: usize) -> Option<&'l Level<'l>>

@@ -1,4 +1,5 @@
-//! The memory of a run. Its lists grow only here, so it knows whether an allocation has failed.
+//! The memory of a run. The lists of a run grow only here, so the memory knows whether an
+//! allocation has failed.
 //!
 //! A step may be out of memory only if `Memory::fail` was called (`MachineSteps`, `Passes`). So a
 //! fault or a bound can't be reported as out of memory. A function that grows a list fails only if
@@ -94,8 +95,8 @@ impl Memory {
         }
     }
 
-    /// Adds a copy of the `count` cells at an address to the end. Adds `count` zeros instead if
-    /// there are fewer cells at the address.
+    /// Adds at the end a copy of the `count` cells that begin at an address. Adds `count` zeros
+    /// instead if there are fewer cells from there to the end.
     pub(crate) fn push_block(
         &mut self,
         cells: &mut Vec<i32>,

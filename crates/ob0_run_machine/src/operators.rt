@@ -57,7 +57,7 @@ fn checked_sum(left: i32, right: i32) -> Option<i32>
     ensures { SomeIff result (FitsSigned w32 (left +ℤ right)) (left +ℤ right) }
 {
     let sum = left as i64 + right as i64;
-    // The distance from the least number: a number below that is larger than any of 32 bits.
+    // The distance from -2^31, without a sign. It has more than 32 bits if the sum has.
     let distance = (sum + 2_147_483_648).cast_unsigned();
     if distance > 4_294_967_295 {
         None

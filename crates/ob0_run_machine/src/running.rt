@@ -62,8 +62,8 @@ fn execute(
     run_sequence(&program.body, &level, turns, machine, &enter)
 }
 
-/// Returns the end of a run from the result of its statements: Done if they returned normally,
-/// otherwise the case for their `Stop`. Returns an error exactly if an allocation failed
+/// Returns the end of a run from the result of its statements: Done if the statements returned
+/// normally, otherwise the end for their `Stop`. Returns an error exactly if an allocation failed
 /// (`Stop::Memory`).
 fn end_of(executed: Result<(), Stop>) -> Result<End, AllocError>
     ensures { IsEndOf executed result }
@@ -82,8 +82,8 @@ fn end_of(executed: Result<(), Stop>) -> Result<End, AllocError>
     }
 }
 
-/// Runs a program on an input, with at most `calls` calls open at a time, and at most `turns` iterations of each
-/// execution of a loop. The program's own statements aren't a call.
+/// Runs a program on an input, with at most `calls` calls open at a time, and at most `turns`
+/// iterations of each execution of a loop. The program's own statements aren't a call.
 ///
 /// # Errors
 ///

@@ -458,8 +458,8 @@ fn is_below(address: usize, limit: i32, machine: &Machine<'_>) -> bool
     )
 }
 
-/// Runs one iteration of a counting loop: its statements, and then the last one, which adds a
-/// number to the variable at an address.
+/// Runs one iteration of a counting loop: `statements`, which are all but the last, and then the
+/// last one, which adds a number to the variable at an address.
 #[inline(always)]
 #[cycle(execution)]
 fn run_counted_body<F: Fn(&mut Machine<'_>, usize, &Level<'_>) -> Result<(), Stop>>(
@@ -483,8 +483,9 @@ fn run_counted_body<F: Fn(&mut Machine<'_>, usize, &Level<'_>) -> Result<(), Sto
     count(address, by, machine)
 }
 
-/// Runs a counting loop: a WHILE whose condition compares a variable with a literal, and whose last statement adds a
-/// number to a variable. The addresses of both variables are found once.
+/// Runs a counting loop: a WHILE whose condition is that a variable is less than a literal, and
+/// whose last statement adds a number to a variable. The addresses of both variables are found
+/// once.
 #[inline(always)]
 #[cycle(execution)]
 fn run_counting_loop<F: Fn(&mut Machine<'_>, usize, &Level<'_>) -> Result<(), Stop>>(
@@ -543,7 +544,7 @@ fn run_while<F: Fn(&mut Machine<'_>, usize, &Level<'_>) -> Result<(), Stop>>(
     run_general_while(w, level, turns, machine, enter)
 }
 
-/// Runs a WHILE of any form.
+/// Runs a WHILE, whatever its form.
 #[inline(always)]
 #[cycle(execution)]
 fn run_general_while<F: Fn(&mut Machine<'_>, usize, &Level<'_>) -> Result<(), Stop>>(

@@ -1,4 +1,4 @@
--- Defines the state of a scan of a changed text.
+-- Defines the states of a scan that reuses tokens and comments of the text before a change.
 -- Rule: none; for private contracts of the scanner.
 use Rattle.std.specs.Prelude.{◌≡◌, ℕ, ◌+◌, ◌-◌, ◌<◌, ◌≤◌, ◌^◌, ◌==◌, ◌||◌, ◌⊎◌, Bool, false, List, [], ◌∷◌, ◌++◌, Option, Some, None, IsTrue, length, map, take, drop, max}
 use Rattle.std.specs.List.{All, slice_get}
@@ -11,28 +11,30 @@ use Rattle.ob0_scan.specs.declared.incremental_scan.RescannedMiddle.{RescannedMi
 use Rattle.ob0_scan.specs.TextWithTokens.{TextWithTokens, IsScan, span_from, token_at, comment_at}
 use Rattle.ob0_scan.specs.Reused.{tokens_beginning_from, comments_beginning_from, span_after_shift, token_after_shift, Reuses, IsNew}
 
--- Returns the end of a token, or 0 for None.
+-- Returns the byte offset at which a token ends, or 0 for None.
 abbrev pub token_end : Option Token → ℕ
 token_end None = 0
 token_end (Some t) = t.span.end
 
--- Returns the end of a comment, or 0 for None.
+-- Returns the byte offset at which a comment ends, or 0 for None.
 abbrev pub comment_end : Option Span → ℕ
 comment_end None = 0
 comment_end (Some c) = c.end
 
--- Returns the end of the last token or comment, whichever is later, or 0 if there is none.
+-- Returns the byte offset at which the last token or comment ends, whichever is later, or 0 if
+-- there is none.
 abbrev pub last_end : List Token → List Span → ℕ
 last_end tokens comments =
     max (token_end (slice_get tokens (length tokens - 1)))
     (comment_end (slice_get comments (length comments - 1)))
 
--- Returns true if the first token begins at this place.
+-- Returns true if the first token begins at this byte offset. Returns false if there is no token.
 abbrev pub first_token_begins_at : ℕ → List Token → Bool
 first_token_begins_at place [] = false
 first_token_begins_at place (t ∷ tokens) = t.span.start == place
 
--- Returns true if the first comment begins at this place.
+-- Returns true if the first comment begins at this byte offset. Returns false if there is no
+-- comment.
 abbrev pub first_comment_begins_at : ℕ → List Span → Bool
 first_comment_begins_at place [] = false
 first_comment_begins_at place (c ∷ comments) = c.start == place
@@ -45,8 +47,8 @@ pub record AreInOrder (tokens : List Token) (comments : List Span) : Type 0 wher
   pub comments_begin : IsNonDecreasingBy (λ (c : Span). c.start) comments
   pub comments_end : IsNonDecreasingBy (λ (c : Span). c.end) comments
 
--- Holds if the span lies after the first `removed` bytes, and still fits in 32 bits when it is
--- shifted by `added`.
+-- Holds if the span begins after the first `removed` bytes, and its end still fits in 32 bits when
+-- `added` is added to it.
 pub record IsMovable (removed added : ℕ) (span : Span) : Type 0 where
   pub following : removed ≤ span.start
   pub ordered : span.start ≤ span.end
@@ -62,7 +64,7 @@ pub record TakesOne (s t : Scanner) : Type 0 where
   pub comments : t.comments.items ≡ s.comments.items ++ comment_at kind (span_from s.at len)
 
 -- Holds if the scanner `t` results from the scanner `s` by reading tokens and comments. If one of
--- these begins after the change, no old token or comment began at its place.
+-- these begins after the change, no old token or comment began at the same place in the old text.
 pub record ReadsOn (old : TextWithTokens) (from removed added : ℕ) (s t : Scanner) : Type 0 where
   pub tokens : List Token
   pub comments : List Span
@@ -71,8 +73,9 @@ pub record ReadsOn (old : TextWithTokens) (from removed added : ℕ) (s t : Scan
   pub tokens_new : All (λ (t : Token). IsNew old from removed added t.span) tokens
   pub comments_new : All (λ (c : Span). IsNew old from removed added c) comments
 
--- Holds if `at` is a place after the change at which the text ends or an old token or comment
--- begins. `tokens` and `comments` are the old ones that begin there or later.
+-- Holds if `at` is a byte offset after the change in the new text, and the text ends there or an
+-- old token or comment begins there. `tokens` and `comments` are the old ones that begin there or
+-- later.
 pub record IsMet (old : TextWithTokens) (end from removed added at : ℕ) (tokens : List Token)
     (comments : List Span) : Type 0 where
   pub following : from + added ≤ at

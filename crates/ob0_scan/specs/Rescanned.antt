@@ -6,9 +6,9 @@ use Rattle.ob0_scan.specs.TextWithTokens.{TextWithTokens, IsScanOf}
 use Rattle.ob0_scan.specs.Reused.{Reuses, kinds, names_in, words_of_tokens}
 use Rattle.ob0_scan.specs.SameKinds.{HasSameTokens, HasSameWords}
 
--- Holds if `r` has the scan of the new text, and what each of its flags says is true whenever the
--- flag is set. `alike` says that all tokens have the same kinds as before, `same_names` that the
--- identifiers are the same, and `same_words` that all kinds and spellings are.
+-- Holds if `r` has the scan of the new text, and is right about what this scan has in common with
+-- the old one. If `alike` is true, all tokens have the same kinds as before. If `same_names` is
+-- true, the identifiers are the same, and if `same_words` is true, all kinds and spellings are.
 pub record IsRescanOf (old : TextWithTokens) (new : List ℕ) (from removed added : ℕ) (r : RescanInPlace)
     : Type 0 where
   pub scan : IsScanOf new r.rescan.tokens

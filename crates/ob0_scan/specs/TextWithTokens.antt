@@ -15,8 +15,8 @@ pub record Word : Type 0 where
   pub kind : TokenKind
   pub text : List ℕ
 
--- Returns a list of the lexeme's kind and text if this kind of lexeme is a token. For white space
--- and comments the list is empty.
+-- Returns a list with the lexeme's kind and text if a lexeme of this kind is a token. For white
+-- space and comments the list is empty.
 abbrev pub word_of : Lexeme → LexemeKind → List Word
 word_of l lexeme.Space = []
 word_of l lexeme.Comment = []
@@ -38,26 +38,28 @@ word_of_token text token = record { kind = token.kind; text = text_in_span text 
 abbrev pub span_from : ℕ → ℕ → Span
 span_from start len = record { start = start; end = start + len }
 
--- Returns a list of the token with this kind and span if this kind of lexeme is a token. For white
+-- Returns a list with a token of this kind and span if a lexeme of this kind is a token. For white
 -- space and comments the list is empty.
 abbrev pub token_at : LexemeKind → Span → List Token
 token_at lexeme.Space span = []
 token_at lexeme.Comment span = []
 token_at (lexeme.Token kind) span = record { kind = kind; span = span } ∷ []
 
--- Returns a list of the span if this kind of lexeme is a comment, otherwise an empty list.
+-- Returns a list with the span if a lexeme of this kind is a comment, otherwise an empty list.
 abbrev pub comment_at : LexemeKind → Span → List Span
 comment_at lexeme.Space span = []
 comment_at lexeme.Comment span = span ∷ []
 comment_at (lexeme.Token kind) span = []
 
--- Returns the tokens, with their spans, of lexemes that begin at `start`.
+-- Returns the tokens among these lexemes, with their spans. The first lexeme begins at the byte
+-- offset `start`.
 abbrev pub tokens_from : ℕ → List Lexeme → List Token
 tokens_from start [] = []
 tokens_from start (l ∷ lexemes) =
     token_at l.kind (span_from start (length l.text)) ++ tokens_from (start + length l.text) lexemes
 
--- Returns the spans of the comments among lexemes that begin at `start`.
+-- Returns the spans of the comments among these lexemes. The first lexeme begins at the byte offset
+-- `start`.
 abbrev pub comments_from : ℕ → List Lexeme → List Span
 comments_from start [] = []
 comments_from start (l ∷ lexemes) =

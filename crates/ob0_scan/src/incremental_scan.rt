@@ -7,8 +7,9 @@
 //! (`specs/Reused`) says which of them are old:
 //! - Before the change: each that ends before it. (One that ends right at the change may continue
 //!   with the inserted text.)
-//! - After the change, moved by `added` less `removed`: each after the first place at which a token
-//!   or comment begins in both texts. That place can't be later than necessary (`IsNew`).
+//! - After the change, shifted by `added - removed` bytes: each that begins at or after the first
+//!   place at which a token or comment begins in both texts. That place can't be later than
+//!   necessary (`IsNew`).
 //!
 //! `alike` says that the tokens have the same kinds as before. `same_names` says that the
 //! identifiers have the same spelling, and `same_words` that all tokens do.
@@ -21,26 +22,26 @@
 //! most once. A scan is in order (`AreInOrder`), so binary search finds the number that the
 //! definition counts (`proofs/Halved`).
 //!
-//! The newly read tokens and comments are placed between the old ones (`IsRescannedMiddle`). When reading
-//! is complete, the later old ones move in their list and the new ones are inserted before them
-//! (`splice_tokens`, `splice_comments`). So memory holds the tokens of only one text; two lists
-//! would leave holes of their size in the heap. Only the changed bytes of the text are replaced,
-//! and the bytes after them move (`ReplacedRange::replace`). If a change begins or ends inside a
-//! character, the new text is written over the old one.
+//! The newly read tokens and comments are placed between the old ones (`IsRescannedMiddle`). When
+//! reading is complete, the later old ones move in their list and the new ones are inserted before
+//! them (`splice_tokens`, `splice_comments`). So memory holds the tokens of only one text; two
+//! lists would leave holes of their size in the heap. Only the changed bytes of the text are
+//! replaced, and the bytes after them move (`ReplacedRange::replace`). If a change begins or ends
+//! inside a character, the new text is written over the old one.
 //!
 //! The change needn't begin and end between characters: a lexeme's last byte is ASCII, so the scan
 //! begins and stops at character borders anyway. A fault ends the search for a common place, so the
 //! faults are those of `scan`, each reported once. Spans fit in 32 bits because of the text's
 //! length: `ScanProgress` says so for a scanner's spans (`short`), `IsMovable` for shifted spans.
-//! Callers have to show `ReplacesRange`. The law `new_middle_replaces_range` gives it for texts joined from
-//! parts, and `Difference::between` of `ob0_analysis` for any two texts.
+//! Callers have to show `ReplacesRange`. The law `new_middle_replaces_range` gives it for texts
+//! joined from parts, and `Difference::between` of `ob0_analysis` for any two texts.
 //!
 //! In the proof, `proofs/AtLexemes` gives the places of the tokens and comments of a list of
 //! lexemes. `Fronts` splits the old lexemes before the change. `Reusing` joins old and new lexemes
 //! at two places: a lexeme depends only on its bytes and the next byte, and equal rests have equal
-//! lexemes. `RescannedMiddle` collects the newly read tokens, and `Kept` has the numbers of the reused old
-//! ones. `Named` shows that the tokens before and after have the same spelling. No clause counts
-//! steps, so nothing proves that old tokens aren't scanned again.
+//! lexemes. `RescannedMiddle` collects the newly read tokens, and `Kept` has the numbers of the
+//! reused old ones. `Named` shows that the tokens before and after have the same spelling. No
+//! clause counts steps, so nothing proves that old tokens aren't scanned again.
 
 ghost use Rattle.std.specs.Prelude.{◌≡◌, ℕ, List, [], false, ◌+◌, ◌-◌, ◌<◌, ◌≤◌, true, IfOk, IfErr, OnOk, length, take, drop};
 ghost use Rattle.ob0_scan.specs.declared.lexeme.TokenKind.TheVariants.{Identifier, Integer};
@@ -68,8 +69,9 @@ pub(crate) struct LexemeCounts {
     pub(crate) comments: usize,
 }
 
-/// The newly scanned tokens and comments, and the ranges of old ones that they replace. Each range
-/// begins at the index in `front` and ends before the index in `following`.
+/// The newly scanned tokens and comments, and the ranges of old ones that they replace. The old
+/// tokens `front.tokens..following.tokens` and the old comments
+/// `front.comments..following.comments` are replaced.
 #[derive(Drop)]
 pub(crate) struct RescannedMiddle {
     pub(crate) front: LexemeCounts,
@@ -178,7 +180,7 @@ fn is_same_name(new_text: &[u8], new: Token, old_text: &[u8], old: Token) -> boo
     }
 }
 
-/// Returns true if a kind of token is the identifier.
+/// Returns true if a token of this kind is an identifier.
 fn is_name(kind: TokenKind) -> bool
     ensures yes { result ≡ true → kind ≡ Identifier }
     ensures no { result ≡ false → (text : List ℕ) → name_or_empty kind text ≡ [] }
@@ -233,7 +235,7 @@ fn is_same_kind(a: TokenKind, b: TokenKind) -> bool
     }
 }
 
-/// Returns true if a kind of token is an integer.
+/// Returns true if a token of this kind is an integer.
 fn is_integer(kind: TokenKind) -> bool
     ensures { result ≡ true → kind_without_value kind ≡ Integer 0 }
 {
@@ -367,8 +369,8 @@ fn rescan_refusal(
     }
 }
 
-/// Scans the part of a changed text that has to be read again. Returns the new tokens and comments
-/// with the range of old ones that they replace.
+/// Scans the part of a changed text that has to be read again. Returns the tokens and comments
+/// found there, with the ranges of old ones that they replace.
 fn scan_changed_part(
     alloc: Global,
     old: &Tokens,
@@ -412,9 +414,9 @@ fn scan_changed_part(
     })
 }
 
-/// Scans to the end of the text, or up to the first place after the change at which an old token or
-/// comment begins. Returns the old ones that begin at that place or later; at the end of the text
-/// there are none.
+/// Scans up to the first place after the change at which an old token or comment begins, or else to
+/// the end of the text. Returns the old tokens and comments that begin at that place or later, none
+/// at the end of the text.
 fn continue_scan<'o>(
     scanner: &mut Scanner,
     old: &'o Tokens,

@@ -2,10 +2,10 @@
 //! after it, by binary search. Replaces the ones between them, and shifts the later spans.
 //!
 //! A scan is in order (`AreInOrder`), so binary search finds the number that the definition counts
-//! (`proofs/Halved`). A part of a `Vec` is changed by a loop over indexes (`for index in
+//! (`proofs/Halved`). The later part of a `Vec` is changed by a loop over indexes (`for index in
 //! first..items.len()`). Its invariant is `ChangedTo`: the items before the index are changed, the
-//! others aren't. After a call with `&mut items[first..]` the proof would have no name for the
-//! list.
+//! others aren't. A call with `&mut items[first..]` isn't used, because after it the proof would
+//! have no name for the list.
 
 ghost use Rattle.std.specs.Prelude.{◌≡◌, ◌+◌, ◌-◌, ◌<◌, ◌≤◌, ◌^◌, ◌||◌, ◌++◌, OnOk, length, map, take, drop, nat_lt, option_copied, string_bytes};
 ghost use Rattle.std.specs.List.{All, prefix_len};
@@ -68,7 +68,7 @@ impl ReplacedRange {
     }
 }
 
-/// Some consecutive tokens of a text and some of its consecutive comments, each in text order.
+/// A range of the tokens of a text, and a range of its comments, each in text order.
 #[derive(Clone, Copy)]
 pub(crate) struct LexemeSlices<'t> {
     pub(crate) tokens: &'t [Token],
@@ -138,7 +138,7 @@ impl<'t> LexemeSlices<'t> {
     }
 }
 
-/// Returns true if the first token begins at a byte offset.
+/// Returns true if the first token begins at a byte offset. Returns false if there is no token.
 fn first_token_begins_at(tokens: &[Token], place: usize) -> bool
     ensures { result ≡ first_token_begins_at place tokens.now }
 {
@@ -148,7 +148,7 @@ fn first_token_begins_at(tokens: &[Token], place: usize) -> bool
     }
 }
 
-/// Returns true if the first comment begins at a byte offset.
+/// Returns true if the first comment begins at a byte offset. Returns false if there is no comment.
 fn first_comment_begins_at(comments: &[Span], place: usize) -> bool
     ensures { result ≡ first_comment_begins_at place comments.now }
 {

@@ -18,11 +18,11 @@ pub record NamesInBody : Type 0 where
   pub first : Option ℕ
   pub uses : List ℕ
 
--- returns the state before a body's first identifier, with no occurrences
+-- the names of a body in which no identifier has been seen yet
 abbrev pub no_names : NamesInBody
 no_names = record { first = None; uses = [] }
 
--- returns the first identifier of a body if it has been seen before, otherwise the identifier `i`
+-- returns `first` if an identifier of the body has been seen before, otherwise `i`
 abbrev pub first_or : Option ℕ → ℕ → Option ℕ
 first_or first i = if is_some first then first else Some i
 
@@ -46,7 +46,7 @@ tokens_before_body range [] = []
 tokens_before_body range (i ∷ is) =
     if nat_lt i range.first then i ∷ tokens_before_body range is else tokens_before_body range is
 
--- returns the new index of a token after a body, at most 2^64 - 1
+-- returns the new index of a token that is after the replaced body; at most 2^64 - 1
 abbrev pub shifted_token : BodyRange → ℕ → ℕ
 shifted_token range i = min (i - range.old_closing + range.closing) (2 ^ 64 - 1)
 
@@ -78,7 +78,8 @@ abbrev pub old_closing_token : SameTokens → ℕ → ℕ
 old_closing_token same closing = min (closing - same.new_suffix + same.old_suffix) (2 ^ 64 - 1)
 
 -- Holds if `range` is the range of the new statements in a module in which one body's statements
--- were replaced, and `own` has their occurrences. `b` has the bindings of the old module.
+-- were replaced. `own` has the occurrences in these statements, and `b` has the bindings of the old
+-- module.
 pub record IsNewBody (m : ParsedModule) (b : Bindings) (range : BodyRange) (own : List ℕ) : Type 0 where
   pub same : SameTokens
   pub was : WasBoundElsewhere m b same

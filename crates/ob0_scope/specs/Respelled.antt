@@ -28,16 +28,17 @@ BindingsDependOnNames =
     → b.faults.items ≡ []
     → IsResolution (resolution_with (parsed_module new tree) b)
 
--- holds if `c` equals the bindings `b`, except that its faults are at the same tokens of the text
--- `new`
+-- holds if the bindings `c` are the bindings `b` with each fault moved from the text `old` to the
+-- same tokens of the text `new`
 pub record AreMoved (old new : TextWithTokens) (b c : Bindings) : Type 0 where
   pub ordinals : c.ordinals.items ≡ b.ordinals.items
   pub declarations : c.declarations.items ≡ b.declarations.items
   pub occurrences : c.occurrences.items ≡ b.occurrences.items
   pub faults : c.faults.items ≡ moved_faults old new b.faults.items
 
--- The bindings of a module are also the bindings of its tree over tokens with the same spellings.
--- Only the faults are moved to the same tokens.
+-- The bindings of a module are also the bindings of its tree over another text, if the tokens of
+-- both texts have the same spellings. Only the faults are moved to the same tokens of the other
+-- text.
 abbrev pub BindingsMoveWithTokens : Type 0
 BindingsMoveWithTokens =
     (old new : TextWithTokens) (tree : ModuleTree) (b c : Bindings)

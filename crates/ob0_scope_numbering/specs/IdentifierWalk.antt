@@ -1,5 +1,5 @@
 -- The walk over a module's identifiers in text order: the state after each part. How the ordinals
--- are collected is left open.
+-- are collected is a parameter (`put_ordinal`).
 -- Rule: none; for contracts of the walk over identifiers.
 use Rattle.std.specs.Prelude.{ℕ, ◌+◌, ◌-◌, List, [], ◌∷◌, ◌++◌, Option, Some, None, map, length, drop}
 use Rattle.ob0_tree.specs.declared.tree.Role.{Role}
@@ -11,9 +11,9 @@ use Rattle.ob0_language_names.specs.Names.{Name, naming_by_spelling}
 use Rattle.ob0_language_names.specs.Parts.{names_in_list}
 use Rattle.ob0_language_names.specs.Scopes.{Scope, declare_names, ordinal_of, predeclared_count}
 
--- The state of the walk. It has the spellings of all identifiers and the visible names. It also has
--- the declaring tokens, the tokens of the occurrences and the ordinals of the identifiers that were
--- visited.
+-- The state of the walk. `writing` has the spellings of all identifiers, and `scope` the visible
+-- names. The other parts are about the identifiers visited so far. `declarations` has the tokens of
+-- declaring names, `uses` the tokens of looked-up names, and `marks` the ordinals of all.
 pub record WalkState (M : Type 0) : Type 0 where
   pub writing : Spellings
   pub scope : Scope Name
@@ -21,11 +21,12 @@ pub record WalkState (M : Type 0) : Type 0 where
   pub uses : List ℕ
   pub marks : M
 
--- makes the name of the declaration with this ordinal visible
+-- makes the name at the token `i` visible as the declaration with this ordinal
 abbrev pub show_declaration : {M : Type 0} → ℕ → ℕ → WalkState M → WalkState M
 show_declaration i ordinal v = record v { scope = (spelling_at v.writing i, ordinal) ∷ v.scope }
 
--- makes the names of the declarations visible, starting at the declaration with the index `first`
+-- makes the names of the declarations so far visible, except the first `first`; predeclared names
+-- aren't counted
 abbrev pub show_declarations_from : {M : Type 0} → ℕ → WalkState M → WalkState M
 show_declarations_from first v =
     record v {
@@ -38,23 +39,24 @@ abbrev pub truncate_scope : {M : Type 0} → ℕ → WalkState M → WalkState M
 truncate_scope len v = record v { scope = drop (length v.scope - len) v.scope }
 
 -- Returns the state after the heading of a procedure. `own` is the number of declarations before
--- the procedure, and `outside` the number of bindings. The bindings of the parameters are removed.
--- Then the procedure and its parameters are bound, in this order.
+-- the procedure, and `outside` the number of bindings before it. The bindings of the parameters are
+-- removed. Then the procedure and its parameters are bound, in this order.
 abbrev pub state_after_heading : {M : Type 0} → ℕ → ℕ → WalkState M → WalkState M
 state_after_heading own outside v = show_declarations_from own (truncate_scope outside v)
 
--- Returns the state after the block of a procedure with the name `x`. The scope is cut back to its
--- `outside` oldest bindings, and then the procedure is visible.
+-- Returns the state after the block of the procedure whose name is at the token `x`. Only the
+-- `outside` oldest bindings are kept, and then the procedure's name is bound to `ordinal`.
 abbrev pub leave_block : {M : Type 0} → ℕ → ℕ → ℕ → WalkState M → WalkState M
 leave_block x ordinal outside v = show_declaration x ordinal (truncate_scope outside v)
 
--- The following definitions are for any `put_ordinal`, which adds an identifier's ordinal to the others.
+-- The following definitions are for any `put_ordinal`, which adds the ordinal of the identifier at
+-- a token to the ordinals so far.
 module _ {M : Type 0} (put_ordinal : ℕ → Option ℕ → M → M) where
-  -- gives an identifier this ordinal
+  -- gives the identifier at the token `i` this ordinal; None means that it has no ordinal
   abbrev pub with_mark : ℕ → Option ℕ → WalkState M → WalkState M
   with_mark i ordinal v = record v { marks = put_ordinal i ordinal v.marks }
 
-  -- gives a declaring name the next ordinal
+  -- appends the declaring name at the token `i` to the declarations, and gives it the next ordinal
   abbrev pub number_declaration : ℕ → WalkState M → WalkState M
   number_declaration i v =
       record v {

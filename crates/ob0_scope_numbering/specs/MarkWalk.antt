@@ -62,7 +62,7 @@ visit_type = visit.visit_type put_ordinal
 abbrev pub visit_types : Tree ℕ (items type_name) → WalkState → WalkState
 visit_types = visit.visit_types put_ordinal
 
--- returns the state after the declaration of some variables, in the walk that collects marks
+-- returns the state after the declaration of a group of variables, in the walk that collects marks
 abbrev pub visit_variable : Tree ℕ (item variable) → WalkState → WalkState
 visit_variable = visit.visit_variable put_ordinal
 
@@ -112,8 +112,8 @@ visit_procedure = visit.visit_procedure put_ordinal
 abbrev pub visit_module : Tree ℕ module_text → WalkState → WalkState
 visit_module = visit.visit_module put_ordinal
 
--- returns the state after making the names of declarations visible, starting at the declaration
--- with this index, in the walk that collects marks
+-- returns the state after making declarations visible, in the walk that collects marks; the number
+-- says how many of the first declarations so far are left out
 abbrev pub show_declarations_from : ℕ → WalkState → WalkState
 show_declarations_from = visit.show_declarations_from
 

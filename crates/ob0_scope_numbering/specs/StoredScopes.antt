@@ -18,8 +18,8 @@ abbrev pub newest_binding_index : Name → List Binding → Option ℕ
 newest_binding_index x [] = None
 newest_binding_index x (b ∷ bs) = if same_name x b.name.now then Some (length bs) else newest_binding_index x bs
 
--- holds if each binding has the index of the binding that it hides; the bindings are given newest
--- first
+-- Holds if each binding has the index, counted from the oldest, of the binding that it hides, or
+-- None if it hides none. The bindings are given newest first.
 abbrev pub HaveHiddenIndexes : List Binding → Type 0
 HaveHiddenIndexes [] = Unit {0}
 HaveHiddenIndexes (b ∷ bs) = (b.hidden ≡ newest_binding_index b.name.now bs) × HaveHiddenIndexes bs
@@ -35,7 +35,7 @@ pub record VisibleNames : Type 0 where
   pub new_name : Name
   pub scope : Scope Name
 
--- returns another scope with the same new name
+-- replaces the scope, and keeps the new name
 abbrev pub with_scope : VisibleNames → Scope Name → VisibleNames
 with_scope v scope = record { new_name = v.new_name; scope = scope }
 

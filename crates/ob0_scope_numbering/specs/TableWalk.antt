@@ -16,8 +16,8 @@ use Rattle.ob0_scope_numbering.specs.Written.{Spellings}
 abbrev pub WalkState : Type 0
 WalkState = visit.WalkState (List (Option ℕ))
 
--- writes an ordinal into a table at a token; an ordinal above the greatest of an entry counts as
--- the greatest
+-- writes an ordinal into a table at a token; an ordinal that is too large for an entry is stored as
+-- the greatest one that fits
 abbrev pub put_ordinal : ℕ → Option ℕ → List (Option ℕ) → List (Option ℕ)
 put_ordinal i ordinal table = slice_set table i (stored_ordinal ordinal)
 
@@ -65,7 +65,7 @@ visit_type = visit.visit_type put_ordinal
 abbrev pub visit_types : Tree ℕ (items type_name) → WalkState → WalkState
 visit_types = visit.visit_types put_ordinal
 
--- returns the state after the declaration of some variables, in the walk that fills a table
+-- returns the state after the declaration of a group of variables, in the walk that fills a table
 abbrev pub visit_variable : Tree ℕ (item variable) → WalkState → WalkState
 visit_variable = visit.visit_variable put_ordinal
 
@@ -117,8 +117,8 @@ visit_module = visit.visit_module put_ordinal
 abbrev pub show_declaration : ℕ → ℕ → WalkState → WalkState
 show_declaration = visit.show_declaration
 
--- returns the state after making the names of declarations visible, starting at the declaration
--- with this index, in the walk that fills a table
+-- returns the state after making declarations visible, in the walk that fills a table; the number
+-- says how many of the first declarations so far are left out
 abbrev pub show_declarations_from : ℕ → WalkState → WalkState
 show_declarations_from = visit.show_declarations_from
 

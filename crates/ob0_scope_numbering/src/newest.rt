@@ -7,10 +7,10 @@
 //! A key of the map is a name preceded by a number made of its last eight bytes. Nearly all comparisons are between two
 //! numbers. If these are equal, the names decide, so no text can make a look-up slow.
 //!
-//! A small table of recent names is searched before the map, by a few bytes of the name. An entry
-//! has the position of the name with such bytes that was looked up last. The position is only a
-//! hint: the name at the position is compared with the sought name. So the proof needs no fact
-//! about the table.
+//! A small table of recent names is searched before the map, by a few bytes of the name. A slot has
+//! the position of the last name with these bytes that was looked up. The position is only a hint:
+//! the name at the position is compared with the sought name. So the proof needs no fact about the
+//! table.
 
 ghost use Rattle.std.specs.Prelude.{◌≡◌, [], IfOk, IfSome, OnErr, OnOk, None, Some};
 ghost use Rattle.ob0_scope_numbering.specs.Keys.{suffix_number, append_byte, append_bytes};
@@ -90,7 +90,7 @@ fn empty_recent_slots(alloc: Global) -> Result<Vec<usize>, AllocError> {
     vec![in alloc; 0; RECENT_SLOTS]
 }
 
-/// A name that was bound, with the index of its newest binding, if it still has one.
+/// A name that was bound, with the index of its newest binding, or None if it has no binding now.
 #[derive(Clone, Copy)]
 pub(crate) struct BoundName<'t> {
     name: &'t str,

@@ -6,10 +6,10 @@
 //! visit_constant c self.old`. With such clauses most descents and loops over declarations need no
 //! proof file.
 //!
-//! Names become visible in the order of their ordinals (`show_names_from`). This works for constants,
-//! groups, and a procedure's heading. After a heading, the bindings of the parameters are removed.
-//! Then `show_names_from` binds the procedure and after it the parameters, so a parameter with the
-//! procedure's name hides the procedure.
+//! Names become visible in the order of their ordinals (`show_names_from`). This works for
+//! constants, groups of variables, and a procedure's heading. After a heading, the bindings of the
+//! parameters are removed. Then `show_names_from` binds the procedure and after it the parameters,
+//! so a parameter with the procedure's name hides the procedure.
 //!
 //! Each identifier's ordinal is written into the table at its token as soon as it is known. The
 //! entries of fields and of the module's name are None. The definition of the walk (`IdentifierWalk`)
@@ -47,8 +47,8 @@ use ob0_tree::{
 use std::alloc::{AllocError, Global};
 use std::marker::Model;
 
-/// The state of the walk inside a module. The table has, at its token, the ordinal of each
-/// identifier visited so far.
+/// The state of the walk inside a module. The table has the ordinal of each identifier visited so
+/// far, at the index of its token.
 #[derive(Drop)]
 pub struct Numbering<'t> {
     tokens: &'t Tokens,
@@ -155,8 +155,9 @@ fn visit_module<'t>(
     Ok(numbering)
 }
 
-/// Numbers the body that contains the token `low` again, and returns the table. The given table must have the ordinals
-/// of everything else. `all` has the module's declaring tokens.
+/// Looks up the names of the body that contains the token `low` again, and returns the changed
+/// table. The given table must have the ordinals of all other identifiers. `all` has the module's
+/// declaring tokens.
 pub fn renumber_body(
     alloc: Global,
     read: &Module<'_>,
@@ -260,7 +261,7 @@ impl<'t> Numbering<'t> {
         }
     }
 
-    /// Makes the names of the declarations visible, starting at the declaration with the index `first`.
+    /// Makes the names of the declarations so far visible, except the first `first`.
     fn show_names_from(&mut self, first: usize) -> Result<(), AllocError>
         ensures { OnOk result (self.new ≡ show_declarations_from first self.old) }
     {
@@ -300,7 +301,7 @@ impl<'t> Numbering<'t> {
         }
     }
 
-    /// Marks an identifier as unbound.
+    /// Enters None into the table for an identifier that has no ordinal.
     #[inline(always)]
     fn mark_unbound(&mut self, token: usize) -> Result<(), AllocError>
         ensures { OnOk result (self.new ≡ with_mark token None self.old) }
@@ -309,7 +310,8 @@ impl<'t> Numbering<'t> {
         Ok(())
     }
 
-    /// Looks up a name, and marks it with the ordinal of its declaration or as unbound.
+    /// Looks up the name at a token. Enters the ordinal of its declaration into the table, or None
+    /// if the name is unbound.
     #[inline(always)]
     fn look_up(&mut self, token: usize) -> Result<(), AllocError>
         ensures { OnOk result (self.new ≡ visit_identifier roles.LookedUp token self.old) }
@@ -453,8 +455,8 @@ impl<'t> Numbering<'t> {
         walk_body(self, &b.body)
     }
 
-    /// Counts the module's declarations before a token as declared, without visiting them. `all` has all declaring
-    /// tokens.
+    /// Appends the further declarations before a token to the list of declarations, without
+    /// visiting them. `all` has the declaring tokens of the whole module.
     fn count_declarations_before(&mut self, all: &[usize], token: usize) -> Result<(), AllocError>
         ensures { OnOk result (self.new ≡ with_declarations_before all.now token self.old) }
     {
@@ -468,7 +470,7 @@ impl<'t> Numbering<'t> {
         Ok(())
     }
 
-    /// Counts a declaration, without visiting it.
+    /// Appends a declaration to the list of declarations, without visiting it.
     fn count_declaration(&mut self, token: usize) -> Result<(), AllocError>
         ensures { OnOk result (self.new ≡ with_declaration token self.old) }
     {
@@ -476,7 +478,8 @@ impl<'t> Numbering<'t> {
         Ok(())
     }
 
-    /// Makes the name at a token visible with the next ordinal, and skips the declaration itself.
+    /// Makes the procedure's name at a token visible with the next ordinal, and skips the procedure
+    /// itself.
     fn skip_procedure(&mut self, token: usize) -> Result<(), AllocError>
         ensures { OnOk result (self.new ≡ with_procedure_skipped token self.old) }
     {
@@ -505,7 +508,8 @@ impl<'t> Numbering<'t> {
         self.revisit_block(&p.block, all, low)
     }
 
-    /// Visits a block again: its sections, and then its statements or the procedure that contains the token `low`.
+    /// Visits a block again: its constants, types and variables, and then the procedure that
+    /// contains the token `low`. If there is no such procedure, visits the block's statements.
     /// `all` has the module's declaring tokens.
     #[cycle(blocks_again)]
     fn revisit_block(&mut self, inner: &Block, all: &[usize], low: usize) -> Result<(), AllocError>

@@ -11,7 +11,8 @@ use Rattle.ob0_tree.specs.Tree.{Tree, block, body, declares, declares_procedure,
 use Rattle.ob0_scope_table.specs.OneBody.{closing_name, is_in_body, is_outside}
 
 -- A way to a body: the numbers of the procedures to enter, from the module inwards. In each block,
--- procedures are counted from 0. The way leads to the own body of the last block.
+-- procedures are counted from 0. The way leads to the body of the procedure that is entered last.
+-- An empty way leads to the module's own body.
 abbrev pub WayToBody : Type 0
 WayToBody = List ℕ
 
@@ -20,9 +21,9 @@ abbrev pub shift_way : WayToBody → WayToBody
 shift_way [] = []
 shift_way (k ∷ way) = suc k ∷ way
 
--- Returns the way to the body that contains the tokens from `low` upwards.
+-- Returns the way to the body around the token `low`.
 abbrev mutual
-  -- returns the way from a block to the body that contains the tokens from `low` upwards
+  -- returns the way from a block to the body around the token `low`
   pub way_in_block : ℕ → Tree ℕ block → WayToBody
   way_in_block low (has_body (declares cs ts vs ps) statements) = way_in_procedures low ps
 
@@ -34,11 +35,11 @@ abbrev mutual
       if nat_lt (closing_name p) low then shift_way (way_in_procedures low ps)
       else zero ∷ way_in_procedure low p
 
-  -- returns the way from a procedure to the body that contains the tokens from `low` upwards
+  -- returns the way from a procedure to the body around the token `low`
   pub way_in_procedure : ℕ → Tree ℕ (item procedure) → WayToBody
   way_in_procedure low (declares_procedure x fs b closing) = way_in_block low b
 
--- returns the way from a module to the body that contains the tokens from `low` upwards
+-- returns the way from a module to the body around the token `low`
 abbrev pub way_in_module : ℕ → Tree ℕ module_text → WayToBody
 way_in_module low (is_module x b closing) = way_in_block low b
 
@@ -121,9 +122,10 @@ abbrev pub moved_token_index : SameTokens → ℕ → ℕ
 moved_token_index s i = if nat_lt i s.prefix then i else s.new_suffix + (i - s.old_suffix)
 
 -- Holds if two modules are the same except for the statements of one body, to which `way` leads. In
--- these statements, the old tokens from `prefix` up to `old_suffix` are replaced by the new tokens
--- from `prefix` up to `new_suffix`. All other tokens are moved and have the same spellings. In both
--- modules, the body's first identifier is before the range, and its block's closing name after it.
+-- these statements, new tokens from `prefix` to before `new_suffix` replace the old tokens from
+-- `prefix` to before `old_suffix`. All other tokens have the same spellings, and the later ones may
+-- have new indexes. In both modules, the body's first identifier is before the range, and its
+-- block's closing name after it.
 pub record IsBodyReplaced (old new : ParsedModule) (way : WayToBody) (s : SameTokens) : Type 0 where
   pub old_range : s.prefix ≤ s.old_suffix
   pub new_range : s.prefix ≤ s.new_suffix

@@ -10,7 +10,7 @@ use Rattle.ob0_scan.specs.TextWithTokens.{IsScan, TextWithTokens}
 use Rattle.ob0_scope_table.specs.Spans.{span_at}
 use Rattle.ob0_scope_table.specs.declared.fault_tokens.FaultByTokens.{FaultByTokens}
 
--- returns the start of the first token, in bytes
+-- returns the start of the first token, in bytes; 0 if there is no token
 abbrev pub first_token_start : TextWithTokens → ℕ
 first_token_start source = (span_at source 0).start
 
@@ -58,8 +58,8 @@ fault_by_tokens tokens f =
 abbrev pub moved_faults : TextWithTokens → TextWithTokens → List Fault → List Fault
 moved_faults old new faults = map (fault_at new) (map (fault_by_tokens old.tokens) faults)
 
--- holds if the faults `before` and `after` of two texts are at the same tokens, with the same
--- codes, one by one
+-- Holds if the faults `before` of the text `old` match the faults `after` of the text `new`, one by
+-- one. Two faults match if they have the same code and are at the same tokens.
 pub record AreAtSameTokens (old new : TextWithTokens) (before after : List Fault) : Type 0 where
   pub tokens : List FaultByTokens
   pub in_old : before ≡ map (fault_at old) tokens

@@ -19,7 +19,8 @@ use Rattle.ob0_language_names.specs.DeclaredOnce.{declared_once}
 use Rattle.ob0_scope_table.specs.DeclaredTwice.{declaration_faults}
 use Rattle.ob0_scope_table.specs.Spans as spans
 
--- returns the ordinal in a table at a token, or None if the table has no such token
+-- returns the ordinal that a table has at a token; None if the token has no ordinal or the table
+-- has no such token
 abbrev pub ordinal_in : List (Option ℕ) → ℕ → Option ℕ
 ordinal_in ordinals token = slice_index_or ordinals token None
 
@@ -64,7 +65,7 @@ is_undeclared_fault fault = elim (fault.code) [ code.Undeclared ↦ true | _ ↦
 abbrev pub span_at : TextWithTokens → ℕ → Span
 span_at source token = spans.span_at source token
 
--- returns a fault `Undeclared` for each of these occurrences that is unbound in a table
+-- returns a fault `Undeclared` for each of these occurrences that has no ordinal in the table
 abbrev pub undeclared_faults_by_table : TextWithTokens → List (Option ℕ) → List ℕ → List Fault
 undeclared_faults_by_table source ordinals [] = []
 undeclared_faults_by_table source ordinals (token ∷ tokens) =
@@ -72,9 +73,9 @@ undeclared_faults_by_table source ordinals (token ∷ tokens) =
     else record { code = code.Undeclared; span = span_at source token }
     ∷ undeclared_faults_by_table source ordinals tokens
 
--- A module with its resolved names. It has the ordinals by token, and the declaring tokens by
--- ordinal, beginning at `predeclared_count`. It also has the tokens of the occurrences in text
--- order, and the faults.
+-- A module with its resolved names. `ordinals` has the ordinal at each token. `declarations` has
+-- the declaring tokens in text order, the first of which has the ordinal `predeclared_count`.
+-- `uses` has the tokens of the occurrences in text order.
 pub record Resolution : Type 0 where
   pub module_read : ParsedModule
   pub ordinals : List (Option ℕ)
@@ -92,7 +93,8 @@ IsNumberingTable m ordinals =
 abbrev pub ordinal_and_spelling : Labelling Name (Option ℕ × Name)
 ordinal_and_spelling ordinal x = (ordinal, x)
 
--- returns the ordinal to which the identifier at a token is bound, and its spelling
+-- returns the ordinal to which the identifier at a token is bound (None if it is unbound), and the
+-- identifier's spelling
 abbrev pub binding_at : TextWithTokens → List (Option ℕ) → ℕ → Option ℕ × Name
 binding_at source ordinals token = (ordinal_in ordinals token, text_at source token)
 
@@ -103,8 +105,8 @@ IsBindingTable m ordinals =
     relabel_module naming_by_spelling ordinal_and_spelling (named_tree_of m)
     ≡ mapped (binding_at m.source ordinals) (value_at m.source) (tree_of m)
 
--- returns a fault `Undeclared` for each of these occurrences whose label, at the same place of the
--- second list, means an unbound name
+-- returns a fault `Undeclared` for each of these occurrences whose label is an unbound name; an
+-- occurrence and its label have the same index in the two lists
 abbrev pub undeclared_faults_by_labels : TextWithTokens → List ℕ → List Label → List Fault
 undeclared_faults_by_labels source [] labels = []
 undeclared_faults_by_labels source (token ∷ tokens) [] = []

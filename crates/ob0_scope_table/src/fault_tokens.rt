@@ -1,5 +1,5 @@
-//! Describes faults by the tokens of their ranges instead of bytes. So the faults of a text can be
-//! moved to another text whose tokens have the same spellings.
+//! Describes faults by the first and the last token of their ranges instead of by bytes. So the
+//! faults of a text can be moved to another text whose tokens have the same spellings.
 
 ghost use Rattle.std.specs.Prelude.{◌≡◌, ◌≤◌, IfOk, length, map, nat_lt};
 ghost use Rattle.std.specs.List.Sorted.{IsNonDecreasingBy, IsPartitionPoint};
@@ -49,7 +49,7 @@ fn find_fault_tokens(tokens: &Tokens, fault: &Fault) -> FaultByTokens
     }
 }
 
-/// Returns the faults at these tokens of a text.
+/// Returns each of these faults with its span in the text, instead of its first and last token.
 pub fn faults_at_tokens(
     alloc: Global,
     tokens: &Tokens,
@@ -64,7 +64,7 @@ pub fn faults_at_tokens(
     Ok(faults)
 }
 
-/// Returns the fault at these tokens of a text.
+/// Returns a fault with its span, from the start of its first token to the end of its last token.
 fn fault_from_tokens(tokens: &Tokens, fault: &FaultByTokens) -> Fault
     ensures { result ≡ fault_at tokens.now fault.now }
 {

@@ -130,7 +130,8 @@ impl<'t> Resolved<'t> {
         ordinal_at(&self.bindings().ordinals, token)
     }
 
-    /// Returns the table of ordinals by token.
+    /// Returns the table of ordinals. Its entry at a token's index is the ordinal that `ordinal_at`
+    /// returns for the token.
     pub fn ordinals(&self) -> &[OrdinalEntry]
         ensures { result.now ≡ self.now.ordinals }
     {

@@ -2,8 +2,8 @@
 -- Rule: none; for contracts: the calls of a device.
 use Rattle.std.specs.Prelude.{◌+◌, ◌-◌, ◌^◌, ℕ, min, max}
 
--- The number of reads that were made, and the length in bytes of the longest buffer that a read was
--- given.
+-- The number of reads that were made, and the length in bytes of the longest buffer that was passed
+-- to a read.
 pub record ReadCounts : Type 0 where
   pub count : ℕ
   pub longest : ℕ

@@ -49,23 +49,24 @@ actions_request_view r version =
       only = kinds_view r.only.now;
     }
 
--- Returns true if a request for this kind of actions includes inlining.
+-- Returns true if this kind of actions includes inlining.
 abbrev pub is_inlining_kind : List ℕ → Bool
 is_inlining_kind kind =
     bytes_eq kind [] || bytes_eq kind (codes "refactor") || bytes_eq kind (codes "refactor.inline")
 
--- Returns true if all kinds are requested (None), or inlining is of a requested kind.
+-- Returns true if all kinds are requested (None), or if one of the requested kinds includes
+-- inlining.
 abbrev pub allows_inlining : Option (List (List ℕ)) → Bool
 allows_inlining (Some kinds) = list_any is_inlining_kind kinds
 allows_inlining None = true
 
--- Returns true if the client accepts actions that aren't commands, and inlining is of a requested
--- kind or all kinds are requested.
+-- Returns true if the client accepts actions that aren't commands, and the requested kinds include
+-- inlining. For None, all kinds are requested.
 abbrev pub accepts_inlining : ClientFeatures → Option (List (List ℕ)) → Bool
 accepts_inlining client only = client.accepts_literal_actions && allows_inlining only
 
--- Returns true if the client of this request accepts actions that aren't commands, and inlining is
--- of a requested kind or all kinds are requested.
+-- Returns true if the client of this request accepts actions that aren't commands, and the
+-- requested kinds include inlining. For None, all kinds are requested.
 abbrev pub wants_inlining : RequestedActions → Bool
 wants_inlining requested = accepts_inlining requested.client requested.only
 
@@ -104,7 +105,7 @@ actions_array requested here everywhere =
     (action_values requested Here here ++ action_values requested Everywhere everywhere))
 
 -- Holds if the request includes inlining, the text is a well-typed module, and the value lists the
--- actions that are offered at this place of the text.
+-- actions that are offered at the offset `actions_offset` of the request's range.
 pub record ListsInlinings (unit : Unit) (requested : RequestedActions) (text : List ℕ)
     (value : Data) : Type 0 where
   pub here : Option (Vec Edit Global)

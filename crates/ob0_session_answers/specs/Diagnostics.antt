@@ -9,7 +9,8 @@ use Rattle.ob0_analysis.specs.Diagnosed.{Complaint, Reports}
 use Rattle.ob0_analysis.specs.Texts.{utf8}
 use Rattle.ob0_session_json.specs.Shapes.{Diagnostic, publication}
 
--- Returns the diagnostic of a complaint, from the position of its start to the position of its end.
+-- Returns the diagnostic that reports a complaint: the complaint's code and message, and the
+-- positions of its start and end.
 abbrev pub diagnostic_of : Unit → List ℕ → Complaint → Diagnostic
 diagnostic_of unit text c = record {
   code = c.code;

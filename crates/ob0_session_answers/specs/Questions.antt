@@ -51,15 +51,16 @@ value_or_null None = null
 abbrev pub offset_in : Unit → List ℕ → DocumentPlace → ℕ
 offset_in unit text at = offset_of (width_of unit) text at.position
 
--- Holds if the value lists the locations of all references and of nothing else, in text order.
--- `include` says whether the declaration is one of them.
+-- Holds if the value lists, in text order, the locations of all references to the name or field at
+-- the position. `include` says whether the list contains the declaration.
 abbrev pub AnswersReferences : Unit → List ℕ → DocumentPlace → Bool → Resolution → Data → Type 0
 AnswersReferences unit text at include names value =
     (spans : List Span)
     × AreReferencesAt names (offset_in unit text at) include spans
     × (value ≡ array (items_of (map (span_location unit at.uri text) spans)))
 
--- Holds if the value answers the question about a well-typed module. `names` binds its names.
+-- Holds if the value answers the question about a well-typed module. `names` is the resolution of
+-- the module's names.
 abbrev pub AnswersInModule : Unit → List ℕ → DocumentPlace → NameQuestion → Resolution → Data → Type 0
 AnswersInModule unit text at hover_asked names value =
     value

@@ -18,7 +18,7 @@ ghost use Rattle.ob0_session_json.specs.Made.{code_action_view};
 
 use ob0_analysis::Analysis;
 use ob0_edits::{Inlining, Inlinings, inline_edits};
-use ob0_rpc::{ClientFeatures, Id, result_of};
+use ob0_rpc::{ClientFeatures, Id, answer_text};
 use ob0_session_documents::DocumentRequest;
 use ob0_session_json::edits::{CodeAction, WorkspaceEdit};
 use ob0_text::{Edit, Position, Range, TextStore};
@@ -70,8 +70,8 @@ impl<'a, T: TextStore> DocumentRequest<T> for ActionsRequest<'a> {
 }
 
 impl<'a> ActionsRequest<'a> {
-    /// Returns true if the client accepts actions that aren't commands, and inlining is of a requested kind or all
-    /// kinds are requested.
+    /// Returns true if the client accepts actions that aren't commands, and the requested kinds
+    /// include inlining. For None, all kinds are requested.
     fn wants_inlining(&self) -> bool
         ensures { result ≡ wants self.now.client (kinds_view self.now.only.now) }
     {
@@ -96,7 +96,7 @@ impl<'a> ActionsRequest<'a> {
                     self.action(version, Inlining::Here, here.as_slice()),
                     self.action(version, Inlining::Everywhere, everywhere.as_slice()),
                 ];
-                result_of(alloc, self.id, &actions.as_slice())
+                answer_text(alloc, self.id, &actions.as_slice())
             }
             (Some(here), None) => self.list_single_action(
                 alloc,
@@ -127,7 +127,7 @@ impl<'a> ActionsRequest<'a> {
             bytes.items) }
     {
         let actions = [self.action(version, how, edits)];
-        result_of(alloc, self.id, &actions.as_slice())
+        answer_text(alloc, self.id, &actions.as_slice())
     }
 
     /// Returns the code action that applies these edits to this version of the document. `how`
@@ -152,10 +152,11 @@ fn no_actions(alloc: Global, id: &Id) -> Result<Vec<u8>, AllocError>
         (λ bytes. Writes (result_message (id_data id.now) (array no_items)) bytes.items) }
 {
     let none: [CodeAction<'_>; 0] = [];
-    result_of(alloc, id, &none.as_slice())
+    answer_text(alloc, id, &none.as_slice())
 }
 
-/// Returns true if all kinds are requested (None), or inlining is of a requested kind.
+/// Returns true if all kinds are requested (None), or if one of the requested kinds includes
+/// inlining.
 fn allows_inlining(only: &Option<Vec<String>>) -> bool
     ensures { result ≡ allows (kinds_view only.now) }
 {
@@ -165,7 +166,7 @@ fn allows_inlining(only: &Option<Vec<String>>) -> bool
     }
 }
 
-/// Returns true if a request for these kinds of actions includes inlining.
+/// Returns true if one of these kinds of actions includes inlining.
 fn has_inlining_kind(kinds: &[String]) -> bool
     ensures { result ≡ list_any of_kind (map string_bytes kinds.now) }
 {
@@ -177,7 +178,7 @@ fn has_inlining_kind(kinds: &[String]) -> bool
     false
 }
 
-/// Returns true if a request for this kind of actions includes inlining.
+/// Returns true if this kind of actions includes inlining.
 fn is_inlining_kind(kind: &str) -> bool
     ensures { result ≡ of_kind kind.now }
 {

@@ -1,4 +1,4 @@
-//! Makes the diagnostics of a text, and their publication.
+//! Makes the diagnostics of a text, and the message that publishes them.
 //!
 //! The offsets of all starts and ends are sorted, and their positions are found in one pass
 //! (`TextStore::positions`). Each position is then looked up by binary search. If the search finds
@@ -56,7 +56,8 @@ pub fn diagnostics<T: TextStore>(
     locate_diagnostics(alloc, store, reported)
 }
 
-/// Returns the diagnostics of these diagnoses. One pass over the text finds their positions.
+/// Makes a diagnostic of each diagnosis. One pass over the text finds the positions of all starts
+/// and ends.
 fn locate_diagnostics<T: TextStore>(
     alloc: Global,
     store: &T,
@@ -88,8 +89,8 @@ fn offsets_of(alloc: Global, reported: &[Diagnosis]) -> Result<Vec<usize>, Alloc
     Ok(offsets)
 }
 
-/// Returns the diagnostics of these diagnoses. Their positions are looked up in `positions`, which
-/// has the positions of the byte offsets `offsets` (in ascending order).
+/// Makes a diagnostic of each diagnosis. The positions of its start and end are looked up in
+/// `positions`, which has the positions of the byte offsets `offsets` (in ascending order).
 fn attach_positions<T: TextStore>(
     alloc: Global,
     store: &T,
@@ -112,7 +113,7 @@ fn attach_positions<T: TextStore>(
     Ok(list)
 }
 
-/// Returns the position of a byte offset. If `offsets` contains the offset, the position is taken
+/// Returns the position of a byte offset. If `offsets` contains the offset, the position comes
 /// from `positions`, otherwise the store computes it.
 fn position_at<T: TextStore>(
     store: &T,

@@ -4,7 +4,7 @@ ghost use Rattle.ob0_session_answers.specs.Formatted.{RepliesToFormatting};
 
 use ob0_analysis::Analysis;
 use ob0_edits::format_edits;
-use ob0_rpc::{Id, result_of};
+use ob0_rpc::{Id, answer_text};
 use ob0_session_documents::DocumentRequest;
 use ob0_session_json::refusals::{ill_typed_refusal, refusal_with_reason};
 use ob0_text::{Indent, TextStore};
@@ -30,7 +30,7 @@ impl<'a, T: TextStore> DocumentRequest<T> for FormattingRequest<'a> {
     ) -> Result<Vec<u8>, AllocError> {
         match format_edits(alloc, text, analysis, self.indent)? {
             Some(outcome) => match outcome {
-                Ok(edits) => result_of(alloc, self.id, &edits.as_slice()),
+                Ok(edits) => answer_text(alloc, self.id, &edits.as_slice()),
                 Err(refusal) => refusal_with_reason(alloc, self.id, refusal),
             },
             None => ill_typed_refusal(alloc, self.id),

@@ -17,7 +17,7 @@ ghost use Rattle.ob0_session_answers.specs.Questions.{RepliesToQuestion, definit
 use ob0_analysis::{Analysis, Question, WellTyped, ask};
 use ob0_edits_tokens::{range_of, ranges};
 use ob0_refs::{definition, hover, references, renamable_span};
-use ob0_rpc::{DocumentPosition, Id, result_of};
+use ob0_rpc::{DocumentPosition, Id, answer_text};
 use ob0_scan::Span;
 use ob0_session_documents::DocumentRequest;
 use ob0_session_json::places::{HoverResult, Location, Locations, MarkupContent};
@@ -115,7 +115,7 @@ impl<'a, T: TextStore> DocumentRequest<T> for HoverRequest<'a> {
         let offset = text.offset(self.place.position);
         match ask(alloc, analysis, &HoverQuestion { offset })? {
             Some(found) => hover_answer(alloc, self.id, text, found),
-            None => result_of(alloc, self.id, &()),
+            None => answer_text(alloc, self.id, &()),
         }
     }
 }
@@ -142,7 +142,7 @@ impl<'a, T: TextStore> DocumentRequest<T> for DefinitionRequest<'a> {
         let offset = text.offset(self.place.position);
         match ask(alloc, analysis, &DefinitionQuestion { offset })? {
             Some(found) => location_answer(alloc, self.id, text, self.place.uri.as_str(), found),
-            None => result_of(alloc, self.id, &()),
+            None => answer_text(alloc, self.id, &()),
         }
     }
 }
@@ -201,7 +201,7 @@ impl<'a, T: TextStore> DocumentRequest<T> for PrepareRenameRequest<'a> {
         let offset = text.offset(self.place.position);
         match ask(alloc, analysis, &RenamableQuestion { offset })? {
             Some(found) => range_answer(alloc, self.id, text, found),
-            None => result_of(alloc, self.id, &()),
+            None => answer_text(alloc, self.id, &()),
         }
     }
 }
@@ -223,9 +223,9 @@ fn hover_answer<T: TextStore>(
                 value: shown.text.as_str(),
             };
             let range = range_of(store, shown.span);
-            result_of(alloc, id, &HoverResult { contents, range })
+            answer_text(alloc, id, &HoverResult { contents, range })
         }
-        None => result_of(alloc, id, &()),
+        None => answer_text(alloc, id, &()),
     }
 }
 
@@ -245,9 +245,9 @@ fn location_answer<T: TextStore>(
     match found {
         Some(span) => {
             let range = range_of(store, span);
-            result_of(alloc, id, &Location { range, uri })
+            answer_text(alloc, id, &Location { range, uri })
         }
-        None => result_of(alloc, id, &()),
+        None => answer_text(alloc, id, &()),
     }
 }
 
@@ -263,8 +263,8 @@ fn range_answer<T: TextStore>(
         bytes.items) }
 {
     match found {
-        Some(span) => result_of(alloc, id, &range_of(store, span)),
-        None => result_of(alloc, id, &()),
+        Some(span) => answer_text(alloc, id, &range_of(store, span)),
+        None => answer_text(alloc, id, &()),
     }
 }
 
@@ -284,5 +284,5 @@ fn locations_answer<T: TextStore>(
 {
     let ranges = ranges(alloc, store, spans)?;
     let ranges = ranges.as_slice();
-    result_of(alloc, id, &Locations { ranges, uri })
+    answer_text(alloc, id, &Locations { ranges, uri })
 }

@@ -8,7 +8,7 @@ ghost use Rattle.ob0_session_answers.specs.Renamed.{RepliesToRename, rename_requ
 
 use ob0_analysis::Analysis;
 use ob0_edits::rename_edits;
-use ob0_rpc::{ClientFeatures, DocumentPosition, Id, result_of};
+use ob0_rpc::{ClientFeatures, DocumentPosition, Id, answer_text};
 use ob0_session_documents::DocumentRequest;
 use ob0_session_json::edits::WorkspaceEdit;
 use ob0_session_json::refusals::{ill_typed_refusal, refusal_with_reason};
@@ -62,6 +62,6 @@ impl<'a> RenameRequest<'a> {
             version,
             edits,
         };
-        result_of(alloc, self.id, &edits)
+        answer_text(alloc, self.id, &edits)
     }
 }

@@ -42,7 +42,7 @@ last_members client =
 
 -- Returns the members of the capabilities after "definitionProvider":
 -- "documentFormattingProvider":true,"hoverProvider":true, then "positionEncoding":"utf-8" if the
--- client offers that, then the last members.
+-- client offers that, then `last_members`.
 abbrev pub remaining_members : ClientFeatures → Members
 remaining_members client =
     member (codes "documentFormattingProvider") (boolean true)
@@ -52,7 +52,7 @@ remaining_members client =
     else last_members client))
 
 -- Returns the server's capabilities: "codeActionProvider":{..} if the client accepts actions that
--- aren't commands, then "definitionProvider":true and the further members.
+-- aren't commands, then "definitionProvider":true, then `remaining_members`.
 abbrev pub server_capabilities : ClientFeatures → Data
 server_capabilities client =
     let members = member (codes "definitionProvider") (boolean true) (remaining_members client) in
@@ -75,7 +75,8 @@ pub record Diagnostic : Type 0 where
   pub start : Position
   pub end : Position
 
--- Returns the JSON value of a location, {"range":R,"uri":u}, from its uri and its range's value.
+-- Returns the JSON value of a location, {"range":R,"uri":u}, from its uri and the JSON value of its
+-- range.
 abbrev pub location_value : List ℕ → Data → Data
 location_value uri range =
     object (member (codes "range") range (member (codes "uri") (text uri) no_members))
@@ -90,8 +91,8 @@ plain_text said =
     object (member (codes "kind") (text (codes "plaintext"))
     (member (codes "value") (text said) no_members))
 
--- Returns the result of a hover request from its text and the JSON value of its range,
--- {"contents":{..},"range":R}.
+-- Returns the result of a hover request, {"contents":{..},"range":R}, from the hover text and the
+-- JSON value of its range.
 abbrev pub hover_value : List ℕ → Data → Data
 hover_value said range =
     object (member (codes "contents") (plain_text said) (member (codes "range") range no_members))
@@ -106,7 +107,8 @@ versioned_document uri version =
     object
     (member (codes "uri") (text uri) (member (codes "version") (whole_number version) no_members))
 
--- Returns the edits of a document at a version, {"edits":[E,..],"textDocument":{..}}.
+-- Returns the JSON value of the edits of one version of a document,
+-- {"edits":[E,..],"textDocument":{..}}.
 abbrev pub document_edit : List ℕ → ℤ → List Edit → Data
 document_edit uri version es =
     object (member (codes "edits") (edits_value es)
@@ -122,8 +124,8 @@ workspace_edit client uri version es =
     else object
     (member (codes "changes") (object (member uri (edits_value es) no_members)) no_members)
 
--- Returns the JSON value of a code action, from the value of its edits and its title,
--- {"edit":W,"kind":"refactor.inline","title":t}.
+-- Returns the JSON value of a code action, {"edit":W,"kind":"refactor.inline","title":t}, from the
+-- JSON value of its edits and from its title.
 abbrev pub action_value : Data → List ℕ → Data
 action_value edit title =
     object (member (codes "edit") edit (member (codes "kind") (text (codes "refactor.inline"))
@@ -145,8 +147,8 @@ diagnostic_value d =
 abbrev pub diagnostics_value : List Diagnostic → Data
 diagnostics_value ds = array (items_of (map diagnostic_value ds))
 
--- Returns the params of a publication, {"diagnostics":[D,..],"uri":u,"version":v}. After a close
--- the version is None, and `version` is left out.
+-- Returns the params of a publication, {"diagnostics":[D,..],"uri":u,"version":v}. If the version
+-- is None (after a close), there is no member `version`.
 abbrev pub publication_params : List ℕ → Option ℤ → List Diagnostic → Data
 publication_params uri (Some version) ds =
     object (member (codes "diagnostics") (diagnostics_value ds) (member (codes "uri") (text uri)

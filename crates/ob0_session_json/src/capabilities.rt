@@ -7,7 +7,7 @@ ghost use Rattle.ob0_rpc.specs.Writing.{Writes};
 ghost use Rattle.ob0_session_json.specs.Shapes.{action_provider, capabilities, remaining_members, last_members, rename_provider, server_capabilities, synchronisation};
 
 use ob0_rpc::{
-    ClientFeatures, Id, WriteJson, end_object, result_of, write_first_member, write_next_member,
+    ClientFeatures, Id, WriteJson, answer_text, end_object, write_first_member, write_next_member,
 };
 use std::alloc::{AllocError, Global};
 
@@ -21,7 +21,7 @@ pub fn initialize_answer(
         (λ bytes. Writes (result_message (id_data id.now) (capabilities client)) bytes.items) }
 {
     let capabilities = ServerCapabilities { client };
-    result_of(alloc, id, &InitializeResult { capabilities })
+    answer_text(alloc, id, &InitializeResult { capabilities })
 }
 
 /// The result of `initialize`: an object with the server's capabilities.

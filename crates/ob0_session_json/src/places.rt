@@ -15,12 +15,12 @@ use ob0_rpc::{
 use ob0_text::Range;
 use std::alloc::{AllocError, Global};
 
-/// The length in bytes of a buffer's free space for a location's text before its uri. That text is
-/// never longer.
+/// The length in bytes of the free space at the start of a buffer. A location's text before its uri
+/// fits into it, with the comma before that text.
 const PREFIX_CAPACITY: usize = 192;
 
-/// A length in bytes that a location's text before its uri usually fits in. The capacity for a list
-/// of locations is estimated with it.
+/// An estimate of the length in bytes of a location's text before its uri. It serves to reserve
+/// capacity for a list of locations.
 const TYPICAL_PREFIX: usize = 96;
 
 /// A location: a range of the document with this uri.
@@ -40,7 +40,7 @@ impl<'a> WriteJson for Location<'a> {
     }
 }
 
-/// Several ranges of one document, written as a list of locations.
+/// Ranges of one document, which are written as a list of locations.
 #[derive(Drop)]
 pub struct Locations<'a> {
     pub ranges: &'a [Range],
@@ -88,8 +88,9 @@ fn location_buffer(alloc: Global, uri: &str) -> Result<Vec<u8>, AllocError>
     Ok(buffer)
 }
 
-/// Writes a comma and a location's text up to its range into the free space, so that they end right
-/// before the text that follows the range. Returns the index of the comma in the buffer.
+/// Writes a comma and the start of a location's text, with its range, into the free space. They end
+/// right before the index 192. The rest of the location's text begins at that index. Returns the
+/// index of the comma.
 fn write_location_before(buffer: &mut [u8], range: Range) -> usize
     requires { 192 ≤ length buffer.old }
     ensures within { result < 192 }

@@ -55,7 +55,7 @@ start = record { phase = Starting; client = no_features; held = no_open_document
 -- ---- the reply to one message
 
 -- The reply to one message: nothing, a given message, or a message that depends on a document's
--- text: its diagnostics, or the answer to a request about it.
+-- text. Such a message has the text's diagnostics, or it answers a request about the text.
 pub data Reply : Type 0 where
   nothing : Reply
   -- Exactly this message.
@@ -126,8 +126,8 @@ react_with_fault s id fault = react_with_error s id (error_code fault) (error_te
 abbrev pub begins : ClientFeatures → ServerState
 begins client = record { phase = Running; client = client; held = no_open_documents (unit_for client) }
 
--- Returns the reaction to a request about a document. The reply is `say` of its version and text if
--- the document is open and in step, otherwise a refusal.
+-- Returns the reaction to a request about a document. If the document is open and in step, `say`
+-- makes the reply from its version and text. Otherwise the reply is a refusal.
 abbrev pub react_about_document : ServerState → Data → Option Document → (ℤ → List ℕ → Reply) → Reaction
 react_about_document s id (Some (InStep version text)) say = unchanged_with s (say version text)
 react_about_document s id (Some OutOfStep) say = unchanged_with s (says (edit_refusal id (codes "out of step")))
@@ -257,8 +257,8 @@ AnswersBeforeEnd before content sent after =
     × (let r = react before (meaning json) in (after ≡ r.after) × AreContentsOfReply r.say sent)
 
 -- Holds if a server in this phase answers this content with these messages, and `after` is its next
--- state. After its end it sends nothing and its state is unchanged. After a failed allocation
--- nothing is an answer.
+-- state. If the session has ended, nothing is sent and the state is unchanged. In the phase
+-- `Failed` (after a failed allocation) it never holds.
 abbrev pub AnswersInPhase : Phase → ServerState → List ℕ → List (List ℕ) → ServerState → Type 0
 AnswersInPhase (Ended status) before content sent after = (sent ≡ []) × (after ≡ before)
 AnswersInPhase Failed before content sent after = ⊥
@@ -269,8 +269,8 @@ AnswersInPhase phase before content sent after = AnswersBeforeEnd before content
 abbrev pub Answers : ServerState → List ℕ → List (List ℕ) → ServerState → Type 0
 Answers before content sent after = AnswersInPhase before.phase before content sent after
 
--- Holds if the server replies to this content with the messages `first`, the first ones of `sent`,
--- and `Follows` holds for the resulting state and the remaining messages.
+-- Holds if the server may reply to this content with `first`, a prefix of the messages `sent`.
+-- `Follows` must hold for the state after the reply and for the other messages of `sent`.
 pub record AnswersFirst (before : ServerState) (content : List ℕ) (sent : List (List ℕ))
     (Follows : ServerState → List (List ℕ) → Type 0) : Type 0 where
   pub between : ServerState

@@ -20,8 +20,8 @@ SendsReply reply sent = AreContentsOfReply reply (option_to_list (option_map (λ
 abbrev pub Reacts : Reaction → Option (Vec ℕ Global) → ServerState → Type 0
 Reacts r sent new = (new ≡ r.after) × SendsReply r.say sent
 
--- Holds if the message is the reply for this outcome of a request about a document: the outcome's
--- message, or the refusal if the document is out of step or isn't open.
+-- Holds if the message is the reply for this outcome of a request about a document. It is the
+-- outcome's message, or a refusal if the document is out of step or isn't open.
 abbrev pub RepliesForOutcome : Data → RequestOutcome → Option (Vec ℕ Global) → Type 0
 RepliesForOutcome id (Answered message) sent = sent ≡ Some message
 RepliesForOutcome id OutOfStep sent = SendsReply (says (edit_refusal id (codes "out of step"))) sent

@@ -8,7 +8,7 @@ ghost use Rattle.ob0_session_server.specs.Units.{unit_for};
 
 use ob0_rpc::{
     ClientFeatures, ClientNotification, ClientRequest, DocumentPosition, Id, Incoming, RpcFault,
-    error, notice, read, request, result_of,
+    answer_text, error, notice, read, request,
 };
 use ob0_session_answers::{
     ActionsRequest, DefinitionRequest, FormattingRequest, HoverRequest, PrepareRenameRequest,
@@ -36,7 +36,7 @@ pub enum Phase {
     Failed,
 }
 
-/// Whether a session continues after a step, or has ended with an exit status.
+/// Says whether a session continues after a step or has ended with an exit status.
 #[derive(Clone, Copy, Debug, Drop, PartialEq, Eq)]
 pub enum Next {
     Continue,
@@ -217,7 +217,8 @@ impl<T: TextStore> Session<T> {
         Ok(Some(error(self.alloc, id, fault.code(), fault.text())?))
     }
 
-    /// Answers a request as the phase of the lifecycle requires: with its answer or with an error.
+    /// Answers a request, with an error if the phase of the lifecycle doesn't allow it. Returns
+    /// None if the session has ended or an allocation has failed.
     fn reply_to_request(
         &mut self,
         id: &Id,
@@ -280,7 +281,7 @@ impl<T: TextStore> Session<T> {
             }
             ClientRequest::Shutdown => {
                 self.phase = Phase::ShutDown;
-                Ok(Some(result_of(self.alloc, id, &())?))
+                Ok(Some(answer_text(self.alloc, id, &())?))
             }
             ClientRequest::Hover(place) => {
                 let request = HoverRequest { id, place: &place };
@@ -491,7 +492,7 @@ impl<T: TextStore> Session<T> {
     }
 
     /// Changes a document, and returns the message that publishes its diagnostics. Returns None if
-    /// it isn't open or is out of step.
+    /// the document isn't open or is out of step.
     fn change(
         &mut self,
         uri: String,
@@ -505,8 +506,8 @@ impl<T: TextStore> Session<T> {
         self.publish(uri.as_str())
     }
 
-    /// Closes a document, and returns the message that clears its diagnostics. Returns None if it
-    /// wasn't open.
+    /// Closes a document, and returns the message that clears its diagnostics. Returns None if the
+    /// document wasn't open.
     fn close(&mut self, uri: &str) -> Result<Option<Vec<u8>>, AllocError>
         ensures { IfOk result
             (λ sent. Reacts (apply_notification self.old (closes uri.now)) sent self.new) }
@@ -531,8 +532,8 @@ impl<T: TextStore> Session<T> {
     }
 }
 
-/// Returns the answer to a request about a document with this outcome: its message, or a refusal
-/// if the document is out of step or isn't open.
+/// Returns the reply for this outcome of a request about a document. It is the outcome's message,
+/// or a refusal if the document is out of step or isn't open.
 fn reply_for_outcome(
     alloc: Global,
     id: &Id,

@@ -6,8 +6,8 @@ use crate::rpc::Asked::{Content, Notification, Request, Sent};
 use crate::rpc::Message::*;
 use crate::text::at;
 use ob0_rpc::{
-    Call, ClientFeatures, Id, Incoming, Note, OneMemberObject, RpcFault, error, notice,
-    notification, notification_of, read, request, result, result_of,
+    Call, ClientFeatures, Id, Incoming, Note, OneMemberObject, RpcFault, answer_text, error,
+    notice, notification, notification_of, read, request, result,
 };
 use ob0_text::{Indent, Range};
 use serde_json::{Value, json};
@@ -263,28 +263,28 @@ fn value_of_each_kind(alloc: Global) -> Result<Value, AllocError> {
 /// Returns the content of an answer that is a range.
 fn range_written(alloc: Global, start: (u64, u64), end: (u64, u64)) -> Result<Vec<u8>, AllocError> {
     let (start, end) = (at(start.0, start.1), at(end.0, end.1));
-    result_of(alloc, &Id::Signed(1), &Range { start, end })
+    answer_text(alloc, &Id::Signed(1), &Range { start, end })
 }
 
 /// Returns the content of an answer that is an object with one member.
 fn member_written(alloc: Global) -> Result<Vec<u8>, AllocError> {
     let (key, value) = ("a b", Some(at(1, 2)));
-    result_of(alloc, &Id::Signed(0), &OneMemberObject { key, value })
+    answer_text(alloc, &Id::Signed(0), &OneMemberObject { key, value })
 }
 
 /// Returns the content of a message.
 fn written(alloc: Global, message: Message) -> Result<Vec<u8>, AllocError> {
     const MOST: (u64, u64) = (u64::MAX, u64::MAX);
     match message {
-        Nothing => result_of(alloc, &Id::Signed(-7), &()),
+        Nothing => answer_text(alloc, &Id::Signed(-7), &()),
         Refusal(fault) => error(alloc, None, fault.code(), fault.text()),
         NoteOfNothing => notification_of(alloc, "m", &()),
         LargestRange => range_written(alloc, MOST, MOST),
         OneRange => range_written(alloc, (0, 9), (10, 12345)),
-        LargestNumber => result_of(alloc, &Id::Unsigned(0), &u64::MAX),
-        LeastNumber => result_of(alloc, &Id::Unsigned(u64::MAX), &i64::MIN),
-        Text => result_of(alloc, &Id::Signed(-7), &"a\"\n\u{1}"),
-        Truths => result_of(alloc, &Id::Signed(0), &[true, false].as_slice()),
+        LargestNumber => answer_text(alloc, &Id::Unsigned(0), &u64::MAX),
+        LeastNumber => answer_text(alloc, &Id::Unsigned(u64::MAX), &i64::MIN),
+        Text => answer_text(alloc, &Id::Signed(-7), &"a\"\n\u{1}"),
+        Truths => answer_text(alloc, &Id::Signed(0), &[true, false].as_slice()),
         Member => member_written(alloc),
         EachKind => result(alloc, &Id::Unsigned(5), value_of_each_kind(alloc)?),
         NoteOfEachKind => notification(alloc, "m", value_of_each_kind(alloc)?),

@@ -6,8 +6,8 @@ use Rattle.ob0_text.specs.declared.replaced_bytes.ReplacedBytes.{ReplacedBytes}
 use Rattle.ob0_text.specs.Texts.{byte_len}
 use Rattle.ob0_text.specs.OpenDocuments.{OpenDocuments, document_at, text_of}
 
--- Holds if the new text differs from the old one only in the replaced bytes `r`: the bytes before
--- and after them are equal. Both texts have fewer than 2^64 bytes.
+-- Holds if the new text differs from the old one only in the replaced bytes `r`. The bytes before
+-- and after `r` are the same in both texts. Both texts have fewer than 2^64 bytes.
 pub record IsChangedAt (old new : List ℕ) (r : ReplacedBytes) : Type 0 where
   pub inside_old : r.from + r.removed ≤ byte_len old
   pub inside_new : r.from + r.added ≤ byte_len new
@@ -18,7 +18,8 @@ pub record IsChangedAt (old new : List ℕ) (r : ReplacedBytes) : Type 0 where
       ≡ drop (r.from + r.added) (encode_utf8_all new)
 
 -- Holds if the replaced bytes contain every change from the old text (first argument) to the new
--- one. They are None if the old text isn't known. They may be None if the text is unchanged.
+-- one. If the old text isn't known, they must be None. Otherwise None means that the text is
+-- unchanged.
 abbrev pub CoversAllChanges : Option (List ℕ) → Option (List ℕ) → Option ReplacedBytes → Type 0
 CoversAllChanges None new hull = hull ≡ None
 CoversAllChanges (Some old) new None = new ≡ Some old

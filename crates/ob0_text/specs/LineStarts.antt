@@ -1,12 +1,12 @@
 -- Defines the byte offsets at which the lines of a text start. A line starts after an LF, and after
 -- a CR that no LF follows. So the two bytes next to an offset decide. The text's start counts as an
--- offset after an LF, so the whole table is `starts_after 0 (LF ∷ bytes) []` (`StartLaws.table`,
--- from the starts after each character, `following_ends`). The starts in a run of bytes are those
--- of its first part followed by those of its second part (`following-append`). They depend only on
--- the first byte after the run (`following-next`), and shift with its offset (`following-moved`).
--- So a change keeps the starts before it, tests its own bytes and one on either side, and shifts
--- the starts after it (`table-mended`). A CR and an LF that a change joins or separates need no
--- separate case.
+-- offset after an LF. So the whole table is `starts_after 0 (LF ∷ bytes) []` (`StartLaws.table`),
+-- which follows from the starts after each character (`following_ends`). If a run of bytes has two
+-- parts, the starts in the first part come first, then the starts in the second part
+-- (`following-append`). The starts in a run depend only on the first byte after the run
+-- (`following-next`), and shift with the run's offset (`following-moved`). So a change keeps the
+-- starts before it, tests its own bytes and one byte on either side, and shifts the starts after it
+-- (`table-mended`). A CR and an LF that a change joins or separates need no separate case.
 -- Rule: docs/PROTOCOL.md, Positions 2 (by bytes, for the table of lines).
 use Rattle.std.specs.Prelude.{◌≡◌, ℕ, suc, ◌+◌, ◌-◌, ◌<◌, ◌≤◌, if◌then◌else◌, List, [], ◌∷◌, ◌++◌, length, map, reverse, slice_index, refl}
 use Rattle.std.specs.Str.{chars}
@@ -28,8 +28,8 @@ starts_from at (l ∷ ls) = at ∷ starts_from (at + byte_len (line_with_ending 
 abbrev pub line_starts : List ℕ → List ℕ
 line_starts text = starts_from 0 (lines text)
 
--- Returns the offsets, each right after one of these bytes, at which a line starts. `at` is the
--- offset after the first byte, and the bytes `next` follow the last one.
+-- Returns those offsets right after one of these bytes at which a line starts. `at` is the offset
+-- after the first byte. The bytes `next` follow the last byte.
 unfoldable pub starts_after : ℕ → List ℕ → List ℕ → List ℕ
 starts_after at [] next = []
 starts_after at (b ∷ bs) next =
@@ -63,9 +63,9 @@ text_code =
     code_by (List ℕ × Unit) (coded× (coded_list coded_ℕ) unit_code) (λ t. (t.text, t.unit))
     (λ p. record { text = p.0; unit = p.1 }) (λ t. refl)
 
--- Returns the line starts that two lists store. The first list has the starts of the first lines.
--- The second has the other lines, the last one first: the distances of their starts from the end of
--- a text of length `len`.
+-- Returns the line starts that two lists store. `front` has the starts of the first lines. `back`
+-- has the other starts, the last line first, each as its distance from the end of the text. `len`
+-- is the length of the text in bytes.
 abbrev pub stored_starts : ℕ → List ℕ → List ℕ → List ℕ
 stored_starts len front back = front ++ map (λ d. len - d) (reverse back)
 
@@ -75,7 +75,7 @@ pub record LineStartTable : Type 0 where
   pub starts : List ℕ
   pub len : ℕ
 
--- Holds if the table has the line starts of the text and its length in bytes.
+-- Holds if the table has the line starts and the length of this text, both in bytes.
 pub record HasLines (text : List ℕ) (t : LineStartTable) : Type 0 where
   pub starts : t.starts ≡ line_starts (chars text)
   pub len : t.len ≡ length text

@@ -16,14 +16,14 @@ use Rattle.ob0_text.specs.Texts.{before, byte_len, position_of}
 abbrev pub at : ℕ → ℕ → Position
 at line character = record { line = line; character = character }
 
--- Returns the position in the whole text for `p`, which is relative to the place with this line and
--- character.
+-- Returns the position in the whole text of a position `p` that is counted from the place with this
+-- line and character.
 abbrev pub absolute_position : ℕ → ℕ → Position → Position
 absolute_position line character p =
     if p.line == 0 then at line (character + p.character) else at (line + p.line) p.character
 
--- Returns the position `p` of the whole text, relative to the place with this line and character.
--- This is the inverse of `absolute_position`.
+-- Returns the position `p` of the whole text as it is counted from the place with this line and
+-- character. This is the inverse of `absolute_position`.
 abbrev pub relative_position : ℕ → ℕ → Position → Position
 relative_position line character p =
     if p.line == line then at 0 (p.character - character) else at (p.line - line) p.character
@@ -39,8 +39,8 @@ pub record IsRest (text rest : List ℕ) (offset : ℕ) : Type 0 where
   pub utf8 : IsUtf8 rest
   pub here : length front ≡ offset
 
--- Holds if the position of each later offset can be counted from an offset that a pass has reached,
--- with this line and character and the rest of the text. Neither number exceeds the number of bytes
+-- Holds if a pass at this offset, line and character can count the position of each later offset in
+-- `rest`, the text after the offset. The line and the character are at most the number of bytes
 -- before the offset.
 pub record IsCounted (width : ℕ → ℕ) (text rest : List ℕ) (offset line character : ℕ) : Type 0 where
   pub rest_is : IsRest text rest offset
@@ -55,9 +55,9 @@ pub record IsCounted (width : ℕ → ℕ) (text rest : List ℕ) (offset line c
 abbrev pub CanCountFrom : (ℕ → ℕ) → List ℕ → PassState → Type 0
 CanCountFrom width text p = IsCounted width text (drop p.offset text) p.offset p.line p.character
 
--- Holds if a pass that looks for the position `sought` has reached an offset at or before it. The
--- offset of that position, and of each later one, can be found from this line and character and the
--- rest of the text.
+-- Holds if a pass that looks for the position `sought` is at or before it. The offsets of `sought`
+-- and of each later position can be found from this line and character and from `rest`, the text
+-- after the pass's offset.
 pub record IsSought (width : ℕ → ℕ) (text : List ℕ) (sought : Position) (rest : List ℕ)
     (offset line character : ℕ) : Type 0 where
   pub rest_is : IsRest text rest offset

@@ -5,10 +5,10 @@
 //! 64 bytes before the change. The search for the start of the next change begins there: stretches
 //! are removed from the part's end or added to it (`shorten_to`, `extend_to`). So replacing all
 //! occurrences in one long line takes time only for the text between the changes, in either order.
-//! The part contains only text before the change (`kept_if_before`), so it is still valid after the change,
-//! whatever lines the change makes. `place_after_counted` tests whether a line still starts at the
-//! part's start. If changes alternate between two places of one long line, each change passes over
-//! the text between them.
+//! The part contains only text before the change (`kept_if_before`). So the part is still valid
+//! after the change, whatever lines the change makes. `place_after_counted` tests whether a line
+//! still starts at the part's start. If changes alternate between two places of one long line, each
+//! change passes over the text between them.
 
 ghost use Rattle.std.specs.Prelude.{◌≡◌, ◌+◌, ◌-◌, ◌<◌, ◌≤◌, ◌++◌, ℕ, List, IfSome, length, take};
 ghost use Rattle.ob0_text.specs.Units.{width_of};
@@ -18,7 +18,7 @@ use crate::position_types::Unit;
 use crate::stretches::{STRETCH_BYTES, Stretch, next_stretch, units_of};
 
 /// Consecutive characters of a line whose units have been counted. They begin at the byte offset
-/// `start`.
+/// `start`. `counted` has their end and the number of their units.
 #[derive(Clone, Copy, Drop)]
 pub struct CountedPiece {
     pub start: usize,

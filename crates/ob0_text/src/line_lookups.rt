@@ -1,16 +1,17 @@
 //! Looks up offsets and positions with the table of a text's lines.
 //!
-//! `count_starts_before` is a binary search. Its contract covers each split of the table into offsets
-//! below a bound and offsets at or above it: the result is the length of the first part. In the
-//! loop this length stays between `low` and `high` (`in_front`, `not_in_front` in `Halving`). A
+//! `count_starts_before` is a binary search. Its contract covers each split of the table into
+//! offsets below a bound and offsets at or above it: the result is the length of the first part.
+//! The loop keeps this length between `low` and `high` (`in_front`, `not_in_front` in `Halving`). A
 //! pass may begin at the start of any line (`line_counted`, `line_sought` in `LinePlaces`). So the
-//! result is correct whichever line it begins at; the nearest one only saves time.
+//! result is correct whichever line the pass begins at; the nearest line only saves time.
 //!
-//! In a list of offsets or positions, each look-up continues at the previous place if the next one
-//! follows in the same line or less than 32 bytes later. Otherwise it starts at the beginning of
-//! the line, which the table gives (`nearest_place_before`, `place_from_last`). So places in one line take
-//! time only for the text between them, and each other place takes a binary search. In one long
-//! line this is a single pass, as in the plain store `Whole`. If both ends of a changed range are
+//! The offsets or positions of a list are looked up in order. A look-up continues at the previous
+//! place if the next one follows in the same line. For offsets, it also does if the next one is
+//! less than 32 bytes later. Otherwise it starts at the beginning of the line, which the table
+//! gives (`nearest_place_before`, `place_from_last`). So places in one line take time only for the
+//! text between them, and each other place takes a binary search. For one long line, all look-ups
+//! together are a single pass, as in the plain store `Whole`. If both ends of a changed range are
 //! in one line, one pass finds them (`range_offsets`).
 
 ghost use Rattle.std.specs.Prelude.{◌≡◌, ◌+◌, ◌-◌, ◌<◌, ◌≤◌, IfOk, length, map, min, slice_get, slice_index};
@@ -43,8 +44,8 @@ pub fn offset_in(text: &str, table: &LineTable, unit: Unit, position: Position) 
     place_of_position(text, table, unit, position).offset
 }
 
-/// The byte offsets at which a range starts and ends, and the counted part of the line in which the
-/// range starts.
+/// The byte offsets at which a range starts and ends. `counted` is a part of the line in which the
+/// range starts, with the number of its units.
 #[derive(Clone, Copy, Drop)]
 pub struct RangeOffsets {
     pub start: usize,
@@ -52,9 +53,9 @@ pub struct RangeOffsets {
     pub counted: CountedPiece,
 }
 
-/// Returns the byte offsets of a range's start and end. The search for the start begins at the part
-/// of the line that was counted last (`last`). If the range ends in the line in which it starts,
-/// the search for the end begins at the start.
+/// Returns the byte offsets of a range's start and end. The search for the start begins with
+/// `last`, the part of a line that was counted last. If the range ends in the line in which it
+/// starts, the search for the end begins at the range's start.
 pub fn range_offsets(
     text: &str,
     table: &LineTable,
@@ -84,7 +85,7 @@ pub fn range_offsets(
 }
 
 /// Counts a piece of the position's line that ends at or shortly before the position. Counting
-/// begins at the piece that was counted last (`last`).
+/// begins with `last`, the piece that was counted last.
 fn counted_piece_before(
     text: &str,
     table: &LineTable,
@@ -106,8 +107,8 @@ fn counted_piece_before(
     }
 }
 
-/// Returns the place of a position. The search begins after the counted part of its line if that
-/// part ends at or before the position, otherwise at the start of the line.
+/// Returns the place of a position. If the counted part of its line ends at or before the position,
+/// the search begins after that part. Otherwise it begins at the start of the line.
 fn place_after_counted(
     text: &str,
     table: &LineTable,
@@ -178,8 +179,9 @@ pub fn positions_in(
     Ok(positions)
 }
 
-/// Returns the byte offsets of positions, in order. The search for each begins at the previous
-/// place if both positions are in the same line, otherwise at the start of its line.
+/// Returns the byte offsets of positions, in order. The search for a position begins at the
+/// previous place if that is in the same line and not after the position. Otherwise it begins at
+/// the start of the position's line.
 pub fn offsets_in(
     alloc: Global,
     text: &str,
@@ -224,8 +226,9 @@ fn place_from_last(
     }
 }
 
-/// Returns the place from which an offset is counted: the last place of a pass if that is near or
-/// in the same line, otherwise the start of the offset's line.
+/// Returns the place at which a pass to an offset begins. It is `place`, the last place of the
+/// pass, if that isn't after the offset, and is near it or in its line. Otherwise it is the start
+/// of the offset's line.
 fn nearest_place_before(text: &str, table: &LineTable, place: PassState, offset: usize) -> PassState
     requires { HasLines text.now table.now }
     ensures place { (unit : Unit) → CanCountFrom (width_of unit) text.now place

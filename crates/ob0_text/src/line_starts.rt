@@ -16,9 +16,9 @@ pub fn line_starts_of(alloc: Global, text: &str) -> Result<Vec<usize>, AllocErro
     Ok(starts)
 }
 
-/// Returns the offsets, from the start of `new` to its end, at which a line starts if `new`
-/// replaces the bytes `from..to` of the text. The byte before the change and the bytes after it are
-/// considered as well.
+/// Returns the byte offsets at which a line starts after `new` replaces the bytes `from..to` of the
+/// text. The result has only offsets from the start of `new` to its end, both included. It also
+/// depends on the byte before `from` and the bytes after `to`.
 pub fn line_starts_in_change(
     alloc: Global,
     text: &str,
@@ -86,8 +86,8 @@ fn add_line_starts(
     Ok(())
 }
 
-/// Returns true if a line starts between the byte `last` and the byte `next` (None at the end of the text). No line
-/// starts between CR and LF.
+/// Returns true if a line starts between the byte `last` and the byte `next`, which is None at the
+/// end of the text. No line starts between CR and LF.
 #[tactic(auto, unfolding(crate::specs::Texts::ends_line, crate::specs::Texts::starts_with_lf))]
 #[inline(always)]
 fn separates_lines(last: u8, next: Option<u8>) -> bool

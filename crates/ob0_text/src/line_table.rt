@@ -4,13 +4,15 @@
 //! distances from the text's end, last line first. So a change doesn't alter the distances of the
 //! starts after it (`with_the_end` in `LineTables`). A change takes time for the starts that it
 //! adds or drops, and for the starts between it and the previous change. `move_starts_to_back` and
-//! `move_starts_to_front` move these from one part to the other; their clauses say that no start changes. If
-//! changes alternate between two distant places, each change moves all starts between them.
+//! `move_starts_to_front` move these from one part to the other; their clauses say that no start
+//! changes. If changes alternate between two distant places, each change moves all starts between
+//! them.
 //!
-//! `replace_untrimmed` allocates all memory first: for the new starts, for both parts of the table, then for the
-//! text. After that no allocation can fail, as the contracts of `reserve` and `extend_from_slice`
-//! say. If an allocation fails while starts are moved, the table is split at another line but is
-//! still the text's. At the end `replace` releases spare memory (`spare_room.rt`).
+//! `replace_untrimmed` allocates all memory first: for the new starts, for both parts of the table,
+//! then for the text. After that no allocation can fail, as the contracts of `reserve` and
+//! `extend_from_slice` say. If an allocation fails while starts are moved, the two parts divide the
+//! table at another line, but the table is still the text's. At the end `replace` releases spare
+//! memory (`spare_room.rt`).
 
 ghost use Rattle.std.specs.Prelude.{◌≡◌, ◌+◌, ◌<◌, ◌≤◌, ◌++◌, IfOk, OnOk, OnErr, drop, length, min, slice_index, string_bytes, take};
 ghost use Rattle.std.specs.Str.{IsCharBoundary};

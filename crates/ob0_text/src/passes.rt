@@ -4,8 +4,8 @@
 //! over ASCII bytes, even across lines (`skip_ascii`), because the places of edits are close
 //! together. It decodes only CR and characters outside ASCII. The pass towards a position decodes
 //! each character: in the store `Lines` fewer than 64 characters of the line are left. Each pass
-//! preserves one invariant (`CanCountFrom`, `CanSeekFrom`). `StretchSteps` proves that a whole stretch
-//! preserves it, from the step over one character.
+//! preserves one invariant (`CanCountFrom`, `CanSeekFrom`). `StretchSteps` proves that a whole
+//! stretch preserves it, from the step over one character.
 
 ghost use Rattle.std.specs.Prelude.{◌≡◌, ◌↔◌, ◌==◌, ◌||◌, ◌+◌, ◌-◌, ◌<◌, ◌≤◌, IfOk, IfSome, IsTrue, None, map};
 ghost use Rattle.std.specs.Str.{IsCharBoundary, chars};
@@ -119,8 +119,8 @@ fn is_line_break(c: char) -> bool
     c == '\n' || c == '\r'
 }
 
-/// Returns true if the character `c` before the text `rest` ends a line. A CR before an LF doesn't, because that LF
-/// does.
+/// Returns true if the character `c` ends a line. `rest` is the text after it. A CR before an LF
+/// doesn't end the line, because the LF does.
 fn ends_line(c: char, rest: &str) -> bool
     ensures { result ≡ ends_line c (chars rest.now) }
 {
@@ -156,8 +156,8 @@ pub fn advance_to_offset(text: &str, unit: Unit, from: PassState, offset: usize)
     place
 }
 
-/// Skips stretches of the line that end at or before a byte offset, and returns the place after
-/// them.
+/// Skips stretches of the line, as long as they end at or before a byte offset. Returns the place
+/// after them.
 fn skip_stretches_to(text: &str, unit: Unit, from: PassState, offset: usize) -> PassState
     requires place { CanCountFrom (width_of unit) text.now from }
     requires following { from.offset ≤ offset }
@@ -180,8 +180,8 @@ fn skip_stretches_to(text: &str, unit: Unit, from: PassState, offset: usize) -> 
     place
 }
 
-/// Skips ASCII characters other than CR that end at or before a byte offset, and returns the place
-/// after them. They are recognized by their bytes, without decoding.
+/// Skips ASCII characters other than CR, as long as they end at or before a byte offset. Returns
+/// the place after them. The characters are recognized by their bytes, without decoding.
 fn skip_ascii(text: &str, unit: Unit, from: PassState, offset: usize) -> PassState
     requires place { CanCountFrom (width_of unit) text.now from }
     requires following { from.offset ≤ offset }
@@ -288,8 +288,8 @@ pub fn advance_to_position(text: &str, unit: Unit, from: PassState, position: Po
     }
 }
 
-/// Skips stretches of the position's line that end at or before the position, and returns the place
-/// after them. A place outside that line is returned unchanged.
+/// Skips stretches of the position's line, as long as they end at or before the position. Returns
+/// the place after them. A place outside that line is returned unchanged.
 fn skip_stretches(text: &str, unit: Unit, from: PassState, position: Position) -> PassState
     requires place { CanSeekFrom (width_of unit) text.now position from }
     ensures place { CanSeekFrom (width_of unit) text.now position result }

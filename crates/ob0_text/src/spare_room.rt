@@ -1,11 +1,11 @@
 //! Releases spare memory.
 //!
 //! A list keeps its capacity when it gets shorter. `trim_list` and `trim_text` release most of the
-//! capacity once less than a quarter of it is used, and more than a little (`MAX_SPARE`) would be
-//! released. So an open document occupies a few times its own length, however long it was before.
-//! Room for twice the length is kept, so a list has to grow or shrink by its own length before
-//! memory is moved again. No clause bounds the capacity, because std's `shrink_to` keeps it if a
-//! smaller block can't be allocated.
+//! capacity if the used part and `MAX_SPARE` together are less than a quarter of it. So an open
+//! document occupies a few times its own length, however long it was before. Room for twice the
+//! length is kept. So a list has to grow or shrink by its own length before memory is moved again.
+//! No clause bounds the capacity, because std's `shrink_to` keeps it if a smaller block can't be
+//! allocated.
 
 ghost use Rattle.std.specs.Prelude.{◌≡◌, string_bytes};
 

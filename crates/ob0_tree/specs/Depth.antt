@@ -1,4 +1,4 @@
--- The nesting depth as the code counts it: in 32 bits, with saturating addition.
+-- Defines the nesting depth as the code counts it: in 32 bits, with saturating addition.
 -- Rule: none; for contracts: nesting as the code counts it.
 use Rattle.std.specs.Prelude.{ℕ, min}
 

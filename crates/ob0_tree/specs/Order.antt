@@ -1,4 +1,4 @@
--- Defines the identifiers of a tree as indexes of a text's tokens, and their order.
+-- Defines the token indexes of the identifiers of a tree, and when such indexes ascend.
 -- Rule: none; for contracts: identifiers by their places.
 use Rattle.std.specs.Prelude.{◌≡◌, ℕ, ◌+◌, ◌≤◌, ◌<◌, List, [], ◌∷◌, ◌++◌, map, length}
 use Rattle.std.specs.List.{HoldsAt}
@@ -14,7 +14,7 @@ abbrev pub AreAscending : ℕ → List ℕ → ℕ → Type 0
 AreAscending low [] high = low ≤ high
 AreAscending low (x ∷ xs) high = (low ≤ x) × AreAscending (x + 1) xs high
 
--- Returns only the identifiers from a list of identifiers with their roles.
+-- Returns the identifiers of a list without their roles, in the same order.
 abbrev pub names_without_roles : {N : Type 0} → List (Role × N) → List N
 names_without_roles xs = map (λ x. x.1) xs
 
@@ -22,7 +22,7 @@ names_without_roles xs = map (λ x. x.1) xs
 abbrev pub leaves : {N : Type 0} {s : Sort} → Tree N s → List N
 leaves t = names_without_roles (identifiers role.Declaring t)
 
--- Returns a list of the index `i` if the kind is the identifier, otherwise an empty list.
+-- Returns a list with only `i` if a token of this kind is an identifier, otherwise an empty list.
 abbrev pub identifier_index : ℕ → TokenKind → List ℕ
 identifier_index i kind.Identifier = i ∷ []
 identifier_index i k = []

@@ -121,11 +121,12 @@ pub data Tree (N : Type 0) : Sort → Type 0 where
   has_body : Tree N declarations → Tree N (maybe body) → Tree N block
   is_module : N → Tree N block → N → Tree N module_text
 
--- Returns a list of only the reserved word or symbol of this kind.
+-- Returns a list of one token: the reserved word or symbol of this kind.
 abbrev pub single_token : {N : Type 0} → TokenKind → List (Terminal N)
 single_token k = Mark k ∷ []
 
--- Returns the tokens of a tree, with one case for each production of the grammar.
+-- Returns the tokens that a tree spells, in text order. There is one case for each production of
+-- the grammar.
 abbrev pub spell : {N : Type 0} {s : Sort} → Tree N s → List (Terminal N)
 spell none = []
 spell (one t) = spell t
@@ -220,8 +221,9 @@ spell (is_module name b closing) =
     ∷ (spell b
     ++ (Mark (kind.ReservedWord reserved.End) ∷ Name closing ∷ single_token (kind.Symbol symbol.Dot)))
 
--- Returns the greatest number of constructs that are nested in each other. A construct counts if
--- its case of this definition adds 1.
+-- Returns the greatest number of constructs that are nested in each other. Parenthesised and
+-- negated factors, indexes, IF, WHILE and REPEAT, array and record types, and procedures count:
+-- their cases add 1.
 abbrev pub nesting : {N : Type 0} {s : Sort} → Tree N s → ℕ
 nesting none = 0
 nesting (one t) = nesting t

@@ -1,4 +1,5 @@
--- Defines the state of a walk after the identifiers of a part of a module, visited in text order.
+-- Defines the state of a walk after it has visited the identifiers of a part of a module in text
+-- order.
 -- Rule: none; for contracts of walks over identifiers.
 use Rattle.std.specs.Prelude.{ℕ, List, [], ◌∷◌}
 use Rattle.ob0_tree.specs.declared.tree.Role.{Role}

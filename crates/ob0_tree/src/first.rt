@@ -9,8 +9,8 @@ use crate::tree::{
     CompoundExpression, Elsif, Expression, Factor, If, SimpleExpression, Statement, Term,
 };
 
-/// Returns the index of the token of the first identifier in a block's statements, or None if they
-/// have no identifier.
+/// Returns the token index of the first identifier in a block's statements, or None if they have no
+/// identifier.
 pub fn first_identifier(statements: &Option<Vec<Statement>>) -> Option<usize>
     ensures { result ≡ first_identifier (body_of statements.now) }
 {

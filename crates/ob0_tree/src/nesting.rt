@@ -26,7 +26,7 @@ impl<'t> Module<'t> {
     pub fn nesting(&self) -> u32
         ensures { result ≡ nesting (tree_of self.now) }
     {
-        // The contract of this call gives the proof the module's invariant.
+        // The contract of this call states the module's invariant, which the proof uses.
         let _parsed = self.tokens();
         block_nesting(self.block())
     }
@@ -174,7 +174,7 @@ fn statement_nesting(s: &Statement) -> u32
     }
 }
 
-/// Returns the nesting depth of an IF statement, which counts itself, at most 2^32 - 1.
+/// Returns the nesting depth of an IF statement, including its own level, at most 2^32 - 1.
 #[cycle(statements)]
 fn if_nesting(i: &If) -> u32
     ensures { result ≡ capped (nesting (if_of i.now)) }
@@ -213,7 +213,7 @@ fn type_nesting(t: &WrittenType) -> u32
     }
 }
 
-/// Returns the nesting depth of a record type, which counts itself, at most 2^32 - 1.
+/// Returns the nesting depth of a record type, including its own level, at most 2^32 - 1.
 #[cycle(types)]
 fn record_nesting(r: &RecordType) -> u32
     ensures { result ≡ capped (nesting (record_type_of r.now)) }
@@ -325,7 +325,7 @@ fn block_nesting(b: &Block) -> u32
     declared.max(body_nesting(&b.body))
 }
 
-/// Returns the nesting depth of a procedure, which counts itself, at most 2^32 - 1.
+/// Returns the nesting depth of a procedure, including its own level, at most 2^32 - 1.
 #[cycle(blocks)]
 fn procedure_nesting(p: &Procedure) -> u32
     ensures { result ≡ capped (nesting (procedure_of p.now)) }

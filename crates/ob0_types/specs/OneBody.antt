@@ -18,12 +18,12 @@ pub record OneBody : Type 0 where
   pub closing : ℕ
   pub statements : Tree ℕ (maybe body)
 
--- returns the body that a value of the code stands for
+-- converts a body of the code to a body of the definitions
 abbrev pub body_view : Body → OneBody
 body_view b = record { closing = b.closing; statements = body_of b.statements.now }
 
 -- Returns the body that contains a range of tokens, which starts at index `low`. If the range isn't
--- in one body, the result is some body of the module.
+-- in one body, the result may be any body of the module.
 abbrev mutual
   -- returns the body of a block with closing name `own`, or of a procedure in that block; the token
   -- index `low` decides which
@@ -55,8 +55,9 @@ abbrev pub with_source : TextWithTokens → ParsedModule → ParsedModule
 with_source source m =
     record { source = source; name = m.name; block = m.block; closing = m.closing }
 
--- Holds if `types` is the result of checking the module before tokens with indexes from `low` upwards changed. The
--- changed tokens are in one body. All other tokens have the same spellings and bindings as before.
+-- Holds if `types` is the result of checking the module before a change. The changed tokens have
+-- indexes of at least `low` and are in one body. All other tokens have the same spellings and
+-- bindings as before.
 pub record WereTypesBeforeChange (r : Resolution) (types : ModuleTypes) (low : ℕ) : Type 0 where
   pub high : ℕ
   pub old : TextWithTokens

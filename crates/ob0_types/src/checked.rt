@@ -31,9 +31,9 @@ use std::alloc::{AllocError, Global};
 use std::borrow::Cow;
 use std::marker::Model;
 
-/// The greatest number of faulty bodies in the previous text for which only some bodies are checked
-/// again. If there are more, all bodies are checked, because searching a longer list for each body
-/// would cost as much.
+/// The greatest number of faulty bodies with which only the changed body and the faulty bodies are
+/// checked again. If the previous text had more, all bodies are checked, because searching a longer
+/// list for each body would cost as much.
 const MAX_FAULTY_BODIES: usize = 32;
 
 /// The result of checking a module. If the module is well-typed, `known` has its declarations and `fields` its fields.
@@ -124,9 +124,10 @@ pub fn types_of<'t>(alloc: Global, resolved: &'t Resolved<'t>) -> Result<ModuleT
     types_from_report(resolved, report, fields)
 }
 
-/// Returns the result of checking a module after some of its tokens, all within one body, changed. `low` is the index
-/// of the first token that changed, and `before` is the result before the change. Other bodies are checked again only
-/// if they had faults, and only the fields of that body are searched for again.
+/// Returns the result of checking a module of which only tokens in one body have changed. No token
+/// with an index less than `low` has changed, and `before` is the result before the change. Other
+/// bodies are checked again only if they had faults, and only the fields of that body are searched
+/// for again.
 pub fn types_after_body_change<'t>(
     alloc: Global,
     resolved: &'t Resolved<'t>,
@@ -234,9 +235,9 @@ fn fields_from_table<'t>(
     }
 }
 
-/// Returns the fields of a well-typed module after some of its tokens, all within one body, changed. If the module was
-/// valid before, only the fields of that body are searched for again. If the module isn't well-typed now, the result
-/// may be any list.
+/// Returns the fields of a well-typed module of which only tokens in one body have changed. If the
+/// module was valid before, only the fields of that body are searched for again. If the module
+/// isn't well-typed now, the result may be any list.
 fn fields_after_body_change<'t>(
     alloc: Global,
     resolved: &'t Resolved<'t>,

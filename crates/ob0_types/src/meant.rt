@@ -1,4 +1,4 @@
-//! Finds the meaning of the identifier at a place. It is a name of the module or a field.
+//! Finds the meaning of the identifier at a place: a declaration or a field.
 //!
 //! The code for hover, declarations, occurrences and renaming matches on the result of `identifier_meaning_at`.
 

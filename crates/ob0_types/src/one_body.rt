@@ -15,7 +15,7 @@ pub(crate) struct Body<'t> {
 }
 
 /// Returns the body that contains a range of tokens, which starts at index `low`. If the range
-/// isn't in one body, the result is some body of the module.
+/// isn't in one body, the result may be any body of the module.
 pub(crate) fn body_containing<'t>(read: &'t Module<'t>, low: usize) -> Body<'t>
     ensures { body_view result ≡ body_in_module low (tree_of read.now) }
 {
@@ -23,7 +23,7 @@ pub(crate) fn body_containing<'t>(read: &'t Module<'t>, low: usize) -> Body<'t>
 }
 
 /// Returns the body of this block, or of a procedure in it, that contains a range of tokens
-/// starting at index `low`. If the range isn't in one body, the result is some of these bodies.
+/// starting at index `low`. If the range isn't in one body, the result may be any of these bodies.
 /// `own` is the block's closing name.
 #[cycle(blocks)]
 fn body_in_block<'t>(b: &'t Block, own: usize, low: usize) -> Body<'t>
@@ -41,7 +41,7 @@ fn body_in_block<'t>(b: &'t Block, own: usize, low: usize) -> Body<'t>
 }
 
 /// Returns the body of this procedure, or of a procedure in it, that contains a range of tokens
-/// starting at index `low`. If the range isn't in one body, the result is some of these bodies.
+/// starting at index `low`. If the range isn't in one body, the result may be any of these bodies.
 #[cycle(blocks)]
 fn body_in_procedure<'t>(p: &'t Procedure, low: usize) -> Body<'t>
     ensures { body_view result ≡ body_in_procedure low (procedure_of p.now) }

@@ -1,5 +1,6 @@
--- The faults of a module's declarations and bodies, in the order in which they are reported: text order. Each
--- declaration is known after its text.
+-- The faults of a module's declarations and bodies, in the order in which they are reported: text
+-- order. A declaration is known to the text after it; a procedure is known from the end of its
+-- heading, so also in its own block.
 -- Rule: docs/LANGUAGE.md, Faults of scopes and types 2 to 11.
 use Rattle.std.specs.Prelude.{ℕ, Bool, true, false, List, [], ◌++◌, map}
 use Rattle.std.specs.List.{filter}
@@ -16,8 +17,8 @@ use Rattle.ob0_types_check.specs.StatementFaults.{reported_sequence}
 use Rattle.ob0_types_check.specs.TypeFaults.{reported_constant}
 use Rattle.ob0_types_check.specs.WrittenTypeFaults.{reported_type}
 
--- returns the faults of a constant's declaration, with the state after it, in which its name has a
--- meaning
+-- returns the faults of a constant's declaration, and the state after it, in which the constant's
+-- name has a meaning
 unfoldable pub constant_declared : KnownDeclarations → Tree ℕ (item constant) → Reported KnownDeclarations
 unfolding reported_constant
 constant_declared p (declares_constant x e) = do
@@ -33,7 +34,7 @@ reported_constants p (more c rest) = do
   q ← constant_declared p c
   reported_constants q rest
 
--- returns the faults of a type declaration, with the state after it, in which its name has a
+-- returns the faults of a type declaration, and the state after it, in which the type's name has a
 -- meaning
 unfoldable pub type_declared : KnownDeclarations → Tree ℕ (item type_name) → Reported KnownDeclarations
 unfolding reported_type
@@ -50,8 +51,8 @@ reported_types p (more d rest) = do
   q ← type_declared p d
   reported_types q rest
 
--- returns the faults of a group of variables with one type, with the state after it, in which they
--- have a meaning
+-- returns the faults of a group of variables with one type, and the state after it, in which the
+-- variables have a meaning
 unfoldable pub variables_declared : KnownDeclarations → Tree ℕ (item variable) → Reported KnownDeclarations
 unfolding reported_type
 variables_declared p (declares_variable ns t) = do
@@ -116,7 +117,8 @@ reported_sections h (more s rest) = do
 abbrev pub state_after_heading : ℕ → KnownHeading → KnownDeclarations
 state_after_heading x h = define h.following (a_procedure h.formals) x
 
--- returns the faults of a body's statements, with the state before them, which they don't change
+-- returns the faults of a body's statements, with the state, which they don't change; a missing
+-- body has no faults
 unfoldable pub reported_body : KnownDeclarations → Tree ℕ (maybe body) → Reported KnownDeclarations
 unfolding reported_sequence
 reported_body p none = without_fault p
@@ -126,7 +128,8 @@ reported_body p (one (begins statements)) =
 unfoldable mutual
   unfolding reported_constants reported_types reported_variables reported_sections reported_body
 
-  -- returns the faults of a block: of its constants, types, variables, procedures, and then its statements
+  -- returns the faults of a block, with the state after it; constants come first, then types,
+  -- variables, procedures and statements
   pub reported_block : KnownDeclarations → Tree ℕ block → Reported KnownDeclarations
   reported_block p (has_body (declares cs ts vs ps) statements) = do
     with_constants ← reported_constants p (section_constants cs)
@@ -135,15 +138,15 @@ unfoldable mutual
     with_procedures ← reported_procedures with_variables ps
     reported_body with_procedures statements
 
-  -- returns the faults of procedures, one after another; each procedure knows the earlier ones and
-  -- itself
+  -- returns the faults of procedures, one after another, with the state after them; each procedure
+  -- can use the earlier ones and itself
   pub reported_procedures : KnownDeclarations → Tree ℕ (items procedure) → Reported KnownDeclarations
   reported_procedures p end = without_fault p
   reported_procedures p (more d rest) = do
     q ← reported_procedure p d
     reported_procedures q rest
 
-  -- returns the faults of a procedure: of its parameters, and then of its block
+  -- returns the faults of a procedure's parameters and then of its block, with the state after it
   pub reported_procedure : KnownDeclarations → Tree ℕ (item procedure) → Reported KnownDeclarations
   reported_procedure p (declares_procedure x fs b closing) = do
     h ← reported_sections (record { formals = []; following = p }) (formal_sections fs)

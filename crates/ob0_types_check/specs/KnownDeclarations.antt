@@ -28,14 +28,17 @@ pub data PartTypes : Type 0 where
   of_elements : ℕ → TypeId → PartTypes
   of_fields : List KnownField → PartTypes
 
--- an array or record: the ordinal of its word ARRAY or RECORD, its parts and its size
+-- an array or record: its ordinal, which is the number of words ARRAY and RECORD in the text before
+-- its own, its parts and its size
 pub record CompositeType : Type 0 where
   pub ordinal : ℕ
   pub parts : PartTypes
   pub size : Size
 
--- The declarations found so far, by ordinal, and the arrays and records found so far. Types refer to arrays and records
--- by their indexes in the list. A declaration later in the text has no meaning yet.
+-- The state of a walk over declarations. `ordinals` has the ordinal of each identifier's
+-- declaration, by token. `declared` has the meaning of each declaration, by ordinal, or None if it
+-- isn't found yet. `made` has the arrays and records found so far. Types refer to them by their
+-- indexes in this list.
 pub record KnownDeclarations : Type 0 where
   pub source : TextWithTokens
   pub ordinals : List (Option ℕ)
@@ -66,7 +69,8 @@ abbrev pub type_of_first_field : List KnownField → Name → Option TypeId
 type_of_first_field [] x = None
 type_of_first_field (f ∷ fields) x = if same_name x f.name then Some f.of else type_of_first_field fields x
 
--- returns the type of a field in a record's parts; None if there is none
+-- returns the type of a field in a record's parts; None if the record has no such field, and for
+-- the parts of an array
 abbrev pub field_type_in : PartTypes → Name → Option TypeId
 field_type_in (of_elements n t) x = None
 field_type_in (of_fields fields) x = type_of_first_field fields x
@@ -110,7 +114,8 @@ facts_at p only_constants =
       only_constants = only_constants;
     }
 
--- returns the state in which the declaration with this ordinal has this meaning; without an ordinal it is unchanged
+-- returns the state in which the declaration with this ordinal has this meaning; for None, returns
+-- the state unchanged
 abbrev pub with_meaning : KnownDeclarations → Meaning TypeId → Option ℕ → KnownDeclarations
 with_meaning p m None = p
 with_meaning p m (Some k) =
@@ -134,7 +139,7 @@ define_all p m (x ∷ xs) = define_all (define p m x) m xs
 abbrev pub scalar_size : Size
 scalar_size = record { scalars = 1; depth = 0 }
 
--- returns the size of an unknown type, which is also the size of no fields
+-- returns the size of an unknown type, or of an empty list of fields: no scalars and depth 0
 abbrev pub empty_size : Size
 empty_size = record { scalars = 0; depth = 0 }
 

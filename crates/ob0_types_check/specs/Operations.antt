@@ -1,4 +1,4 @@
--- The requirements of operations, names and selectors: their faults and their resulting operands.
+-- The faults and the resulting operands of operations, names and selectors.
 -- Rule: docs/LANGUAGE.md, Types 2, 3, Faults of scopes and types 3, 5.
 use Rattle.std.specs.Prelude.{◌≡◌, ℕ, ◌+◌, ◌-◌, nat_lt, Bool, true, false, ◌||◌, List, [], ◌∷◌, ◌++◌, length, if◌then◌else◌, Option, Some, None, option_and_then, pos}
 use Rattle.ob0_scan.specs.declared.fault.FaultCode.{FaultCode}
@@ -25,7 +25,7 @@ use Rattle.ob0_types_check.specs.Known.{Facts, Form, Meaning, Operand, Reported,
 abbrev pub with_earlier_faults : {A : Type 0} → List Fault → Reported A → Reported A
 with_earlier_faults before t = record { known = t.known; faults = before ++ t.faults }
 
--- returns `x` as a result without faults
+-- returns the result `x` with an empty list of faults
 abbrev pub without_fault : {A : Type 0} → A → Reported A
 without_fault x = record { known = x; faults = [] }
 
@@ -258,7 +258,8 @@ abbrev pub part_of : {T : Type 0} → Operand T → T → ℕ → Operand T
 part_of o of last =
     record { of = of; value = None; is_place = o.is_place; first = o.first; last = last }
 
--- returns the type of a record's field with the name at a token; reports `NoField` if there is none
+-- returns the type of a record's field; for None, reports `NoField` at the field's name and returns
+-- the unknown type
 abbrev pub found_field_type : {T : Type 0} → Facts T → ℕ → Option T → Reported T
 found_field_type facts token None =
     record { known = facts.types.unknown; faults = fault_at_token facts code.NoField token }

@@ -1,4 +1,5 @@
--- The report of a module's declarations and of only some of its bodies, and the list of bodies that have faults.
+-- The report of a module if only its declarations and certain bodies are walked, and the list of
+-- the walked bodies that have faults.
 -- Rule: docs/LANGUAGE.md, Faults of scopes and types 2 to 11; what is reported where one body changed.
 use Rattle.std.specs.Prelude.{◌≡◌, ℕ, Bool, true, false, ◌||◌, List, [], ◌∷◌, ◌++◌, MatchOption, nat_eq}
 use Rattle.std.specs.List.{list_any}
@@ -57,16 +58,16 @@ unfoldable mutual
         reported_procedures_with wanted (record { so_far = with_variables; faulty = w.faulty }) ps
     report_body_if (wanted own) own with_procedures statements
 
-  -- returns the faults of procedures, one after another; the bodies are included whose closing
-  -- names pass `wanted`
+  -- returns the faults of procedures, one after another; a body is walked only if its closing name
+  -- passes `wanted`
   pub reported_procedures_with : (ℕ → Bool) → WalkProgress → Tree ℕ (items procedure) → Reported WalkProgress
   reported_procedures_with wanted w end = without_fault w
   reported_procedures_with wanted w (more d rest) = do
     v ← reported_procedure_with wanted w d
     reported_procedures_with wanted v rest
 
-  -- returns the faults of a procedure's parameters, and then of its block; the bodies are included
-  -- whose closing names pass `wanted`
+  -- returns the faults of a procedure's parameters, and then of its block; a body is walked only if
+  -- its closing name passes `wanted`
   pub reported_procedure_with : (ℕ → Bool) → WalkProgress → Tree ℕ (item procedure) → Reported WalkProgress
   reported_procedure_with wanted w (declares_procedure x fs b closing) = do
     h ← reported_sections (record { formals = []; following = w.so_far }) (formal_sections fs)
@@ -125,7 +126,7 @@ pub record IsReportOf (r : Resolution) (report : Report) : Type 0 where
       (λ t. (reported_module r ≡ []) × HasDeclarations (named_tree_of r.module_read) t)
   pub faulty : report.faulty.items ≡ faulty_bodies r
 
--- returns the state of the code's walk, with these faulty bodies, as a state of the definitions
+-- converts the state of the code's walk, with these faulty bodies, to a state of the definitions
 abbrev pub walked_in : CheckerState → List ℕ → WalkProgress
 walked_in s faulty = record { so_far = declarations_in_state s; faulty = faulty }
 

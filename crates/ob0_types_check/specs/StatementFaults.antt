@@ -57,8 +57,8 @@ abbrev pub reported_assignment : {T : Type 0}
     → List Fault
 reported_assignment facts target e = target.faults ++ reported_required facts target.known.of e
 
--- Requires of an argument the type of its parameter. For a VAR parameter the argument must also be
--- a variable with its selectors; otherwise only `NotVariable` is reported.
+-- Requires that an argument has the type of its parameter. For a VAR parameter, it must also be a
+-- variable with its selectors. If it isn't, only `NotVariable` is reported.
 abbrev pub required_of_argument : {T : Type 0} → Facts T → KnownFormal T → Operand T → Reported T
 required_of_argument facts f o =
     if f.by_place && not o.is_place
@@ -146,7 +146,8 @@ unfoldable mutual
   reported_statements facts (more (then_statement a) rest) =
       reported_statement facts a ++ reported_statements facts rest
 
-  -- returns the faults of the ELSIF parts: for each its condition's, and then its statements'
+  -- returns the faults of the ELSIF parts, one after another: first the faults of a part's
+  -- condition, and then of its statements
   pub reported_elsifs : {T : Type 0} → Facts T → Tree ℕ (items elsif_part) → List Fault
   reported_elsifs facts end = []
   reported_elsifs facts (more (elsif_branch e statements) rest) =

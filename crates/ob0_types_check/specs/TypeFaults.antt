@@ -1,4 +1,4 @@
--- The faults of constants and array lengths, and their values.
+-- The faults and values of constants and array lengths, and the faults and types of type names.
 -- Rule: docs/LANGUAGE.md, Faults of scopes and types 4, 6, `ConstFault`, `ArrayLength`.
 use Rattle.std.specs.Prelude.{ℕ, Option, Some, None, if◌then◌else◌}
 use Rattle.ob0_scan.specs.declared.fault.FaultCode.TheVariants as code
@@ -58,8 +58,9 @@ abbrev pub length_by_value : {T : Type 0} → Facts T → Operand T → Option V
 length_by_value facts o None = record { known = None; faults = fault_at_operand facts code.ConstFault o }
 length_by_value facts o (Some v) = length_or_fault facts o (array_length v)
 
--- returns the length of an array, given the operand of its length expression, with the faults of
--- this operand
+-- Returns the length of an array, given the operand of its length expression. Returns None if the
+-- operand isn't INTEGER, has no value or isn't a valid length. Each of these is reported, unless
+-- the operand's type is unknown.
 abbrev pub length_of : {T : Type 0} → Facts T → Operand T → Reported (Option ℕ)
 length_of facts o = do
   t ← required_type facts facts.types.integer o

@@ -17,14 +17,15 @@ use Rattle.ob0_types_check.specs.TypeFaults.{length_of, type_named_at}
 abbrev pub array_size : ℕ → Size → Size
 array_size n z = record { scalars = z.scalars * n; depth = z.depth + 1 }
 
--- Returns the ordinal of the next word ARRAY or RECORD. Each word makes one type, and inner types are made first. So,
--- if nothing is reported, the ordinal is the number of types made before plus the number of words around it.
+-- Returns the ordinal of the next word ARRAY or RECORD, that is, the number of such words before
+-- it. Each word makes one type, and inner types are made first. So, if nothing is reported, the
+-- ordinal is the number of types made so far plus `around`, the number of words around it.
 abbrev pub next_type_ordinal : ℕ → KnownDeclarations → ℕ
 next_type_ordinal around p = length p.made + around
 
 -- Makes an array type, given the ordinal of its word, the operand and value of its length, and its
 -- element type. If the length has a fault (None), the array's type is unknown, although its element
--- type has been checked. The word ARRAY is before the length.
+-- type has been checked. The word ARRAY is the token before the length.
 abbrev pub made_array_type : ℕ → Operand TypeId → Option ℕ → TypeWithState → Reported TypeWithState
 made_array_type ordinal o None element =
     without_fault (record { of = type.Unknown; following = element.following })
@@ -81,9 +82,10 @@ abbrev pub token_before_group : Tree ℕ fields → ℕ → ℕ
 token_before_group (some_fields ns t) following = token_before (first_name ns)
 token_before_group no_fields following = token_before following
 
--- Returns the token of the word RECORD. Between this token and the first field's name there are
--- only semicolons, one for each group without fields before that name. For a record without fields
--- the result is 0, but nothing is reported there, because such a record is never too large.
+-- Returns the token before these groups of fields. For all groups of a record, it is the word
+-- RECORD. Between this token and the first field's name there are only semicolons, one for each
+-- empty group. Without any field the result is 0, but a record without fields is never too large,
+-- so nothing is reported there.
 abbrev pub record_keyword : Tree ℕ (items further_fields) → ℕ
 record_keyword end = 0
 record_keyword (more (then_fields g) rest) = token_before_group g (record_keyword rest)

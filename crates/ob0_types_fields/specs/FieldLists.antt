@@ -1,4 +1,4 @@
--- The lists of a module's fields, which are kept with the module.
+-- The lists of a module's field identifiers, before and after a change of the text.
 -- Rule: none; for contracts: fields in lists.
 use Rattle.std.specs.Prelude.{◌≡◌, ◌==◌, ◌+◌, ◌-◌, ◌^◌, ℕ, List, [], ◌∷◌, ◌++◌, length, min, nat_le, nat_lt, set, if◌then◌else◌}
 use Rattle.std.specs.List.{filter}
@@ -31,18 +31,19 @@ field_lists_of t r = record {
       (fields_in_module (meanings_by_token (declared_object_in t) r) (tree_of r.module_read));
 }
 
--- holds if the two lists are those of the module: the identifiers that declare a field, and all
+-- holds if `declared` has the module's identifiers that declare a field, and `all` has all its
 -- field identifiers
 abbrev pub AreFieldListsOf : Resolution → FieldLists → Type 0
 AreFieldListsOf r f = (f.declared ≡ declared_fields r.module_read) × (f.all ≡ field_identifiers r)
 
--- returns a list with its items from index `k` onwards overwritten by the items of another list
+-- returns the first list after its items from index `k` onwards are overwritten by the items of the
+-- second list
 abbrev pub overwritten_fields : List FieldName → ℕ → List FieldName → List FieldName
 overwritten_fields xs k [] = xs
 overwritten_fields xs k (y ∷ ys) = overwritten_fields (set xs k y) (k + 1) ys
 
--- Holds if `all` consists of `before`, some old fields and `after`, in this order, and its tokens
--- are in strictly ascending order. The old fields are at the same tokens as the fields in `others`.
+-- Holds if `all` consists of `before`, then old fields at the same tokens as the fields in
+-- `others`, and then `after`. The tokens of `all` must be in strictly ascending order.
 pub record HasOthersWithin (all before others after : List FieldName) : Type 0 where
   pub old : List FieldName
   pub top : ℕ
@@ -58,11 +59,12 @@ fields_before token xs = filter (λ x. nat_lt x.token token) xs
 abbrev pub fields_from : ℕ → List FieldName → List FieldName
 fields_from token xs = filter (λ x. nat_le token x.token) xs
 
--- returns the new index of a token after a change, if the change kept this token; at most 2^64 - 1
+-- Returns a token's index after a change, given its index before. The change must have kept this
+-- token. The result is at most 2^64 - 1.
 abbrev pub new_token_index : SameTokens → ℕ → ℕ
 new_token_index s i = min (moved_token_index s i) (2 ^ 64 - 1)
 
--- returns a field identifier with the new index of its token after a change
+-- returns a field identifier with the index that its token has after a change
 abbrev pub moved_field : SameTokens → FieldName → FieldName
 moved_field s x = record { token = new_token_index s x.token; owner = x.owner }
 

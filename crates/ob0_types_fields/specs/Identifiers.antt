@@ -42,7 +42,8 @@ tokens_of_field source k x (found ∷ rest) =
 abbrev pub field_tokens : Resolution → ℕ → Name → List ℕ
 field_tokens r k x = tokens_of_field r.module_read.source k x (field_identifiers r)
 
--- returns the first identifier in the list that contains a byte offset or ends there
+-- returns the first identifier in the list that contains a byte offset or ends there; None if there
+-- is none
 abbrev pub field_at_offset : TextWithTokens → ℕ → List FieldName → Option FieldName
 field_at_offset source offset [] = None
 field_at_offset source offset (x ∷ xs) =
@@ -56,7 +57,8 @@ tokens_of xs = map (λ x. x.token) xs
 abbrev pub AreInTextOrder : TextWithTokens → List FieldName → Type 0
 AreInTextOrder source xs = AreAscending 0 (tokens_of xs) (length source.tokens)
 
--- returns the first field identifier of a module that contains a byte offset or ends there
+-- returns the first field identifier of a module that contains a byte offset or ends there; None if
+-- there is none
 abbrev pub field_at : Resolution → ℕ → Option FieldName
 field_at r offset = field_at_offset r.module_read.source offset (field_identifiers r)
 
@@ -92,7 +94,8 @@ abbrev pub first : List ℕ → Option ℕ
 first [] = None
 first (token ∷ tokens) = Some token
 
--- returns the token that declares the field `x` of the record with ordinal `k`
+-- returns the token that declares the field `x` of the record with ordinal `k`; None if the record
+-- has no such field
 abbrev pub field_declaring_token : ParsedModule → ℕ → Name → Option ℕ
 field_declaring_token m k x = first (tokens_of_field m.source k x (declared_fields m))
 
@@ -103,7 +106,7 @@ field_tokens_of_record k (found ∷ rest) =
     if found.owner == k then found.token ∷ field_tokens_of_record k rest else field_tokens_of_record k rest
 
 -- returns the position of the field `x` among the fields that the record with ordinal `k` declares,
--- counted from 0
+-- counted from 0; None if the record has no such field
 abbrev pub field_position : ParsedModule → ℕ → Name → Option ℕ
 field_position m k x =
     position_from (λ token. same_name (text_at m.source token) x) 0
@@ -131,8 +134,8 @@ DuplicateHasDeclaringToken =
     → is_duplicate_field (named_tree_of m) k f new
     ≡ (not (same_name new f) && is_some (field_declaring_token m k new))
 
--- Each field identifier of a well-typed module has a declaration: some token declares a field with
--- the same name in the same record.
+-- Each field identifier of a well-typed module has a declaration: there is a token that declares a
+-- field with the same name in the same record.
 abbrev pub FieldsAreDeclared : Type 0
 FieldsAreDeclared =
     (r : Resolution) → IsResolution r → WellTyped (named_tree_of r.module_read)

@@ -98,7 +98,8 @@ abbrev mutual
   owners_in_type k (record_type g rest) =
       owners_in_group k (suc k) g ++ owners_in_groups k (suc k + group_constructor_count g) rest
 
-  -- returns the fields of a group, which belong to the record `r`, and the identifiers of their type
+  -- returns the identifiers of a group of fields: the names of the fields, whose owner is `r`, and
+  -- the identifiers of their type
   pub owners_in_group : ℕ → ℕ → Tree ℕ fields → List (ℕ × Option ℕ)
   owners_in_group r k no_fields = []
   owners_in_group r k (some_fields ns t) = map (λ x. (x, Some r)) (names_in_list ns) ++ owners_in_type k t
@@ -156,7 +157,7 @@ owners_in_formals k (one no_formals) = []
 owners_in_formals k (one (some_formals f fs)) =
     owners_in_section k f ++ owners_in_sections (k + constructor_count (section_type f)) fs
 
--- Returns the identifiers of a block, of its procedures and of a procedure with their owners. `k` is the ordinal of the
+-- Returns the identifiers of a block or of procedures, with their owners. `k` is the ordinal of the
 -- first ARRAY or RECORD of the part.
 abbrev mutual
   -- returns the identifiers of a block: of its declarations, and then of its statements
@@ -219,9 +220,9 @@ abbrev pub GivesListedOwners : (ℕ → Option ℕ) → List (ℕ × Option ℕ)
 GivesListedOwners table [] = Unit {0}
 GivesListedOwners table (x ∷ xs) = (table x.0 ≡ x.1) × GivesListedOwners table xs
 
--- If a table has the listed owner at the token of each identifier of a well-typed module, it has
--- the owners of all fields of this module. The reason is that a name has, at each place, the object
--- of its declaration.
+-- Suppose that a table has, for each identifier of a well-typed module, the owner that the list
+-- `owners_in_resolution` has. Then it has the owners of all fields of the module (`IsOwnerTable`).
+-- The reason is that a name has, at each place, the object of its declaration.
 abbrev pub ListedOwnersAreComplete : Type 0
 ListedOwnersAreComplete =
     (r : Resolution) (owners : List (Option ℕ))
@@ -236,7 +237,7 @@ fields_with_owners [] = []
 fields_with_owners ((x, None) ∷ xs) = fields_with_owners xs
 fields_with_owners ((x, Some k) ∷ xs) = record { token = x; owner = k } ∷ fields_with_owners xs
 
--- returns a table in which the owners of these fields are entered at their tokens
+-- returns the table after the owner of each of these fields is entered at the field's token
 abbrev pub table_with_owners : List (Option ℕ) → List FieldName → List (Option ℕ)
 table_with_owners table [] = table
 table_with_owners table (f ∷ fs) = table_with_owners (set table f.token (Some f.owner)) fs
@@ -310,7 +311,7 @@ abbrev mutual
   fields_in_path m s (more (index e) rest) =
       fields_in_tree m e ++ fields_in_path m (option_and_then (λ t. element_type t integer_shape) s) rest
 
--- returns the fields of the record `r` that the names at some tokens declare
+-- returns the fields of the record `r` that the names at these tokens declare
 abbrev pub fields_at_tokens : ℕ → List ℕ → List FieldName
 fields_at_tokens r xs = map (λ x. record { token = x; owner = r }) xs
 

@@ -1,4 +1,4 @@
--- Tables with the record of each field identifier of a text, by token.
+-- Tables that give the record of each field identifier of a text, by the identifier's token.
 -- Rule: none; for contracts: which record a field's token belongs to.
 use Rattle.std.specs.Prelude.{◌≡◌, ℕ, Bool, ◌&&◌, List, Option, Some, None, if◌then◌else◌}
 use Rattle.ob0_scan.specs.TextWithTokens.{TextWithTokens}

@@ -1,4 +1,5 @@
--- The search for the ARRAY or RECORD with some ordinal among all such words of a module, in text order.
+-- The search for the ARRAY or RECORD with a given ordinal among all such words of a module, in text
+-- order.
 -- Rule: none; for private contracts of a walk.
 use Rattle.std.specs.Prelude.{ℕ, ◌-◌, ◌==◌, List, [], ◌∷◌, Option, None, option_map, if◌then◌else◌}
 use Rattle.ob0_language_types.specs.Expressions.{Meanings}
@@ -38,22 +39,22 @@ found_type (is_after n) = None
 abbrev pub constructor_walk_meanings : ConstructorWalk → Meanings ℕ Shape Signature
 constructor_walk_meanings w = meanings_by_token (declared_object_in w.known.now) w.resolved.now
 
--- returns the shape of an optional type of the walk's table
+-- returns the shape of a type of the walk's table; None for None
 abbrev pub shape_in_walk : ConstructorWalk → Option TypeId → Option Shape
 shape_in_walk w of = option_map (type_shape (shapes_of w.known.now)) of
 
--- returns the code's state of a search as a state of the definitions, given the shapes of the
+-- converts a state of the code's search to a state of the definitions, given the shapes of the
 -- arrays and records
 abbrev pub search_view : List Shape → Search → SearchState
 search_view shapes (search.Found of) = is_found (option_map (type_shape shapes) of)
 search_view shapes (search.Before n) = is_after n
 
--- returns the code's state of a search as a state of the definitions, with the shapes of the walk's
--- table
+-- converts a state of the code's search to a state of the definitions, with the shapes of the
+-- walk's table
 abbrev pub search_view_in_walk : ConstructorWalk → Search → SearchState
 search_view_in_walk w s = search_view (shapes_of w.known.now) s
 
--- returns the code's typed field as a typed field of the definitions, given the shapes of the
+-- converts a typed field of the code to a typed field of the definitions, given the shapes of the
 -- arrays and records
 abbrev pub typed_field_view : List Shape → code.TypedField → TypedField
 typed_field_view shapes f = record { field = f.field; shape = type_shape shapes f.of }

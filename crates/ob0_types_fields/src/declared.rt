@@ -50,7 +50,7 @@ fn take_next_ordinal(made: &mut usize) -> Result<usize, AllocError>
 }
 
 /// Appends the fields that a written type declares. `made` counts the words ARRAY and RECORD before
-/// the type; those of the type are added to it.
+/// the type. The words in the type are added to it.
 #[cycle(types)]
 pub(crate) fn add_type_fields(
     found: &mut FieldNameList,
@@ -73,7 +73,7 @@ pub(crate) fn add_type_fields(
 }
 
 /// Appends the fields that a record type declares, including the fields of records inside it.
-/// `made` counts the words ARRAY and RECORD before the type; those of the type are added to it.
+/// `made` counts the words ARRAY and RECORD before the type. The words in the type are added to it.
 #[cycle(types)]
 fn add_record_fields(
     found: &mut FieldNameList,
@@ -93,8 +93,8 @@ fn add_record_fields(
 }
 
 /// Appends the fields of one group, and the fields that the group's type declares. `owner` is the
-/// ordinal of the group's record. `made` counts the words ARRAY and RECORD before the group; those
-/// of the group are added to it.
+/// ordinal of the group's record. `made` counts the words ARRAY and RECORD before the group. The
+/// words in the group are added to it.
 #[cycle(types)]
 fn add_group_fields(
     found: &mut FieldNameList,
@@ -118,7 +118,7 @@ fn add_group_fields(
 }
 
 /// Appends the fields that the TYPE section of a block declares. `made` counts the words ARRAY and
-/// RECORD before the section; those of the section are added to it.
+/// RECORD before the section. The words in the section are added to it.
 pub(crate) fn add_type_section_fields(
     found: &mut FieldNameList,
     made: &mut usize,
@@ -140,7 +140,7 @@ pub(crate) fn add_type_section_fields(
 }
 
 /// Appends the fields that the VAR section of a block declares. `made` counts the words ARRAY and
-/// RECORD before the section; those of the section are added to it.
+/// RECORD before the section. The words in the section are added to it.
 pub(crate) fn add_variable_section_fields(
     found: &mut FieldNameList,
     made: &mut usize,
@@ -163,7 +163,7 @@ pub(crate) fn add_variable_section_fields(
 }
 
 /// Appends the fields that formal parameters declare. `made` counts the words ARRAY and RECORD
-/// before the parameters; those of the parameters are added to it.
+/// before the parameters. The words in the parameters are added to it.
 pub(crate) fn add_formal_fields(
     found: &mut FieldNameList,
     made: &mut usize,

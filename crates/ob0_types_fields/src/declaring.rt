@@ -11,7 +11,7 @@ use ob0_tree::{Block, Procedure};
 use std::alloc::AllocError;
 
 /// Appends the fields that a block and its procedures declare. `made` counts the words ARRAY and
-/// RECORD before the block; those of the block are added to it.
+/// RECORD before the block. The words in the block are added to it.
 #[cycle(blocks)]
 pub(crate) fn add_block_declared_fields(
     found: &mut FieldNameList,
@@ -32,7 +32,7 @@ pub(crate) fn add_block_declared_fields(
 }
 
 /// Appends the fields that a procedure declares in its parameters and its block. `made` counts the
-/// words ARRAY and RECORD before the procedure; those of the procedure are added to it.
+/// words ARRAY and RECORD before the procedure. The words in the procedure are added to it.
 #[cycle(blocks)]
 fn add_procedure_declared_fields(
     found: &mut FieldNameList,

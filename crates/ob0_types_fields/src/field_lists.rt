@@ -5,10 +5,10 @@
 //! declared (`fields_are_declared`). So a module without RECORD costs only the walk over its
 //! declarations. The laws about fields require that the module is well-typed.
 //!
-//! If some tokens of one body changed, but not the kinds of tokens, the body's fields are found
-//! again (`FieldList::with_changed_body`). They are at the same tokens as before, because the grammar
-//! determines which identifiers are fields (`fields_match_grammar`). So each replaces an old one, and no
-//! other field moves.
+//! If tokens of one body changed, but not their kinds, the body's fields are found again
+//! (`FieldList::with_changed_body`). They are at the same tokens as before, because the grammar
+//! determines which identifiers are fields (`fields_match_grammar`). So each replaces an old one,
+//! and no other field moves.
 //!
 //! If the statements of one body were replaced, perhaps by a different number of tokens, the body's
 //! fields are also found again (`FieldList::with_replaced_body`). The fields before the body are kept.
@@ -84,9 +84,9 @@ impl FieldList {
         Ok(FieldList { declared, all })
     }
 
-    /// Returns the lists after tokens in the statements of one body changed, but not the number of
-    /// tokens. The fields that these statements select are found again and replace the old fields
-    /// at the same tokens.
+    /// Returns the lists for a text in which tokens of one body's statements have changed, but not
+    /// the number of tokens. The fields that these statements select are found again and replace
+    /// the old fields at the same tokens.
     pub fn with_changed_body<'a, 't>(
         self,
         alloc: Global,
@@ -110,10 +110,11 @@ impl FieldList {
         Ok(FieldList { declared, all })
     }
 
-    /// Returns the lists after the statements of one body were replaced. `place` is the place of
-    /// the new body, and `same` has the unchanged tokens. Fields before the body's first identifier
-    /// are kept. Fields from the block's closing name onwards are moved to the new indexes of their
-    /// tokens, which are at most 2^64 - 1. The fields in the new statements are found by a walk.
+    /// Returns the lists for a text in which the statements of one body were replaced. `place` is
+    /// the place of the new body, and `same` has the unchanged tokens. Fields before the body's
+    /// first identifier are kept. Fields from the block's closing name onwards are moved to the new
+    /// indexes of their tokens, which are at most 2^64 - 1. The fields in the new statements are
+    /// found by a walk.
     pub fn with_replaced_body<'a, 't>(
         self,
         alloc: Global,
@@ -227,7 +228,8 @@ fn overwrite_from(all: &mut FieldNameList, start: usize, found: &[FieldName])
     }
 }
 
-/// Returns the new index of a token after a change, if the change kept this token. The index is at most 2^64 - 1.
+/// Returns a token's index after a change, given its index before. The change must have kept this
+/// token. The result is at most 2^64 - 1.
 fn new_token_index(token: usize, same: SameTokens) -> usize
     ensures { result ≡ new_token_index same token }
 {
@@ -298,8 +300,8 @@ fn declared_fields(alloc: Global, resolved: &Resolved<'_>) -> Result<FieldNameLi
     Ok(found)
 }
 
-/// Returns all fields of the module. If `declared` is empty, returns an empty list without a walk
-/// over the module.
+/// Returns all field identifiers of the module. If `declared` is empty, returns an empty list
+/// without a walk over the module.
 fn all_fields<'a, 't>(
     alloc: Global,
     known: &'a DeclarationTable,
@@ -318,7 +320,7 @@ fn all_fields<'a, 't>(
     }
 }
 
-/// Returns all fields of a module, in text order, found by a walk.
+/// Walks a module and returns all its field identifiers, in text order.
 fn find_fields<'a, 't>(
     alloc: Global,
     known: &'a DeclarationTable,

@@ -62,7 +62,8 @@ fn is_on(offset: usize, span: Span) -> bool
 }
 
 /// Returns the position, counted from 0, of the field `name` among the fields in the list that
-/// belong to the record with ordinal `owner`. Returns None if none of them has this name.
+/// belong to the record with ordinal `owner`. Returns None if that record has no field with this
+/// name.
 pub(crate) fn position_in_record(
     tokens: &Tokens,
     fields: &[FieldName],

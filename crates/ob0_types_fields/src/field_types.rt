@@ -69,7 +69,7 @@ fn constructed_type<'a, 't>(
     }
 }
 
-/// The state of the search for an ARRAY or RECORD with some ordinal.
+/// The state of the search for the ARRAY or RECORD with a given ordinal.
 #[derive(Clone, Copy)]
 enum Search {
     /// The number of words ARRAY and RECORD still to skip.

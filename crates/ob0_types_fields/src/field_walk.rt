@@ -148,15 +148,15 @@ impl<'a, 't> FieldWalk<'a, 't> {
         ensures { IfOk result (λ _. found.new.items
             ≡ found.old.items ++ fields_in_tree (field_walk_meanings self.now) (compound_of c.now)) }
     {
-        self.add_simple_fields(found, &c.left)?;
+        self.add_simple_expression_fields(found, &c.left)?;
         if let Some(compared) = &c.compared {
-            self.add_simple_fields(found, &compared.right)?;
+            self.add_simple_expression_fields(found, &compared.right)?;
         }
         Ok(())
     }
 
     #[cycle(expressions)]
-    fn add_simple_fields(
+    fn add_simple_expression_fields(
         &self,
         found: &mut FieldNameList,
         s: &SimpleExpression,
@@ -369,7 +369,7 @@ impl<'a, 't> FieldWalk<'a, 't> {
 
     /// Appends the fields of a block: first the fields of its declarations and procedures, then the
     /// fields that its statements select. `made` counts the words ARRAY and RECORD before the
-    /// block; those of the block are added to it.
+    /// block. The words in the block are added to it.
     #[cycle(blocks)]
     pub(crate) fn add_block_fields(
         &self,
@@ -392,7 +392,7 @@ impl<'a, 't> FieldWalk<'a, 't> {
     }
 
     /// Appends the fields that a procedure declares and selects. `made` counts the words ARRAY and
-    /// RECORD before the procedure; those of the procedure are added to it.
+    /// RECORD before the procedure. The words in the procedure are added to it.
     #[cycle(blocks)]
     fn add_procedure_fields(
         &self,

@@ -5,8 +5,8 @@ ghost use Rattle.ob0_types_fields.specs.Identifiers.{DuplicateHasDeclaringToken,
 ghost use Rattle.ob0_types_fields.specs.Owned.{WalkFindsAllFields, ListedOwnersAreComplete, FieldsGiveAllOwners};
 ghost use Rattle.ob0_types_fields.specs.Owners.{RenamingFollowsOwners};
 
-/// Proves that a table has the owners of all fields of a well-typed module if it has, at each token
-/// of an identifier, the owner that the list `owners_in_resolution` has. That list is computed from the
+/// Proves that a table has the owners of all fields of a well-typed module if it agrees with the
+/// list `owners_in_resolution` at the token of each identifier. That list is computed from the
 /// objects of declarations.
 pub fn listed_owners_are_complete()
     ensures { ListedOwnersAreComplete }
@@ -36,8 +36,8 @@ pub fn duplicate_has_declaring_token()
     ensures { DuplicateHasDeclaringToken }
 {}
 
-/// Proves that each field identifier of a well-typed module has a declaration: some token declares
-/// a field with the same name in the same record.
+/// Proves that each field identifier of a well-typed module has a declaration: there is a token
+/// that declares a field with the same name in the same record.
 pub fn fields_are_declared()
     ensures { FieldsAreDeclared }
 {}

@@ -1,5 +1,5 @@
--- Designators, expressions that are only a designator, and lists of expressions in trees with
--- labels.
+-- Finds the designator of a factor, term or expression that is only a designator. Converts
+-- expressions to trees with labels.
 -- Rule: none; for contracts: trees with labels.
 use Rattle.std.specs.Prelude.{ℕ, List, map, Some, None, Option}
 use Rattle.ob0_tree.specs.Tree.{Tree, designator, end, expression, factor, items, product, selector, simple, sum, term}

@@ -1,4 +1,4 @@
--- The index of a record's fields: the first field of each name.
+-- The map that has, for each name, the first field of a record with this name.
 -- Rule: none; for contracts: the index of a record's fields.
 use Rattle.std.specs.Prelude.{◌≡◌, ℕ, suc, List, [], ◌∷◌, Option, Some, None, String, string_bytes, if◌then◌else◌}
 use Rattle.std.specs.declared.alloc.Global.{Global}

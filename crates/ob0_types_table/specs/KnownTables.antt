@@ -8,12 +8,13 @@ use Rattle.ob0_language_types.specs.Expressions.{Object}
 use Rattle.ob0_types_table.specs.Tables.{object_view, extended_shapes}
 use Rattle.ob0_language_types.specs.WellTyped.{Signature}
 
--- the entries of the arrays and records, and the object of each ordinal, if it has one
+-- a table: the entries of the arrays and records, and the object of each declaration, by ordinal;
+-- None if it has no object
 pub record Tables : Type 0 where
   pub shapes : List code.TypeEntry
   pub objects : List (Option declaration.Object)
 
--- returns the shapes of the table's entries, each made from earlier ones
+-- returns the shapes of the table's entries, in order; each entry refers only to earlier ones
 abbrev pub shapes_of : Tables → List Shape
 shapes_of t = extended_shapes [] t.shapes
 

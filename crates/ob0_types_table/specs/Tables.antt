@@ -59,20 +59,20 @@ abbrev pub type_of_entry : code.TypeEntry → ℕ → TypeId
 type_of_entry (made.Array a) place = type.Array place
 type_of_entry (made.Record r) place = type.Record place
 
--- returns the shapes `known`, followed by the shapes of these entries; each entry is made from
--- earlier ones
+-- returns the shapes `known`, followed by the shapes of these entries; each entry may refer only to
+-- entries before it
 abbrev pub extended_shapes : List Shape → List code.TypeEntry → List Shape
 extended_shapes known [] = known
 extended_shapes known (m ∷ ms) = extended_shapes (known ++ entry_shape known m ∷ []) ms
 
--- holds unless the type refers to an entry of the table after the first `n`
+-- holds if the type refers to no entry of the table, or to one of the first `n` entries
 abbrev pub IsTypeAmongEntries : ℕ → TypeId → Type 0
 IsTypeAmongEntries n (type.Array i) = i < n
 IsTypeAmongEntries n (type.Record i) = i < n
 IsTypeAmongEntries n _ = Unit {0}
 
 -- holds if the element type of an array, or the type of each field of a record, refers to no entry
--- after the first `n`
+-- except the first `n`
 abbrev pub PartsAreAmongEntries : ℕ → code.TypeEntry → Type 0
 PartsAreAmongEntries n (made.Array a) = IsTypeAmongEntries n a.element
 PartsAreAmongEntries n (made.Record r) = All (λ f. IsTypeAmongEntries n f.of) r.fields
@@ -95,22 +95,23 @@ AreEntriesInOrder known [] = Unit {0}
 AreEntriesInOrder known (m ∷ ms) =
     IsEntry known m × AreEntriesInOrder (known ++ entry_shape known m ∷ []) ms
 
--- returns the mode of a parameter, given whether it is passed by place
+-- returns the mode of a parameter: by place if the Bool is true, otherwise by value
 abbrev pub mode_of : Bool → Mode
 mode_of true = by_place
 mode_of false = by_value
 
--- returns a formal parameter of the table as a formal parameter of the definitions
+-- converts a formal parameter of the table to a formal parameter of the definitions
 abbrev pub formal_view : List Shape → formal.FormalParameter → FormalParameter
 formal_view shapes f = record { mode = mode_of f.by_place; shape = type_shape shapes f.of }
 
--- returns a standard procedure of the code as a standard procedure of the definitions
+-- converts a standard procedure of the code to a standard procedure of the definitions
 abbrev pub standard_of : standard.StandardProcedure → StandardProcedure
 standard_of standards.Read = reads
 standard_of standards.Write = writes
 standard_of standards.WriteLn = writes_line
 
--- returns an object of the table as an object of the definitions; None for a constant with a fault
+-- converts an object of the table to an object of the definitions; returns None for a constant with
+-- a fault
 abbrev pub object_view : List Shape → declaration.Object → Option (Object Shape Signature)
 object_view shapes (kind.Named t) = Some (a_type (type_shape shapes t))
 object_view shapes (kind.Constant v) = Some (a_constant (scalar_value v))

@@ -16,7 +16,8 @@ use std::alloc::{AllocError, Global};
 use std::collections::BTreeMap;
 use std::marker::Model;
 
-/// The first field with some name: its position in the record, counted from 0, and its type.
+/// The first field of a record with a given name: its position in the record, counted from 0, and
+/// its type.
 #[derive(Clone, Copy)]
 struct FirstField {
     place: usize,

@@ -37,7 +37,8 @@ pub struct FieldId {
     pub index: usize,
 }
 
-/// The type `ARRAY length OF element`, made by the word ARRAY with this ordinal in the text.
+/// The type `ARRAY length OF element`. `ordinal` is the number of words ARRAY and RECORD in the
+/// text before this one. `scalars` and `depth` are the size of the whole type.
 #[derive(Clone, Copy)]
 pub struct ArrayShape {
     pub ordinal: usize,
@@ -47,7 +48,8 @@ pub struct ArrayShape {
     pub depth: usize,
 }
 
-/// The type `RECORD fields END`, made by the word RECORD with this ordinal in the text.
+/// The type `RECORD fields END`. `ordinal` is the number of words ARRAY and RECORD in the text
+/// before this one. `scalars` and `depth` are the size of the whole type.
 #[derive(Drop)]
 pub struct RecordShape {
     pub ordinal: usize,
@@ -91,8 +93,8 @@ pub enum Object {
     StandardProcedure(StandardProcedure),
 }
 
-/// The arrays and records of a module, each made from earlier ones, and the object of each
-/// declaration, by its ordinal.
+/// The arrays and records of a module, each of which refers only to earlier ones, and the object of
+/// each declaration, by its ordinal.
 #[derive(Drop)]
 pub struct DeclarationTable {
     shapes: Vec<TypeEntry>,
@@ -100,7 +102,8 @@ pub struct DeclarationTable {
 }
 
 impl RecordShape {
-    /// Returns the place of the first field with this name. Returns None if there is none.
+    /// Returns the first field with this name: the ordinal of this record, and the field's
+    /// position. Returns None if there is no such field.
     fn field(&self, name: &str) -> Option<FieldId>
         ensures { (shapes : List shape.Shape)
             → result
@@ -152,7 +155,7 @@ impl DeclarationTable {
         self.objects.len()
     }
 
-    /// Returns the entries of the arrays and records. Each is made from earlier ones.
+    /// Returns the entries of the arrays and records. Each refers only to earlier ones.
     pub fn shapes(&self) -> &[TypeEntry]
         ensures { result.now ≡ self.now.shapes }
     {
@@ -255,8 +258,8 @@ impl DeclarationTable {
         }
     }
 
-    /// Returns the place of the first field with this name in a record type. Returns None if the type is no record with
-    /// such a field.
+    /// Returns the first field with this name in a record type: the record's ordinal, and the
+    /// field's position. Returns None if the type is no record with such a field.
     pub fn field(&self, base: TypeId, name: &str) -> Option<FieldId>
         ensures { result ≡ field_selected (type_shape (shapes_of self.now) base) name.now }
     {

@@ -42,8 +42,8 @@ pub data RequestId : Type 0 where
   number_id : ℕ → RequestId
   text_id : List ℕ → RequestId
 
--- Returns the id that a JSON value means. None if it is neither a whole number that isn't negative
--- nor a text.
+-- Returns the id that a JSON value means. None if the value is neither a text nor a whole number of
+-- at least 0.
 abbrev pub id_of_value : Data → Option RequestId
 id_of_value (number (unsigned n)) = Some (number_id n)
 id_of_value (number (negative z)) = None
@@ -61,7 +61,8 @@ same_id (number_id n) (text_id t) = false
 same_id (text_id s) (number_id m) = false
 same_id (text_id s) (text_id t) = bytes_eq s t
 
--- the id of a request that the editor sent, and the number of the ask if the request is an ask
+-- the id of a request that the editor sent, and the number of the ask; None if the request isn't an
+-- ask
 pub record SentRequestId : Type 0 where
   pub id : RequestId
   pub ask : Option ℕ
@@ -72,12 +73,12 @@ abbrev pub ask_of_request_id : List SentRequestId → RequestId → Option (Opti
 ask_of_request_id [] id = None
 ask_of_request_id (s ∷ sent) id = if same_id s.id id then Some s.ask else ask_of_request_id sent id
 
--- Returns the number of the ask whose id this JSON value is. None if there is none.
+-- Returns the number of the ask whose id this JSON value is. None if no ask has this id.
 abbrev pub ask_number_by_id : List SentRequestId → Data → Option ℕ
 ask_number_by_id sent id = option_and_then (λ ask. ask) (option_and_then (ask_of_request_id sent) (id_of_value id))
 
--- Holds if each ask among the sent messages gets an id that no earlier request has, and `new` are
--- `ids` with these.
+-- Holds if each ask among the sent messages gets an id that no earlier request has. `new` are the
+-- `ids` followed by these new ids.
 abbrev pub AssignsAskIds : List SentRequestId → List MessageToServer → List SentRequestId → Type 0
 AssignsAskIds ids [] new = new ≡ ids
 AssignsAskIds ids (notifies note ∷ sent) new = AssignsAskIds ids sent new
@@ -86,8 +87,8 @@ AssignsAskIds ids (requests k uri ask ∷ sent) new =
     × (ask_of_request_id ids id ≡ None)
     × AssignsAskIds (ids ++ record { id = id; ask = Some k } ∷ []) sent new
 
--- returns the ids with the id of a request that isn't an ask; if the id isn't valid (None), nothing
--- is added
+-- adds an id to the ids, for a request that isn't an ask; if the id isn't valid (None), nothing is
+-- added
 abbrev pub with_non_ask_id : List SentRequestId → Option RequestId → List SentRequestId
 with_non_ask_id ids None = ids
 with_non_ask_id ids (Some id) = ids ++ record { id = id; ask = None } ∷ []
@@ -250,13 +251,13 @@ AreMessagesToSession client ids requested (None ∷ messages) [] = ⊥
 
 -- ---- what may happen
 
--- Returns the message to the editor in a content; an answer's ask is found by the ids. None if
--- there is none.
+-- Returns the message to the editor in a content. None if it has no such message. The ask of an
+-- answer is found by the ids.
 abbrev pub message_to_editor_by_ids : List SentRequestId → List SentAsk → List ℕ → Option MessageToEditor
 message_to_editor_by_ids ids requested content = message_to_editor_by (ask_number_by_id ids) requested content
 
--- Returns the editor after it has read this message, if there is one. The editor keeps an answer
--- with edits to one of its asks, and nothing else.
+-- Returns the editor after it has read this message. For None the editor is unchanged. The editor
+-- keeps an answer with edits to one of its asks, and nothing else.
 abbrev pub after_reading_if_any : Editor → Option MessageToEditor → Editor
 after_reading_if_any e None = e
 after_reading_if_any e (Some message) = reads e message
@@ -399,8 +400,8 @@ pub record VersionedPublication : Type 0 where
   pub version : ℤ
   pub empty : Bool
 
--- returns a list of the message if that publishes diagnostics with a version, otherwise an empty
--- list
+-- returns a list of the publication if the message publishes diagnostics with a version, otherwise
+-- an empty list
 abbrev pub versioned_publication : Option MessageToEditor → List VersionedPublication
 versioned_publication (Some (publishes uri (Some version) empty)) =
     record { uri = uri; version = version; empty = empty } ∷ []

@@ -1,11 +1,10 @@
--- Defines the meaning of the client and server that the code stores: the view, the invariant, and
--- the clauses of private functions. No contract of a public function mentions these.
--- The messages of a queue are a function of its contents (`all_messages_to_server`, `all_messages_to_editor`). The
--- invariant states that each content is a message, and a content keeps its meaning when more is
--- requested (`Waiting`).
--- `RunsWithEditor` states that the session serves this editor: by the editor's `initialize`, its client
--- accepts edits with document versions, and literal code actions. So a WorkspaceEdit is always
--- written as `documentChanges`.
+-- Defines which client and server of the model the stored ones mean, the invariant of the stored
+-- ones, and the clauses of private functions. No contract of a public function mentions these. The
+-- messages of a queue are a function of its contents (`all_messages_to_server`,
+-- `all_messages_to_editor`). The invariant states that each content is a message. A content keeps
+-- its meaning when more is requested (`proofs/Waiting`). `RunsWithEditor` states that the session
+-- serves this editor. By the editor's `initialize`, its client accepts edits with document
+-- versions, and literal code actions. So a WorkspaceEdit is always written as `documentChanges`.
 -- Rule: none; for contracts: contents that wait, and what they say.
 use Rattle.std.specs.Prelude.{◌≡◌, ◌≤◌, ◌⊎◌, ℕ, ℤ, List, [], ◌∷◌, ◌++◌, map, length, All, Bool, true, Option, Some, None, Vec, option_and_then, filter_map}
 use Rattle.std.specs.declared.alloc.Global.{Global}
@@ -79,16 +78,16 @@ publication_in_message held (publishes uri (Some version) empty) =
 publication_in_message held (publishes uri None empty) = None
 publication_in_message held (answers k edits) = None
 
--- Returns the first message as a publication (`publication_in_message`). None if there is no message, or if it
--- isn't such a publication. A server replies with at most one message.
+-- Returns the first message as a publication (`publication_in_message`). None if there is no
+-- message, or if it isn't such a publication. A server replies with at most one message.
 abbrev pub publication_in_first_message : OpenDocuments → List MessageToEditor → Option Made
 publication_in_first_message held [] = None
 publication_in_first_message held (m ∷ ms) = publication_in_message held m
 
 -- ---- the whole
 
--- states that the waiting contents are messages, and that the session is running (`RunsWithEditor`) or
--- has failed
+-- states that the waiting contents are messages, and that the session is running (`RunsWithEditor`)
+-- or has failed
 pub record Sound (requested : List SentAsk) (to_server to_editor : Contents)
     (session : ServerState) : Type 0 where
   pub heard_all : All (HasMessageToServer requested) to_server
@@ -142,7 +141,8 @@ connection_from e to_server session to_editor applied made taken got =
 
 -- ---- what a world keeps
 
--- states that the editor's numbers of openings and asks, and its versions, are at most n
+-- states that the editor's numbers of openings and asks, and the versions of its open documents,
+-- are at most n
 pub record Within (n : ℕ) (e : Editor) : Type 0 where
   pub openings : e.openings ≤ n
   pub asks : length e.requested ≤ n
@@ -154,20 +154,21 @@ IsReachable w = (unit : Unit) × (events : List Event) × Course (start unit) ev
 
 -- ---- the steps of the server's event
 
--- Returns the first of these contents as a publication (`publication_in_message`). None if there is no content,
--- or if it isn't such a publication.
+-- Returns the first of these contents as a publication (`publication_in_message`). None if there is
+-- no content, or if it isn't such a publication.
 abbrev pub publication_in_first_content : OpenDocuments → List SentAsk → Contents → Option Made
 publication_in_first_content held requested [] = None
 publication_in_first_content held requested (content ∷ contents) =
     option_and_then (publication_in_message held) (message_to_editor_in requested content.items)
 
--- holds if the content, if there is one, was put at the end of the queue and is reported as sent
+-- Holds if the content was put at the end of the queue and is reported as sent. For None, holds if
+-- the queue is unchanged and the report is that nothing happened.
 abbrev pub QueuesContent : Contents → Option (Vec ℕ Global) → seen.Seen → Contents → Type 0
 QueuesContent old None seen new = (report_of seen ≡ nothing) × (new ≡ old)
 QueuesContent old (Some content) seen new = (report_of seen ≡ sent) × (new ≡ old ++ content ∷ [])
 
--- holds if the first waiting content, if there is one, was moved to the end of the contents that
--- the editor has got
+-- Holds if the first waiting content was moved to the end of the contents that the editor has got.
+-- If no content waits, holds if nothing has changed.
 abbrev pub MovesFirst : Contents → Contents → Contents → Contents → Type 0
 MovesFirst [] got waiting' got' = (waiting' ≡ []) × (got' ≡ got)
 MovesFirst (content ∷ rest) got waiting' got' =

@@ -46,7 +46,8 @@ abbrev pub serve_report : List MessageToServer → List MessageToEditor → List
 serve_report [] before after = nothing
 serve_report (message ∷ rest) before after = served (length after - length before)
 
--- returns the report on the first message of the queue, which the editor takes, if there is one
+-- returns the report on the first message of the queue, which the editor takes; for an empty queue,
+-- the report is that nothing happened
 abbrev pub take_report : List MessageToEditor → Seen
 take_report [] = nothing
 take_report (publishes uri version empty ∷ rest) = published uri empty
@@ -62,7 +63,7 @@ event_report old take_message new = take_report old.to_editor
 abbrev pub HappensWithReport : ClientAndServer → Event → Seen → ClientAndServer → Type 0
 HappensWithReport old event seen new = Happens old event new × (seen ≡ event_report old event new)
 
--- returns the report that a value of the code means
+-- returns the report for a value of the code's type `Seen`
 abbrev pub report_of : seen.Seen → Seen
 report_of seen.TheVariants.Nothing = nothing
 report_of seen.TheVariants.Sent = sent

@@ -27,13 +27,15 @@ uri_and_version_in d =
     (option_and_then as_integer (option_and_then as_number (get (codes "version") d))))
     (text_member (codes "uri") d)
 
--- Returns the uri and the version of the first document of a WorkspaceEdit. None if there is none.
+-- Returns the uri and the version of the first document of a WorkspaceEdit. None if there is no
+-- document, or its uri or version is missing.
 abbrev pub edited_uri_and_version : Data → Option (List ℕ × ℤ)
 edited_uri_and_version edit =
     option_and_then uri_and_version_in (option_and_then (get (codes "textDocument"))
     (option_and_then (at 0) (get (codes "documentChanges") edit)))
 
--- Returns the WorkspaceEdit of the action with this title. None if there is none.
+-- Returns the WorkspaceEdit of the action with this title. None if there is no such action, or it
+-- has no edit.
 abbrev pub edit_of_action : List ℕ → Data → Option Data
 edit_of_action title value =
     option_and_then (get (codes "edit")) (option_and_then (titled_action title) (as_array value))
@@ -76,8 +78,9 @@ MentionsDocumentOfAsk requested content =
     → option_and_then request_number (get (codes "id") answer) ≡ Some k
     → (a : SentAsk) × (request_numbered requested k ≡ Some a) × MentionsAskedDocument a answer
 
--- States that `MentionsDocumentOfAsk` holds for each content that waits for the editor, after any list of
--- events. The editor gets only contents that have waited, so it holds for those too.
+-- States that `MentionsDocumentOfAsk` holds for each content that waits for the editor, after any
+-- list of events. The editor gets only contents that have waited, so it holds for all contents that
+-- the editor gets.
 abbrev pub AnswersMentionVersions : Type 0
 AnswersMentionVersions =
     (unit : Unit) (begin : Connection) (events : List Event) (now : Connection)
@@ -92,8 +95,8 @@ abbrev pub has_version : ℤ → OpenDocument → Bool
 has_version version d = same_version d.version version
 
 -- Returns the result of applying an answer's edits in a client that compares the uri and the
--- version in the answer. The edits are made in the open document with this uri. None if there is
--- none with this version, or if two edits share a character.
+-- version in the answer. The edits are made in the open document with this uri. None if no open
+-- document has this uri and this version, or if two edits share a character.
 abbrev pub apply_result_by_version : Editor → List ℕ → ℤ → List Replacement → Option ActResult
 apply_result_by_version e uri version edits =
     option_and_then
@@ -103,12 +106,12 @@ apply_result_by_version e uri version edits =
     (if has_version version d then edited e.unit d.text edits else None))
     (open_at e uri)
 
--- holds if the request's document is closed now, or is still open in the opening of that time
+-- holds if the request's document is closed now, or has the same opening as at the request
 abbrev pub IsNotReopened : Editor → SentAsk → Type 0
 IsNotReopened e a = (d : OpenDocument) → open_at e a.uri ≡ Some d → d.opening ≡ a.opening
 
--- States that for a client that compares the version in an answer, the result of applying its edits
--- is that of the model's editor. The document mustn't have been opened again.
+-- States that a client that compares the version in an answer, and the model's editor, get the same
+-- result when they apply its edits. The document mustn't have been opened again.
 abbrev pub VersionsSuffice : Type 0
 VersionsSuffice =
     (e : Editor) (k : ℕ) (a : SentAsk) (edits : List Replacement)

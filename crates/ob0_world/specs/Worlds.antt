@@ -26,12 +26,12 @@ use Rattle.ob0_world.specs.declared.played.Played as played
 -- the session that serves the editor, and the contents of all messages between the two
 pub record Wire : Type 0 where
   pub session : ServerState
-  -- the contents that the editor has written: first those that the session has taken, then those
-  -- that wait
+  -- the contents that the editor has written: those that the session has taken (`taken`), and those
+  -- that still wait (`to_server`)
   pub taken : List (List ℕ)
   pub to_server : List (List ℕ)
-  -- the contents that the session has sent: first those that the editor has got, then those that
-  -- wait
+  -- the contents that the session has sent: those that the editor has got (`got`), and those that
+  -- still wait (`to_editor`)
   pub got : List (List ℕ)
   pub to_editor : List (List ℕ)
 
@@ -57,8 +57,9 @@ pub record Begins (unit : Unit) (w : Connection) : Type 0 where
         to_editor = [];
       }
 
--- Holds if the session takes the first content that waits for it, and its replies join the contents
--- that wait for the editor. If none waits, nothing changes.
+-- Holds if the session takes the first content that waits for it, and the session's replies are
+-- added to the contents that wait for the editor. If no content waits for the session, nothing
+-- changes.
 abbrev pub SessionTakesFirst : List (List ℕ) → Wire → Wire → Type 0
 SessionTakesFirst [] old new = new ≡ old
 SessionTakesFirst (content ∷ rest) old new =
@@ -186,8 +187,8 @@ pub record MakesStep (old : World) (event : Event) (seen : Seen) (new : World) :
   pub counted : new.steps ≡ old.steps + 1
   pub goes_on : new.ended ≡ false
 
--- Holds if the world makes this step. The first argument is true if the world had ended: then it
--- makes none.
+-- Holds if the world makes this step. The first argument is true if the world had ended before. An
+-- ended world makes no step.
 abbrev pub StepsUnlessEnded : Bool → World → Event → Seen → World → Type 0
 StepsUnlessEnded false old event seen new = MakesStep old event seen new
 StepsUnlessEnded true old event seen new = ⊥

@@ -108,8 +108,8 @@ impl<T: TextStore> Connection<T> {
         }
     }
 
-    /// Makes an event happen and reports it. If an allocation fails, the results and the exchanged contents are
-    /// unchanged.
+    /// Makes an event happen and reports it. If an allocation fails, the results and the exchanged
+    /// contents are unchanged.
     pub fn perform_event(&mut self, event: &Event) -> Result<Seen, AllocError>
         requires { AreFew self.old.model.editor }
         ensures ok { IfOk result
@@ -173,8 +173,8 @@ impl<T: TextStore> Connection<T> {
         send(&mut self.to_server, content)
     }
 
-    /// Lets the session take the first content that waits, and queues its replies for the editor. A publication with a
-    /// version is recorded with the text that its document has then.
+    /// Lets the session take the first content that waits, and queues its replies for the editor. A
+    /// publication with a version is recorded with the text that its document has at this time.
     fn serve(&mut self) -> Result<Seen, AllocError>
         ensures ok { IfOk result
             (λ seen. HappensWithReport self.old.model events.serve (report_of seen) self.new.model) }
@@ -264,7 +264,8 @@ impl<T: TextStore> Connection<T> {
     }
 }
 
-/// Moves the first content of a queue, if there is one, to the end of `got`, which must have room for it.
+/// Moves the first content of a queue, if there is one, to the end of `got`, which must have room
+/// for it.
 fn move_first(waiting: &mut VecDeque<Vec<u8>>, got: &mut Vec<Vec<u8>>)
     requires { vec_len got.old < vec_capacity got.old }
     ensures { MovesFirst waiting.old.items got.old.items waiting.new.items got.new.items }
@@ -274,7 +275,8 @@ fn move_first(waiting: &mut VecDeque<Vec<u8>>, got: &mut Vec<Vec<u8>>)
     }
 }
 
-/// Queues a content if there is one, and reports whether it was sent. If the allocation fails, the queue is unchanged.
+/// Queues a content if there is one, and reports whether it was sent. If the allocation fails, the
+/// queue is unchanged.
 fn send(queue: &mut VecDeque<Vec<u8>>, content: Option<Vec<u8>>) -> Result<Seen, AllocError>
     ensures ok { IfOk result (λ seen. QueuesContent queue.old.items content seen queue.new.items) }
     ensures err { OnErr result (queue.new.items ≡ queue.old.items) }
@@ -288,7 +290,8 @@ fn send(queue: &mut VecDeque<Vec<u8>>, content: Option<Vec<u8>>) -> Result<Seen,
     }
 }
 
-/// Gives the session a content, and returns its replies. If an allocation fails, the session has failed for good.
+/// Gives the session a content, and returns its replies. If an allocation fails, the session has
+/// failed for good.
 fn answer<T: TextStore>(
     session: &mut Session<T>,
     content: &[u8],
@@ -307,7 +310,8 @@ fn answer<T: TextStore>(
 }
 
 /// Returns the first of these contents as a publication, with the present text of its document.
-/// None if it isn't a publication with a version, or if that document isn't open or is out of step.
+/// None if there is no content, if the first isn't a publication with a version, or if the document
+/// isn't open or is out of step.
 fn first_publication<T: TextStore>(
     alloc: Global,
     editor: &Editor,

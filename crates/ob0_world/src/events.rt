@@ -11,15 +11,15 @@ pub enum Event {
     /// The editor makes these changes in order, each in the result of the one before.
     ChangeDoc { uri: String, changes: Vec<Change> },
     CloseDoc { uri: String },
-    /// The editor sends this ask about a document. Asks that are sent get numbers from 1.
+    /// The editor sends this ask about a document. The asks that are sent are numbered from 1.
     Ask { uri: String, ask: Ask },
     /// The server takes one message and sends its replies.
     Serve,
     /// The editor takes one message.
     Take,
-    /// The editor applies the answer to ask `k`, if it has one.
+    /// The editor applies the answer to ask `k`, if it has this answer.
     Apply { k: u64 },
-    /// The editor discards the answer to ask `k`, if it has one.
+    /// The editor discards the answer to ask `k`, if it has this answer.
     Discard { k: u64 },
 }
 

@@ -10,7 +10,7 @@ pub fn answers_mention_versions()
 {}
 
 /// Proves that a client may decide by the version in an answer whether to apply its edits. If the
-/// document hasn't been opened again since the request, the result is that of the model's editor.
+/// document hasn't been opened again since the request, the model's editor has the same result.
 pub fn versions_suffice()
     ensures { VersionsSuffice }
 {}
@@ -22,16 +22,16 @@ pub fn every_exchange_follows_model()
     ensures { EveryExchangeFollowsModel }
 {}
 
-/// Proves the guarantees for a session and an editor that keeps ob0's rules, whatever they have exchanged. Each edit
-/// that the editor applied keeps the run. Each list of diagnostics with a version is right, and made for the next
-/// document that the editor announced. The session will have the editor's documents once it has taken the waiting
-/// contents.
+/// Proves the guarantees for a session and an editor that keeps ob0's rules, whatever they have
+/// exchanged. Each edit that the editor applied keeps the run. Each list of diagnostics with a
+/// version is right, and made for the next document that the editor announced. The session will
+/// have the editor's documents once it has taken the waiting contents.
 pub fn holds_for_every_exchange()
     ensures { HoldsForEveryExchange }
 {}
 
-/// Proves that each course of the model's editor with a session, as `play` plays it, is an exchange of an editor that
-/// keeps ob0's rules.
+/// Proves that each course of the model's editor with a session, as `play` plays it, is an exchange
+/// of an editor that keeps ob0's rules.
 pub fn a_course_is_an_exchange()
     ensures { ACourseIsAnExchange }
 {}

@@ -145,17 +145,17 @@ ending_of (Err Write) taken put written served = absurd (written.1 refl)
 ending_of (Err Memory) taken put written served = absurd (written.0 refl)
 
 -- returns the result of `serve` for an ending
-abbrev result_of : Ending → Result ℕ ServeFault
-result_of (at_exit status) = Ok status
-result_of (with_rest (Open [])) = Ok 1
-result_of (with_rest (Open (x ∷ xs))) = Err Truncated
-result_of (with_rest Broken) = Err BadHead
+abbrev answer_text : Ending → Result ℕ ServeFault
+answer_text (at_exit status) = Ok status
+answer_text (with_rest (Open [])) = Ok 1
+answer_text (with_rest (Open (x ∷ xs))) = Err Truncated
+answer_text (with_rest Broken) = Err BadHead
 
-truncated : (left : List ℕ) → left ≢ [] → result_of (with_rest (Open left)) ≡ Err Truncated
+truncated : (left : List ℕ) → left ≢ [] → answer_text (with_rest (Open left)) ≡ Err Truncated
 truncated [] some = absurd (some refl)
 truncated (x ∷ xs) some = refl
 
-led_to : (result : Result ℕ ServeFault) (taken put : List ℕ) → IsDeterminedByBytes result → MayServe result taken put → (e : Ending) × EndsIn e taken put × (result_of e ≡ result)
+led_to : (result : Result ℕ ServeFault) (taken put : List ℕ) → IsDeterminedByBytes result → MayServe result taken put → (e : Ending) × EndsIn e taken put × (answer_text e ≡ result)
 led_to (Ok status) taken put of (r, w, (inl ends, none)) = (at_exit status, ends, refl)
 led_to (Ok status) taken put of (r, w, (inr (all, at_end, is), none)) = (with_rest (Open []), all, ap Ok (sym is))
 led_to (Err BadHead) taken put of (r, w, (all, none)) = (with_rest Broken, all, refl)
@@ -196,7 +196,7 @@ further (with_rest Broken) taken more put closed f h =
 further (with_rest (Open left)) taken more put closed f h = absurd closed
 
 -- A result that the bytes decide has an ending that more bytes can't change.
-pub decided : (result : Result ℕ ServeFault) (taken put : List ℕ) → IsFinalResult result taken put → MayServe result taken put → (e : Ending) × EndsIn e taken put × IsClosed e × (result_of e ≡ result)
+pub decided : (result : Result ℕ ServeFault) (taken put : List ℕ) → IsFinalResult result taken put → MayServe result taken put → (e : Ending) × EndsIn e taken put × IsClosed e × (answer_text e ≡ result)
 decided (Ok status) taken put is served = (at_exit status, is, tt, refl)
 decided (Err BadHead) taken put is (r, w, (all, none)) = (with_rest Broken, all, tt, refl)
 decided (Err Truncated) taken put is served = absurd is
@@ -223,11 +223,11 @@ pub result_is_determined : ConversationIsDetermined → OneFeed → ResultIsDete
 result_is_determined one feeds taken more put all result end of of_too h k (inl is) =
     let e = decided result taken put is h in
     let f = led_to end (taken ++ more) all of_too k in
-    sym e.3 ∙ ap result_of (one_ending one feeds (taken ++ more) e.0 f.0 put all (further e.0 taken more put e.2 (framed_by f.0 (taken ++ more) all f.1) e.1) f.1).1 ∙ f.2
+    sym e.3 ∙ ap answer_text (one_ending one feeds (taken ++ more) e.0 f.0 put all (further e.0 taken more put e.2 (framed_by f.0 (taken ++ more) all f.1) e.1) f.1).1 ∙ f.2
 result_is_determined one feeds taken more put all result end of of_too h k (inr none) =
     let e = led_to result taken put of h in
     let f = led_to end taken all of_too (subst (λ xs. MayServe end xs all) (nothing_more taken more none) k) in
-    sym e.2 ∙ ap result_of (one_ending one feeds taken e.0 f.0 put all e.1 f.1).1 ∙ f.2
+    sym e.2 ∙ ap answer_text (one_ending one feeds taken e.0 f.0 put all e.1 f.1).1 ∙ f.2
 
 -- ---- the frames of a conversation
 

@@ -20,8 +20,8 @@ use Rattle.ob0_session.specs.declared.serving.ServeFault.TheVariants.{BadHead, T
 abbrev pub AreSameModule : ParsedModule → ParsedModule → Type 0
 AreSameModule m n = (m.source ≡ n.source) × (tree_of m ≡ tree_of n)
 
--- states that two tables of ordinals for the same module are equal at each token: both have the
--- same ordinal, or both have none
+-- States that two resolutions of the same module agree at each token. Both give the token the
+-- ordinal of the same declaration, or both give it none.
 abbrev pub TableIsDetermined : Type 0
 TableIsDetermined =
     (r q : Resolution) → IsResolution r → IsResolution q
@@ -59,8 +59,8 @@ ConversationIsDetermined =
 
 -- ---- bytes
 
--- holds if `serve` may return this result after it has read and written these bytes, whatever its
--- devices did
+-- Holds if `serve` may return this result after it has read the bytes `taken` and written the bytes
+-- `put`. The reader and the writer may have failed or not.
 abbrev pub MayServe : Result ℕ ServeFault → List ℕ → List ℕ → Type 0
 MayServe result taken put =
     (reader_failed : Bool) × (writer_failed : Bool)
@@ -91,10 +91,11 @@ IsFinalResult (Err TooManyReads) taken put = ⊥
 IsFinalResult (Err Write) taken put = ⊥
 IsFinalResult (Err Memory) taken put = ⊥
 
--- States that the output of `serve` for the first bytes of an input is a prefix of its output for
--- more of that input. The call for more must return neither `Memory` nor `Write`. Suppose that the
--- first call returns neither of them too. Then the outputs are equal if the inputs are equal, or if
--- an `exit` or a bad head has ended the first call.
+-- States how the outputs of two calls of `serve` are related if the first call's input is a prefix
+-- of the second call's input. If the second call returns neither `Memory` nor `Write`, the first
+-- call's output is a prefix of the second call's output. Suppose that the first call also returns
+-- neither of them. Then the outputs are equal if the inputs are equal, or if an `exit` or a bad
+-- head ended the first call.
 abbrev pub OutputIsDetermined : Type 0
 OutputIsDetermined =
     (taken more put all : List ℕ) (result end : Result ℕ ServeFault) → IsFullyWritten end
@@ -102,9 +103,9 @@ OutputIsDetermined =
     → (unwritten : List ℕ) × (all ≡ put ++ unwritten)
     × (IsFullyWritten result → IsFinalResult result taken put ⊎ (more ≡ []) → unwritten ≡ [])
 
--- States that `serve` returns the same result for the same bytes. If an `exit` or a bad head
--- decided the result, it is also the same for a longer input. The results `Read`, `TooManyReads`,
--- `Write` and `Memory` are excepted.
+-- States that two calls of `serve` return the same result for the same bytes. If an `exit` or a bad
+-- head ended the first call, the input of the second may have further bytes. The law excludes calls
+-- that return `Read`, `TooManyReads`, `Write` or `Memory`.
 abbrev pub ResultIsDetermined : Type 0
 ResultIsDetermined =
     (taken more put all : List ℕ) (result end : Result ℕ ServeFault)
@@ -112,7 +113,7 @@ ResultIsDetermined =
     → MayServe result taken put → MayServe end (taken ++ more) all
     → IsFinalResult result taken put ⊎ (more ≡ []) → result ≡ end
 
--- States that each list of bytes can be read as a list of contents and a rest (`Frames`). The
+-- States that each list of bytes can be split into a list of contents and a rest (`Frames`). The
 -- formula is a double negation.
 abbrev pub FramingExists : Type 0
 FramingExists =
@@ -121,9 +122,9 @@ FramingExists =
 
 -- ---- a conversation, as bytes
 
--- States that `serve` writes the frames of a conversation, unless it returns `Memory` or `Write`.
--- Fed with the frames of the contents that a session took, it writes the frames of the contents
--- that the session sent. Each content taken has at most `max_content` bytes.
+-- Supposes that the input of `serve` is the frames of the contents that a session took. States that
+-- the output of `serve` is the frames of the contents that the session sent. This holds unless
+-- `serve` returns `Memory` or `Write`. Each content taken has at most `max_content` bytes.
 abbrev pub ConversationIsServed : Type 0
 ConversationIsServed =
     (taken sent : List (List ℕ)) (after : ServerState)
@@ -133,9 +134,10 @@ ConversationIsServed =
     → MayServe result (flat_map frame taken) put
     → put ≡ flat_map frame sent
 
--- States that `serve`, fed with the frames of a conversation and then any bytes, first writes the
--- frames of the contents that the session sent. This holds unless `serve` returns `Memory` or
--- `Write`. Each content taken has at most `max_content` bytes.
+-- Supposes that the input of `serve` begins with the frames of the contents that a session took.
+-- States that the output of `serve` begins with the frames of the contents that the session sent.
+-- This holds unless `serve` returns `Memory` or `Write`. Each content taken has at most
+-- `max_content` bytes.
 abbrev pub ConversationIsServedAsPrefix : Type 0
 ConversationIsServedAsPrefix =
     (taken sent : List (List ℕ)) (after : ServerState)
@@ -145,10 +147,10 @@ ConversationIsServedAsPrefix =
     → MayServe result (flat_map frame taken ++ more) put
     → (later : List ℕ) × (put ≡ flat_map frame sent ++ later)
 
--- States that `serve`, fed with the frames of a conversation that ended and then any bytes, writes
--- the frames of the contents that the session sent, and no more. It returns the status with which
--- the conversation ended. This holds unless `serve` returns `Memory` or `Write`. Each content taken
--- has at most `max_content` bytes.
+-- Supposes that the input of `serve` is the frames of the contents of a conversation that ended,
+-- followed by any bytes. States that `serve` writes the frames of the contents that the session
+-- sent, and no more, and returns the status with which the conversation ended. This holds unless
+-- `serve` returns `Memory` or `Write`. Each content taken has at most `max_content` bytes.
 abbrev pub EndedConversationIsServed : Type 0
 EndedConversationIsServed =
     (taken sent : List (List ℕ)) (after : ServerState) (status : ℕ)

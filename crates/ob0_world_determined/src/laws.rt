@@ -10,8 +10,8 @@ use ob0_frame::laws::{
 use ob0_scan::laws::{reported_faults_are_unique, scan_is_unique};
 use ob0_world::laws::holds_for_every_exchange;
 
-/// Proves that two tables of ordinals for the same module are equal at each token: both have the
-/// same ordinal, or both have none.
+/// Proves that two resolutions of the same module agree at each token. Both give the token the
+/// ordinal of the same declaration, or both give it none.
 pub fn table_is_determined()
     ensures { TableIsDetermined }
 {}
@@ -48,11 +48,11 @@ pub fn conversation_is_determined()
     answer_is_determined();
 }
 
-/// Proves that the output of `serve` for the first bytes of an input is a prefix of its output for
-/// more of that input. The call for more must return neither `Memory` nor `Write`. Suppose that the
-/// first call returns neither of them too. Then the outputs are equal if the inputs are equal, or
-/// if an `exit` or a bad head has ended the first call. So it makes no difference how an input is
-/// cut into pieces.
+/// Proves how the outputs of two calls of `serve` are related if the first call's input is a prefix
+/// of the second call's input. If the second call returns neither `Memory` nor `Write`, the first
+/// call's output is a prefix of the second call's output. Suppose that the first call also returns
+/// neither of them. Then the outputs are equal if the inputs are equal, or if an `exit` or a bad
+/// head ended the first call. So it makes no difference how an input is cut into pieces.
 pub fn output_is_determined()
     ensures { OutputIsDetermined }
 {
@@ -60,9 +60,9 @@ pub fn output_is_determined()
     feeding_is_determined();
 }
 
-/// Proves that `serve` returns the same result for the same bytes. If an `exit` or a bad head
-/// decided the result, it is also the same for a longer input. The results `Read`, `TooManyReads`,
-/// `Write` and `Memory` are excepted.
+/// Proves that two calls of `serve` return the same result for the same bytes. If an `exit` or a
+/// bad head ended the first call, the input of the second may have further bytes. The law excludes
+/// calls that return `Read`, `TooManyReads`, `Write` or `Memory`.
 pub fn result_is_determined()
     ensures { ResultIsDetermined }
 {
@@ -70,15 +70,15 @@ pub fn result_is_determined()
     feeding_is_determined();
 }
 
-/// Proves that each list of bytes can be read as a list of contents and a rest. So a law about all
-/// its lists of contents is about at least one.
+/// Proves that each list of bytes can be split into a list of contents and a rest. So a law about
+/// every such split of the bytes isn't vacuous.
 pub fn framing_exists()
     ensures { FramingExists }
 {}
 
-/// Proves that `serve` writes the frames of a conversation, unless it returns `Memory` or `Write`. Fed with the frames
-/// of the contents that a session took, it writes the frames of the contents that the session sent. Each content taken
-/// has at most `max_content` bytes.
+/// Supposes that the input of `serve` is the frames of the contents that a session took. Proves
+/// that the output of `serve` is the frames of the contents that the session sent. This holds
+/// unless `serve` returns `Memory` or `Write`. Each content taken has at most `max_content` bytes.
 pub fn a_conversation_is_served()
     ensures { ConversationIsServed }
 {
@@ -88,9 +88,10 @@ pub fn a_conversation_is_served()
     written_frames_are_read();
 }
 
-/// Proves that `serve`, fed with the frames of a conversation and then any bytes, first writes the
-/// frames of the contents that the session sent. Each content taken has at most `max_content`
-/// bytes. This holds unless `serve` returns `Memory` or `Write`.
+/// Supposes that the input of `serve` begins with the frames of the contents that a session took.
+/// Proves that the output of `serve` begins with the frames of the contents that the session sent.
+/// This holds unless `serve` returns `Memory` or `Write`. Each content taken has at most
+/// `max_content` bytes.
 pub fn a_conversation_is_served_as_prefix()
     ensures { ConversationIsServedAsPrefix }
 {
@@ -100,9 +101,10 @@ pub fn a_conversation_is_served_as_prefix()
     written_frames_are_read();
 }
 
-/// Proves that `serve`, fed with the frames of a conversation that ended and then any bytes, writes
-/// the frames of the contents that the session sent, and no more. It returns the status with which
-/// the conversation ended. This holds unless `serve` returns `Memory` or `Write`.
+/// Supposes that the input of `serve` is the frames of the contents of a conversation that ended,
+/// followed by any bytes. Proves that `serve` writes the frames of the contents that the session
+/// sent, and no more, and returns the status with which the conversation ended. This holds unless
+/// `serve` returns `Memory` or `Write`. Each content taken has at most `max_content` bytes.
 pub fn an_ended_conversation_is_served()
     ensures { EndedConversationIsServed }
 {
@@ -112,11 +114,12 @@ pub fn an_ended_conversation_is_served()
     written_frames_are_read();
 }
 
-/// Proves the headline for `serve` and every editor that keeps ob0's rules. The guarantees of
-/// `HoldsOfExchange` hold. Suppose that `serve` is fed with the frames of the contents that the
-/// session took, each of at most `max_content` bytes. Then `serve` writes the frames of the
-/// contents that the session sent, unless `serve` returns `Memory` or `Write`. If it returns
-/// `Memory`, it has written the frames of the replies to the contents that it answered.
+/// Proves the guarantees of `serve` for every editor that keeps ob0's rules. Each exchange of the
+/// editor with a session has the guarantees of `HoldsOfExchange`. Suppose that `serve` is fed with
+/// the frames of the contents that the session took, each of at most `max_content` bytes. Then
+/// `serve` writes the frames of the contents that the session sent, unless it returns `Memory` or
+/// `Write`. If it returns `Memory` after it has answered exactly these contents, it has written the
+/// same frames.
 pub fn every_exchange_is_served()
     ensures { EveryExchangeIsServed }
 {

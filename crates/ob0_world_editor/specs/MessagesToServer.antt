@@ -17,7 +17,7 @@ use Rattle.ob0_world_editor.specs.Shapes.{method_of, empty_range_at}
 
 -- ---- as a function: the message in a content, in which an ask is known by its number
 
--- Returns the number that a request has as its id. None if its id isn't a whole number that isn't
+-- Returns the number that a request has as its id. None if the id isn't a whole number, or is
 -- negative.
 abbrev pub request_number : Data → Option ℕ
 request_number (number (unsigned k)) = Some k

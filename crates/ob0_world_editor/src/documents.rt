@@ -72,7 +72,8 @@ impl OpenDocuments {
         self.by_uri.get(uri)
     }
 
-    /// Opens a document, or replaces an open one. If an allocation fails, the documents are unchanged.
+    /// Opens a document, or replaces an open one. If an allocation fails, the documents are
+    /// unchanged.
     pub fn put(
         &mut self,
         alloc: Global,

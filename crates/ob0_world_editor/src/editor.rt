@@ -1,6 +1,7 @@
-//! Models an editor that talks to a server: its documents, its requests and the answers that it has.
+//! Models an editor that talks to a server: its documents, its requests and the answers that it
+//! has.
 //!
-//! If a call returns an error, the editor is unchanged: contents and copies are made first, the
+//! If a call returns an error, the editor is unchanged. Contents and copies are made first, the
 //! insertion into the map is the last step that can fail, and the number of openings is increased
 //! after it. The exception is `apply`, which first removes the answer. So after an error in `apply`
 //! the editor no longer has that answer.
@@ -102,8 +103,8 @@ impl Editor {
         }
     }
 
-    /// Opens a document, and returns the content of the notification. None if the document is open already. On an error
-    /// the editor is unchanged.
+    /// Opens a document, and returns the content of the notification. None if the document is open
+    /// already. On an error the editor is unchanged.
     pub fn open(&mut self, uri: &str, text: &str) -> Result<Option<Vec<u8>>, AllocError>
         requires { AreFew self.old }
         ensures ok { IfOk result (λ content. PerformsAct
@@ -121,8 +122,8 @@ impl Editor {
         Ok(Some(content))
     }
 
-    /// Changes a document, and returns the content of the notification. None if the document isn't open. On an error
-    /// the editor is unchanged.
+    /// Changes a document, and returns the content of the notification. None if the document isn't
+    /// open. On an error the editor is unchanged.
     pub fn change(&mut self, uri: &str, changes: &[Change]) -> Result<Option<Vec<u8>>, AllocError>
         requires { AreFew self.old }
         ensures ok { IfOk result (λ content. PerformsAct
@@ -146,8 +147,8 @@ impl Editor {
         Ok(Some(content))
     }
 
-    /// Closes a document, and returns the content of the notification. None if the document isn't open. On an error the
-    /// editor is unchanged.
+    /// Closes a document, and returns the content of the notification. None if the document isn't
+    /// open. On an error the editor is unchanged.
     pub fn close(&mut self, uri: &str) -> Result<Option<Vec<u8>>, AllocError>
         ensures ok { IfOk result
             (λ content. PerformsAct (act_result self.old (close_document uri.now)) content self.new) }
@@ -161,8 +162,8 @@ impl Editor {
         Ok(Some(content))
     }
 
-    /// Asks about a document, and returns the content of the request. None if the document isn't open. On an error the
-    /// editor is unchanged.
+    /// Asks about a document, and returns the content of the request. None if the document isn't
+    /// open. On an error the editor is unchanged.
     pub fn ask(&mut self, uri: &str, ask: &Ask) -> Result<Option<Vec<u8>>, AllocError>
         requires { AreFew self.old }
         ensures ok { IfOk result (λ content. PerformsAct
@@ -242,8 +243,9 @@ impl Editor {
         Some(answer.edits)
     }
 
-    /// Returns the new text of the document of request `k`, with these edits made. None if its opening or version has
-    /// changed since the request, or if two edits share a character.
+    /// Returns the new text of the document of request `k`, with these edits made. None if there is
+    /// no such document, if its opening or version has changed since the request, or if two edits
+    /// share a character.
     fn rewrite(&self, k: u64, edits: &[Edit]) -> Result<Option<RewrittenDocument>, AllocError>
         requires { AreFew self.now }
         ensures { IfOk result (λ rewritten.
@@ -261,7 +263,8 @@ impl Editor {
         self.rewrite_document(requested.uri.as_str(), document, edits)
     }
 
-    /// Returns the new text of a document, with these edits made. None if two edits share a character.
+    /// Returns the new text of a document, with these edits made. None if two edits share a
+    /// character.
     fn rewrite_document(
         &self,
         uri: &str,
@@ -287,8 +290,8 @@ impl Editor {
         }))
     }
 
-    /// Stores a document's new text, and returns the applied edit with the content of the notification. On an error the
-    /// editor is unchanged.
+    /// Stores a document's new text, and returns the applied edit with the content of the
+    /// notification. On an error the editor is unchanged.
     fn store_rewritten(&mut self, rewritten: RewrittenDocument) -> Result<ApplyOutcome, AllocError>
         requires { rewritten.version < 2 ^ 63 }
         ensures ok { IfOk result (λ applying. IsAppliedAs self.old rewritten applying self.new) }
@@ -301,8 +304,8 @@ impl Editor {
         })
     }
 
-    /// Stores a copy of a document's new text, and returns the content of the notification. On an error the editor is
-    /// unchanged.
+    /// Stores a copy of a document's new text, and returns the content of the notification. On an
+    /// error the editor is unchanged.
     fn store_text(&mut self, rewritten: &RewrittenDocument) -> Result<Vec<u8>, AllocError>
         requires { rewritten.now.version < 2 ^ 63 }
         ensures ok { IfOk result
@@ -319,7 +322,8 @@ impl Editor {
     }
 }
 
-/// Returns a request about a document, with copies of the ask, the uri and the document's present state.
+/// Returns a request about a document, with copies of the ask, the uri and the document's present
+/// state.
 fn sent_ask(
     alloc: Global,
     ask: &Ask,

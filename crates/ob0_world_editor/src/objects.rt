@@ -2,8 +2,8 @@
 //! so they mustn't contain a character that needs one.
 //!
 //! The editor's messages are types that write themselves. An object with one member is a
-//! `OneMemberObject`. An object with two or three members is written by one call of a function of this
-//! file, and its proof applies `object_of` to the clause of that call.
+//! `OneMemberObject`. An object with two or three members is written by one call of a function of
+//! this file. The proof of the writer applies `object_of` to the clause of that call.
 //!
 //! Each `?` makes the proof much slower. So a `write` has none, except for objects with four
 //! members and for the list of changes.

@@ -209,7 +209,8 @@ fn workspace_edit_values<'v>(edit: &'v Value, uri: &str) -> Option<&'v Vec<Value
     }
 }
 
-/// Returns the list of edits of this document in the first action with this title. None if there is none.
+/// Returns the list of edits of this document in the first action with this title. None if there is
+/// no such list.
 fn action_edit_values<'v>(actions: &'v Value, title: &str, uri: &str) -> Option<&'v Vec<Value>>
     ensures { option_map (λ v. items_view v.now.items) result
         ≡ action_edit_items title.now uri.now (view actions.now) }

@@ -50,12 +50,12 @@ abbrev pub new_editor : Unit → Editor
 new_editor unit =
     record { unit = unit; documents = map_of.empty; openings = 0; requested = []; answers = [] }
 
--- returns the request with this number, counted from 1
+-- returns the request with this number, counted from 1; None if there is no such request
 abbrev pub request_numbered : List SentAsk → ℕ → Option SentAsk
 request_numbered requested zero = None
 request_numbered requested (suc k) = slice_get requested k
 
--- returns the open document with this uri
+-- returns the open document with this uri; None if it isn't open
 abbrev pub open_at : Editor → List ℕ → Option OpenDocument
 open_at e uri = map_of.get e.documents uri
 

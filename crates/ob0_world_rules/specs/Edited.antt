@@ -14,11 +14,11 @@ pub record Replacement : Type 0 where
   pub range : Range
   pub text : List ℕ
 
--- returns the replacement that an edit of the code means
+-- returns the replacement for an edit of the code's type `Edit`
 abbrev pub replacement_of : Edit → Replacement
 replacement_of e = record { range = e.range; text = chars (string_bytes e.text) }
 
--- returns the replacements that edits of the code mean
+-- returns the replacements for edits of the code's type `Edit`
 abbrev pub replacements : List Edit → List Replacement
 replacements edits = map replacement_of edits
 

@@ -26,11 +26,11 @@ pub record ActResult : Type 0 where
   pub sent : List MessageToServer
   pub applied : List Applied
 
--- returns the result of an act that sends and applies nothing, with this editor after it
+-- returns the result of an act that sends and applies nothing and leads to this editor
 abbrev pub unchanged_result : Editor → ActResult
 unchanged_result e = record { editor = e; sent = []; applied = [] }
 
--- returns the result of an act that sends one message, with this editor after it
+-- returns the result of an act that sends one message and leads to this editor
 abbrev pub sending_result : Editor → MessageToServer → List Applied → ActResult
 sending_result e message applied = record { editor = e; sent = message ∷ []; applied = applied }
 
@@ -98,13 +98,13 @@ answers_except k (a ∷ rest) = if a.number == k then rest else a ∷ answers_ex
 abbrev pub without_answer : Editor → ℕ → Editor
 without_answer e k = record e { answers = answers_except k e.answers }
 
--- returns the document if its opening and version are still those of the request, otherwise None
+-- returns the document if its opening and version are the same as in the request, otherwise None
 abbrev pub if_unchanged_since : SentAsk → OpenDocument → Option OpenDocument
 if_unchanged_since a d = if d.opening == a.opening && same_version d.version a.version then Some d else None
 
--- Returns the result of making the edits that answer request k in the document of that request.
--- None if there is no such document, if its opening or version has changed, or if two edits share a
--- character.
+-- Returns the result of making the edits of an answer to request k in the document of the request.
+-- None if there is no such request, if the document isn't open, if its opening or version has
+-- changed, or if two edits share a character.
 abbrev pub applying_result : Editor → ℕ → List Replacement → Option ActResult
 applying_result e k edits = do
   a ← request_numbered e.requested k

@@ -10,7 +10,7 @@ use Rattle.ob0_world_rules.specs.ClientAndServer.{OpenDocument, SentAsk, Editor,
 use Rattle.ob0_world_rules.specs.EditorActs.{ActResult, unchanged_result, sending_result, closing_result, asks, edits_of_answer, without_answer}
 use Rattle.ob0_world_rules.specs.PublicationsInOrder.{AnnouncedDocument}
 
--- a document's next version and text, and the changes that are sent to the server for them
+-- a revision of a document: its next version and text, and the changes that are sent to the server
 pub record Revision : Type 0 where
   pub version : ℤ
   pub text : List ℕ
@@ -40,8 +40,8 @@ abbrev pub with_document : Editor → List ℕ → OpenDocument → Editor
 with_document e uri d = record e { documents = map_of.insert e.documents uri d }
 
 -- Holds if these revisions of an open document, made in order, lead from editor `e` to `new` and
--- announce these documents. The changes of each revision turn the text before it into its text.
--- Their positions count in the agreed unit. A revision may have any version.
+-- announce these documents. The changes of each revision turn the text before the revision into the
+-- text after it. Their positions count in the agreed unit. A revision may have any version.
 abbrev pub Revises : Editor → List ℕ → List Revision → Editor → List AnnouncedDocument → Type 0
 Revises e uri [] new announced = (new ≡ e) × (announced ≡ [])
 Revises e uri (r ∷ more) new announced =
@@ -64,8 +64,9 @@ changes_of (r ∷ more) = r.how ++ changes_of more
 -- ---- answers
 
 -- States that the edits of answer k are made in the document that was asked about, all at once. The
--- document still has the text that it had then. The first changes that are sent make the edited
--- text. The rest are later changes of the user, which an editor may send together with the edits.
+-- document still has the text that it had when the request was sent. The first changes that are
+-- sent make the edited text. The rest are later changes of the user, which an editor may send
+-- together with the edits.
 pub record AppliesAnswer (e : Editor) (k : ℕ) (revisions : List Revision) (done : ActResult)
     (announced : List AnnouncedDocument) : Type 0 where
   pub edits : List Replacement

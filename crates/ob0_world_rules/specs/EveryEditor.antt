@@ -68,7 +68,8 @@ model_state_of w =
 
 -- ---- what may happen
 
--- a turn: the editor acts or sends another message, or the server or the editor takes a message
+-- a turn: the editor makes a move or sends a message outside the model, or the server or the editor
+-- takes a message
 pub data Turn : Type 0 where
   -- the editor makes a move
   editor_does : Move → Turn
@@ -79,7 +80,7 @@ pub data Turn : Type 0 where
   -- the editor takes one message
   editor_takes : Turn
 
--- returns the state after a move of the editor, by which these documents are announced
+-- returns the state after a move of the editor that announces these documents
 abbrev pub after_move : EditorAndServer → ActResult → List AnnouncedDocument → EditorAndServer
 after_move w done announced =
     record w {
@@ -109,7 +110,8 @@ ServerTakesNext w (Some message ∷ rest) new =
       made = w.made ++ made;
     })
 
--- returns the state after the editor has taken the first message that waits for it, if there is one
+-- returns the state after the editor has taken the first message that waits for it; unchanged if no
+-- message waits
 abbrev pub after_editor_takes_next : EditorAndServer → List (Option MessageToEditor) → EditorAndServer
 after_editor_takes_next w [] = w
 after_editor_takes_next w (None ∷ rest) = record w { to_editor = rest }
@@ -139,9 +141,9 @@ MayLeadTo w (turn ∷ turns) new =
 pub record HoldsWithEditor (w : EditorAndServer) : Type 0 where
   -- Each applied edit keeps the run. Each list of diagnostics is empty exactly when its text is a
   -- well-typed module. If no message of the model waits for the server, the latest diagnostics are
-  -- of the present text.
+  -- for the present text.
   pub holds : Holds (model_state_of w)
-  -- if no notification waits for the server, the latest diagnostics are of the present text, even
+  -- if no notification waits for the server, the latest diagnostics are for the present text, even
   -- if asks and messages outside the model still wait
   pub latest : notifications_among (modeled_messages w.to_server) ≡ [] → AreUpToDate w.editor w.made
   -- the server will have the editor's documents once it has taken the messages that wait for it

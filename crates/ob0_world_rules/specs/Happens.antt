@@ -39,7 +39,8 @@ ServerTakes w (message ∷ rest) new =
       made = w.made ++ made;
     })
 
--- returns the state after the editor has taken the first message that waits for it, if there is one
+-- returns the state after the editor has taken the first message that waits for it; unchanged if no
+-- message waits
 abbrev pub after_editor_takes : ClientAndServer → List MessageToEditor → ClientAndServer
 after_editor_takes w [] = w
 after_editor_takes w (message ∷ rest) =

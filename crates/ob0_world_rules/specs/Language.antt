@@ -39,8 +39,9 @@ pub record WellTypedText (text : List ℕ) : Type 0 where
   pub text_of : IsModuleText tree (utf8 text)
   pub well_typed : WellTyped tree
 
--- Holds if the modules of these two texts output the same and end alike. That is for every input,
--- and for all bounds on calls and on the iterations of a loop (LANGUAGE.md, Runs).
+-- Holds if the modules of these two texts output the same and end alike. Output and end are the
+-- same for every input, and for all bounds on calls and on the iterations of a loop (LANGUAGE.md,
+-- Runs).
 abbrev pub SameRun : List ℕ → List ℕ → Type 0
 SameRun a b =
     (before after : Tree Name module_text)

@@ -66,7 +66,7 @@ AreMadeForDocuments [] (t ∷ announced) = ⊥
 AreMadeForDocuments (m ∷ made) [] = ⊥
 
 -- returns a list of the uri and version of the document that the message opens or changes, or an
--- empty list
+-- empty list if there is none
 abbrev pub versions_announced_by : MessageToServer → List (List ℕ × ℤ)
 versions_announced_by (notifies (Opened uri version text)) = (uri, version) ∷ []
 versions_announced_by (notifies (Changed uri version how)) = (uri, version) ∷ []

@@ -42,7 +42,8 @@ pub fn course_exists()
     ensures { CourseExists }
 {}
 
-/// Proves that the server will have the editor's documents once it has taken all messages that wait for it.
+/// Proves that the server will have the editor's documents once it has taken all messages that wait
+/// for it.
 pub fn server_mirrors_editor()
     ensures { ServerMirrorsEditor }
 {}
@@ -56,8 +57,8 @@ pub fn publications_in_order()
 
 /// Proves the guarantees for every editor that keeps ob0's rules, whatever the order of the turns.
 /// Every applied edit keeps the run. All diagnostics are right, and are made for the announced
-/// documents in order. The latest diagnostics are those of the present text, once the server has
-/// taken all notifications.
+/// documents in order. The latest diagnostics are for the present text, once the server has taken
+/// all notifications.
 pub fn holds_for_every_editor()
     ensures { HoldsForEveryEditor }
 {}

@@ -1,4 +1,4 @@
--- States the answers to four asks about one text.
+-- States the answers to four requests (`Ask`) about the example text `worked_text`.
 -- Rule: docs/PROTOCOL.md, Requests on documents 6, 9; worked examples.
 use Rattle.std.specs.Prelude.{◌≡◌, ◌↔◌, ℕ, List, [], ◌∷◌, codes}
 use Rattle.ob0_text.specs.declared.position_types.Range.{Range}
@@ -18,7 +18,7 @@ range_on_line line from to = record { start = at line from; end = at line to }
 abbrev pub replacement_on_line : ℕ → ℕ → ℕ → List ℕ → Replacement
 replacement_on_line line from to new = record { range = range_on_line line from to; text = new }
 
--- states that the ask about the worked text is answered by these edits, and by no others
+-- states that the request `ask` about `worked_text` is answered by these edits, and by no others
 abbrev pub IsAnsweredBy : Ask → List Replacement → Type 0
 IsAnsweredBy ask edits =
     (given : List Replacement) → IsAnswerForText Utf16 worked_text ask given ↔ (given ≡ edits)

@@ -1,4 +1,4 @@
--- States a worked exchange: an editor inlines a constant everywhere.
+-- States that an example exchange exists, in which an editor inlines a constant everywhere.
 -- Rule: LSP 3.17; a worked example.
 use Rattle.std.specs.Prelude.{◌≡◌, ℕ, pos, List, [], ◌∷◌, ◌++◌, map, Some, codes}
 use Rattle.serde_json.specs.Data.{Data, array, object, string, item, no_items, member, no_members}
@@ -18,7 +18,7 @@ use Rattle.ob0_world_worked.specs.WorkedAnswers.{range_on_line}
 abbrev pub uri : List ℕ
 uri = codes "file:///m.mod"
 
--- the worked text after n has been inlined everywhere
+-- the text that `worked_text` becomes if constant n is inlined everywhere
 abbrev pub inlined_text : List ℕ
 inlined_text =
     line (codes "MODULE M;")
@@ -101,9 +101,9 @@ change_notification =
 
 -- ---- the law
 
--- States that these turns lead from the beginning to an exchange in which the session has taken
--- five messages. The notification of the change waits for the session, and the editor has applied
--- one edit.
+-- States that `worked_turns` lead from the beginning to an exchange in which the session has taken
+-- five messages. The notification of the change still waits for the session. The editor has applied
+-- one answer, which replaces `worked_text` by `inlined_text`.
 pub record WorkedExchangeExists : Type 0 where
   pub first : Exchange
   pub last : Exchange

@@ -1,4 +1,4 @@
--- Defines the text of the worked answers.
+-- Defines the example text for which `WorkedAnswers` states answers.
 -- Rule: none; an example.
 use Rattle.std.specs.Prelude.{ℕ, List, ◌∷◌, [], ◌++◌, codes}
 use Rattle.ob0_text.specs.declared.position_types.Position.{Position}
@@ -7,7 +7,7 @@ use Rattle.ob0_text.specs.declared.position_types.Position.{Position}
 abbrev pub line : List ℕ → List ℕ
 line text = text ++ 10 ∷ []
 
--- the text of the worked answers, as characters
+-- the example text, as characters
 abbrev pub worked_text : List ℕ
 worked_text =
     line (codes "MODULE M;")

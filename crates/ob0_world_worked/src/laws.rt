@@ -1,5 +1,5 @@
-//! Proves laws about one text (`worked_text`): its worked answers and a worked exchange. Also
-//! proves that formatting has answers.
+//! Proves what the answers to four requests about an example text (`worked_text`) are, and that an
+//! example exchange exists. Also proves that a request for formatting has an answer for each text.
 ghost use Rattle.ob0_world_worked.specs.Formatting.{CourseExistsWithFormatting, FormattingHasAnswers};
 ghost use Rattle.ob0_world_worked.specs.WorkedExchange.{WorkedExchangeExists};
 ghost use Rattle.ob0_world_worked.specs.WorkedAnswers.{CaptureIsRefused, RenameIsAnswered, InliningIsAnswered, InliningEverywhereIsAnswered};
@@ -14,7 +14,7 @@ use ob0_layout::laws::{
 };
 use ob0_world_rules::laws::{answers_are_unique, course_exists};
 
-/// Proves that renaming variable x of the worked text to y is answered by three edits, and by no
+/// Proves that renaming variable x of `worked_text` to y is answered by three edits, and by no
 /// others.
 pub fn rename_is_answered()
     ensures { RenameIsAnswered }
@@ -31,7 +31,7 @@ pub fn capture_is_refused()
     answers_are_unique();
 }
 
-/// Proves that inlining constant n of the worked text at its use is answered by one edit, and by no
+/// Proves that inlining constant n of `worked_text` at its use is answered by one edit, and by no
 /// other.
 pub fn inlining_is_answered()
     ensures { InliningIsAnswered }
@@ -41,7 +41,8 @@ pub fn inlining_is_answered()
     answers_are_unique();
 }
 
-/// Proves that inlining constant n everywhere is answered by two edits, and by no others.
+/// Proves that inlining constant n of `worked_text` everywhere is answered by two edits, and by no
+/// others.
 pub fn inlining_everywhere_is_answered()
     ensures { InliningEverywhereIsAnswered }
 {
@@ -59,7 +60,8 @@ pub fn formatting_has_answers()
     gaps_give_formatted_text();
 }
 
-/// Proves that a list of events has a course if its renames and inlinings have answers.
+/// Proves that a list of events can happen, one after another, from the start of client and server
+/// (`Course`). This supposes only that its renames and inlinings have answers.
 pub fn course_exists_with_formatting()
     ensures { CourseExistsWithFormatting }
 {
@@ -67,9 +69,9 @@ pub fn course_exists_with_formatting()
     course_exists();
 }
 
-/// Proves that the worked exchange exists. An editor initializes a session and opens a document
-/// with version 0. It sends a hover and a request for the code actions of one kind in a range. It
-/// applies the answer by two changes in one notification.
+/// Proves that the example exchange exists. An editor initializes a session and opens a document
+/// with version 0. It sends a hover request, and a request for the code actions of one kind in a
+/// range. It applies the answer to the second request by two changes in one notification.
 pub fn worked_exchange_exists()
     ensures { WorkedExchangeExists }
 {

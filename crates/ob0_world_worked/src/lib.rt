@@ -1,5 +1,5 @@
-//! Proves worked answers and a worked exchange for one text, and that a request for formatting has
-//! an answer.
+//! Proves what the answers to four requests about an example text are, and that an example exchange
+//! exists. Also proves that a request for formatting has an answer for each text.
 #![tactic(auto)]
 
 pub mod laws;

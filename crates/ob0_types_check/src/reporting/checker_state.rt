@@ -223,7 +223,8 @@ impl<'t> CheckerState<'t> {
         }
     }
 
-    /// Records the meaning of the declaration at a token.
+    /// Records the meaning of the declaration at a token. If the token has no ordinal, nothing
+    /// changes.
     pub(crate) fn define(&mut self, token: usize, meaning: Meaning)
         ensures { declarations_in_state self.new ≡ define (declarations_in_state self.old) (known_meaning meaning) token }
     {
@@ -295,8 +296,9 @@ impl<'t> CheckerState<'t> {
         }
     }
 
-    /// Returns the ordinal of the next word ARRAY or RECORD, which is inside `around` such words. Returns an error if
-    /// the number doesn't fit 64 bits.
+    /// Returns the ordinal of the next word ARRAY or RECORD, that is, the number of such words
+    /// before it. The next word is inside `around` such words. Returns an error if the ordinal
+    /// doesn't fit 64 bits.
     pub(crate) fn next_type_ordinal(&self, around: usize) -> Result<usize, AllocError>
         ensures { MatchResult result (λ n. n ≡ next_type_ordinal around (declarations_in_state self.now))
             (λ _. 2 ^ 64 ≤ next_type_ordinal around (declarations_in_state self.now)) }

@@ -50,9 +50,9 @@ impl<'t> CheckerState<'t> {
 }
 
 impl<'t> Reporter<'t> {
-    /// Reports the faults of a block: constants, types, variables, procedures, and then the statements if they are
-    /// wanted. `own` is the token of the block's closing name. Appends the closing name of each walked body with a
-    /// fault to `faulty`.
+    /// Reports the faults of a block: constants, types, variables, procedures, and then the
+    /// statements if they are wanted. `own` is the token of the block's closing name. Appends to
+    /// `faulty` the closing name of each walked body that has a fault.
     #[cycle(blocks)]
     pub(crate) fn report_block(
         &mut self,

@@ -74,8 +74,8 @@ fn relation_operand_type(relation: Relation, left: TypeId) -> TypeId
     }
 }
 
-/// Returns the type that `=` or `#` requires of both operands: INTEGER for a number on the left, unknown for an unknown
-/// type there, otherwise BOOLEAN.
+/// Returns the type that `=` or `#` requires of both operands. It is the left operand's type if
+/// that is INTEGER or unknown, otherwise BOOLEAN.
 fn equality_operand_type(left: TypeId) -> TypeId
     ensures { result ≡ equality_operand_type (known_types []) left }
 {
@@ -109,8 +109,8 @@ pub(crate) fn same_type(a: TypeId, b: TypeId) -> bool
     a == b
 }
 
-/// Returns true if a type is accepted at a place that requires the type `wanted`. An unknown type is accepted
-/// everywhere, and as a requirement it accepts every type.
+/// Returns true if a type is accepted at a place that requires the type `wanted`. The unknown type
+/// is accepted everywhere. If `wanted` is the unknown type, every type is accepted.
 fn fits(of: TypeId, wanted: TypeId) -> bool
     ensures { result ≡ fits (known_types []) of wanted }
 {
@@ -267,7 +267,7 @@ impl<'t> CheckerState<'t> {
         }
     }
 
-    /// Reports the faults of a relation between two operands, and returns its operand.
+    /// Reports the faults of a relation between two operands, and returns the resulting operand.
     fn check_relation(
         &self,
         faults: &mut Vec<Fault>,
@@ -601,8 +601,9 @@ impl<'t> CheckerState<'t> {
         Ok(base.designator_part(of, name))
     }
 
-    /// Returns the type of the field at the token `name` in the type `base`, and reports `NotRecord` or `NoField`. The
-    /// type is then unknown.
+    /// Returns the type that the field at the token `name` has in the type `base`. Reports
+    /// `NotRecord` if `base` is known and isn't a record, and `NoField` if the record has no such
+    /// field. In both cases the type is unknown.
     fn field_type(
         &self,
         faults: &mut Vec<Fault>,

@@ -94,8 +94,8 @@ fn record_keyword(groups: &[Fields]) -> usize
 }
 
 impl<'t> CheckerState<'t> {
-    /// Returns the type that a name refers to. A name with another meaning is reported. Without a known meaning nothing
-    /// is reported. The type is unknown in both cases.
+    /// Returns the type that a name refers to. A name with another meaning is reported. If the name
+    /// has no known meaning, nothing is reported. The type is unknown in both cases.
     fn type_named_at(&self, faults: &mut Vec<Fault>, token: usize) -> Result<TypeId, AllocError>
         ensures { IfOk result (λ t. ReportsAfter faults.old.items faults.new.items t
             (type_named_at (facts_in self.now false) token)) }
@@ -191,8 +191,9 @@ impl<'t> Reporter<'t> {
         self.make_array(ordinal, size, length, element)
     }
 
-    /// Makes an array type and returns it. If the length has a fault (None), the array's type is unknown, although its
-    /// element type has been checked. The word ARRAY precedes the length.
+    /// Makes an array type and returns it. If the length has a fault (None), the array's type is
+    /// unknown, although its element type has been checked. The word ARRAY is the token before the
+    /// length.
     fn make_array(
         &mut self,
         ordinal: usize,

@@ -12,5 +12,5 @@ move_procedures-returns t c = parts_moved procedure_of c.args.by _ _ (ends c.loo
 
 pub move_block-returns : goal.move_block-returns
 move_block-returns t c =
-    block_moved c.args.by c.args.b.now _ _ _ _ c.move_constants.new.declared c.move_type_faults.new.declared c.move_variables.new.declared c.move_procedures.new.ps c.move_body.new.statements refl refl refl refl
-    c.move_constants.ensures c.move_type_faults.ensures c.move_variables.ensures c.move_procedures.ensures c.move_body.ensures
+    block_moved c.args.by c.args.b.now _ _ _ _ c.move_constants.new.declared c.move_type_section.new.declared c.move_variables.new.declared c.move_procedures.new.ps c.move_body.new.statements refl refl refl refl
+    c.move_constants.ensures c.move_type_section.ensures c.move_variables.ensures c.move_procedures.ensures c.move_body.ensures

@@ -4,5 +4,5 @@ use Rattle.ob0_session_answers.proofs.actions.no_actions.Goals as goal
 
 pub returns : goal.returns
 returns c =
-    let there = rw c.as_slice.ensures at c.result_of.ensures in
-    IfOk-weaker c.result_of.result _ _ (λ bytes sent. sent (record { shallow = omega arith })) there
+    let there = rw c.as_slice.ensures at c.answer_text.ensures in
+    IfOk-weaker c.answer_text.result _ _ (λ bytes sent. sent (record { shallow = omega arith })) there

@@ -21,4 +21,4 @@ returns g c =
     let found = c.as_slice-ranges.ensures.value ∙ c.in_ok-ranges.ensures in
     let same = ap (λ rs. array (items_of (map shown rs))) found ∙ ap (λ ds. array (items_of ds)) (map-map shown placed c.args.spans.now) in
     let can = locations_can_be_sent unit c.args.uri.now text c.args.spans.now in
-    IfOk-weaker c.result_of.result _ _ (λ bytes sent. subst (λ (d : Data). Writes (result_message (id_data c.args.id.now) d) bytes.items) same (sent (subst CanBeSent (sym same) can))) c.result_of.ensures
+    IfOk-weaker c.answer_text.result _ _ (λ bytes sent. subst (λ (d : Data). Writes (result_message (id_data c.args.id.now) d) bytes.items) same (sent (subst CanBeSent (sym same) can))) c.answer_text.ensures

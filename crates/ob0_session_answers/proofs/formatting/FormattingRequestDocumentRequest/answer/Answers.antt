@@ -20,11 +20,11 @@ returns-in-Ok g c =
     let outcome = subst (λ (o : Option (Result (Vec Edit Global) EditRefusal)). FindsFormatResult unit c.args.self.now.indent text o) c.in-Some.is c.in_ok-outcome.ensures in
     let laid = subst (λ (o : Result (Vec Edit Global) EditRefusal). IsFormatResult unit c.args.self.now.indent text o) c.in-Ok.is outcome in
     let is = ap edits_value c.as_slice.ensures.value in
-    IfOk-weaker c.result_of.result _ _ (λ bytes sent. (
+    IfOk-weaker c.answer_text.result _ _ (λ bytes sent. (
       result_message (id_data c.args.self.now.id.now) (edits_value c.in-Ok.edits.items),
       inl (c.in-Ok.edits.items, laid, refl),
       subst (λ (d : Data). Writes (result_message (id_data c.args.self.now.id.now) d) bytes.items) is (sent (edits_can_be_sent c.as_slice.result.now)),
-    )) c.result_of.ensures
+    )) c.answer_text.ensures
 
 pub returns-in-Err : goal.returns-in-Err
 returns-in-Err g c =

@@ -17,8 +17,8 @@ add_factor_fields-returns-in-Designator t c =
     subst (λ z. IfOk c.add_designator_fields.result (λ _. c.add_designator_fields.new.found.items ≡ c.args.found.now.items ++ z))
     (ap (fields_in_tree (field_walk_meanings c.args.self.now)) (sym (designator_made c.in-Designator.d) ∙ sym (ap factor_of c.in-Designator.is))) c.add_designator_fields.ensures
 
-pub add_simple_fields-returns : goal.add_simple_fields-returns
-add_simple_fields-returns t c =
+pub add_simple_expression_fields-returns : goal.add_simple_expression_fields-returns
+add_simple_expression_fields-returns t c =
     let items = walk_ends c.loop-addend.invariant c.loop-addend-test.false in
     let listed = ap (λ xs. fields_in_tree (field_walk_meanings c.args.self.now) (items_of addend_of xs)) c.deref-addend-items.ensures.value in
     let first = fields_in_tree (field_walk_meanings c.args.self.now) (term_of (out-SimpleExpression c.args.s.now).first) in

@@ -11,8 +11,8 @@ abbrev pub invariant-add_designator_fields-loop-s : goal.invariant-add_designato
 invariant-add_designator_fields-loop-s l =
     OnPath (field_walk_meanings l.self) l.initial.found.items (option_map (type_shape (shapes_of l.self.known.now)) l.initial.at) l.s-items l.s-index l.found.items (option_map (type_shape (shapes_of l.self.known.now)) l.at)
 
-abbrev pub invariant-add_simple_fields-loop-addend : goal.invariant-add_simple_fields-loop-addend
-invariant-add_simple_fields-loop-addend l = Walking addend_of (field_walk_meanings l.self) l.initial.found.items l.addend-items l.addend-index l.found.items
+abbrev pub invariant-add_simple_expression_fields-loop-addend : goal.invariant-add_simple_expression_fields-loop-addend
+invariant-add_simple_expression_fields-loop-addend l = Walking addend_of (field_walk_meanings l.self) l.initial.found.items l.addend-items l.addend-index l.found.items
 
 abbrev pub invariant-add_term_fields-loop-multiplier : goal.invariant-add_term_fields-loop-multiplier
 invariant-add_term_fields-loop-multiplier l = Walking multiplier_of (field_walk_meanings l.self) l.initial.found.items l.multiplier-items l.multiplier-index l.found.items
