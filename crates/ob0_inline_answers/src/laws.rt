@@ -1,0 +1,24 @@
+//! States laws that inlining has answers.
+
+ghost use Rattle.ob0_inline_answers.specs.InlineAnswers.{InliningEverywhereHasAnswers, InliningHereHasAnswers};
+
+use ob0_language_runs::laws::{
+    inlining_everywhere_keeps_typing_and_runs, inlining_keeps_typing_and_runs,
+};
+use ob0_language_types::laws::constant_uses_are_factors;
+
+/// States that a request to inline a constant at a use has an answer for each text.
+pub fn inlining_here_has_answers()
+    ensures { InliningHereHasAnswers }
+{
+    constant_uses_are_factors();
+    inlining_keeps_typing_and_runs();
+}
+
+/// States that a request to inline a constant everywhere has an answer for each text.
+pub fn inlining_everywhere_has_answers()
+    ensures { InliningEverywhereHasAnswers }
+{
+    constant_uses_are_factors();
+    inlining_everywhere_keeps_typing_and_runs();
+}

@@ -1,0 +1,20 @@
+//! States a law that a rename has answers.
+
+ghost use Rattle.ob0_rename_answers.specs.RenameAnswers.{RenamingHasAnswers};
+
+use ob0_edits_tokens::laws::{names_replace_names, renaming_keeps_spelling};
+use ob0_language_field_laws::laws::free_field_renaming_keeps_typing_and_runs;
+use ob0_language_runs::laws::free_renaming_keeps_typing_and_runs;
+use ob0_types_fields::laws::{duplicate_has_declaring_token, renaming_changes_field_tokens};
+
+/// States that a request for a rename has an answer for each text, if the code has bound names for each well-typed text.
+pub fn renaming_has_answers()
+    ensures { RenamingHasAnswers }
+{
+    free_renaming_keeps_typing_and_runs();
+    free_field_renaming_keeps_typing_and_runs();
+    renaming_changes_field_tokens();
+    duplicate_has_declaring_token();
+    renaming_keeps_spelling();
+    names_replace_names();
+}
