@@ -2,8 +2,8 @@
 -- Rule: none; for contracts of the machine.
 use Rattle.std.specs.Prelude.{ℕ, List, Option, Some, None, [], ◌∷◌}
 use denote.Ref.{Bor}
-use Rattle.ob0_run_machine.specs.declared.addresses.Addresses.{Addresses}
-use Rattle.ob0_run_machine.specs.declared.addresses.Addresses.TheVariants as addresses
+use Rattle.ob0_run_machine.specs.declared.addresses.VarAddresses.{VarAddresses}
+use Rattle.ob0_run_machine.specs.declared.addresses.VarAddresses.TheVariants as addresses
 use Rattle.ob0_run_machine.specs.declared.level.Level as code
 use Rattle.ob0_run_machine.specs.Evaluation.{Levels}
 
@@ -24,7 +24,7 @@ levels_of_option None = []
 levels_of_option (Some l) = levels_of l.now
 
 -- the addresses of a call's VAR parameters
-abbrev pub addresses_in : Addresses → List ℕ
+abbrev pub addresses_in : VarAddresses → List ℕ
 addresses_in addresses.Empty = []
 addresses_in (addresses.One a) = a ∷ []
 addresses_in (addresses.Two a b) = a ∷ b ∷ []

@@ -10,7 +10,7 @@ use std::alloc::AllocError;
 /// The addresses of a call's VAR parameters, in order. One or two are stored inline, more in a
 /// list, so most calls allocate no memory for them.
 #[derive(Drop)]
-pub(crate) enum Addresses {
+pub(crate) enum VarAddresses {
     Empty,
     One(usize),
     Two(usize, usize),
@@ -23,7 +23,7 @@ fn three_addresses(
     a: usize,
     b: usize,
     c: usize,
-) -> Result<Addresses, AllocError>
+) -> Result<VarAddresses, AllocError>
     ensures listed { IfOk result (λ r. addresses_in r ≡ a ∷ b ∷ c ∷ []) }
     ensures failed { OnErr result (has_failed memory.new ≡ true) }
 {
@@ -31,10 +31,10 @@ fn three_addresses(
     memory.push(&mut all, a)?;
     memory.push(&mut all, b)?;
     memory.push(&mut all, c)?;
-    Ok(Addresses::More(all))
+    Ok(VarAddresses::More(all))
 }
 
-impl Addresses {
+impl VarAddresses {
     /// Adds an address at the end.
     #[inline(always)]
     pub(crate) fn push(&mut self, memory: &mut Memory, address: usize) -> Result<(), AllocError>
@@ -43,16 +43,16 @@ impl Addresses {
         ensures failed { OnErr result (has_failed memory.new ≡ true) }
     {
         match self {
-            Addresses::Empty => *self = Addresses::One(address),
-            Addresses::One(a) => {
+            VarAddresses::Empty => *self = VarAddresses::One(address),
+            VarAddresses::One(a) => {
                 let a = *a;
-                *self = Addresses::Two(a, address);
+                *self = VarAddresses::Two(a, address);
             }
-            Addresses::Two(a, b) => {
+            VarAddresses::Two(a, b) => {
                 let (a, b) = (*a, *b);
                 *self = three_addresses(memory, a, b, address)?;
             }
-            Addresses::More(all) => memory.push(all, address)?,
+            VarAddresses::More(all) => memory.push(all, address)?,
         }
         Ok(())
     }

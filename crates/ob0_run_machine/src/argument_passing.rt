@@ -7,7 +7,7 @@ ghost use Rattle.ob0_run_machine.specs.Levels.{addresses_in, levels_of};
 ghost use Rattle.ob0_run_machine.specs.Machines.{Passes, passed_arguments};
 ghost use Rattle.ob0_run_machine.specs.View.{argument_of};
 
-use crate::addresses::Addresses;
+use crate::addresses::VarAddresses;
 use crate::code::Argument;
 use crate::ending::Stop;
 use crate::evaluator::{evaluate_number, evaluate_truth, locate};
@@ -23,7 +23,7 @@ fn pass(
     argument: &Argument,
     level: &Level<'_>,
     cells: &mut Vec<i32>,
-    addresses: &mut Addresses,
+    addresses: &mut VarAddresses,
 ) -> Result<(), Stop>
     ensures { Passes result memory.new cells.new.items (addresses_in addresses.new)
         (pass (levels_of level.now) (argument_of argument.now)
@@ -57,7 +57,7 @@ pub(crate) fn pass_all(
     arguments: &[Argument],
     level: &Level<'_>,
     cells: &mut Vec<i32>,
-    addresses: &mut Addresses,
+    addresses: &mut VarAddresses,
 ) -> Result<(), Stop>
     ensures { Passes result memory.new cells.new.items (addresses_in addresses.new)
         (pass_all (levels_of level.now) (map argument_of arguments.now)

@@ -3,7 +3,7 @@
 //! The static chain is a linked list on the machine's own stack. A `Level` has the address of its
 //! first cell, the addresses of its VAR parameters, and a reference to the level in which its
 //! procedure is declared. `levels_of` reads the list by structural recursion, so no invariant about
-//! a table of frames is needed. A call's `Addresses` holds one or two addresses of VAR parameters
+//! a table of frames is needed. A call's `VarAddresses` holds one or two addresses of VAR parameters
 //! itself, and more of them in a `Vec`. Apart from that, only cells and output allocate memory.
 
 ghost use Rattle.std.specs.Prelude.{◌≡◌, drop, slice_index_or};

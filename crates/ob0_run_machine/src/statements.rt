@@ -11,7 +11,7 @@ ghost use Rattle.ob0_run_machine.specs.Lowered as lowered;
 ghost use Rattle.ob0_run_machine.specs.Machines.{MachineDoes, MachineSteps, entry_effect, statement_effect, sequence_effect, elsifs_effect, progress_after_step, state_of};
 ghost use Rattle.ob0_run_machine.specs.View.{applied, conditional_of, call_of, chain_of, variable_relation, variable_increase, number_of, elsif_branches, else_statements, place_of, repeat_of, variable_element_of, sequence_of, statement_of, truth_of, variable_of, while_of};
 
-use crate::addresses::Addresses;
+use crate::addresses::VarAddresses;
 use crate::argument_passing::pass_all;
 use crate::code::{
     Chain, Comparator, Conditional, Instruction, Link, Number, Place, ProcedureCall, RepeatLoop,
@@ -260,7 +260,7 @@ fn run_call<F: Fn(&mut Machine<'_>, usize, &Level<'_>) -> Result<(), Stop>>(
         (statement_effect t (levels_of level.now) (call_of c.now)) }
 {
     let base = machine.size();
-    let mut addresses = Addresses::Empty;
+    let mut addresses = VarAddresses::Empty;
     pass_all(
         &mut machine.memory,
         c.arguments.as_slice(),
@@ -269,10 +269,10 @@ fn run_call<F: Fn(&mut Machine<'_>, usize, &Level<'_>) -> Result<(), Stop>>(
         &mut addresses,
     )?;
     match &addresses {
-        Addresses::Empty => enter_procedure(c, base, &[], level, machine, enter),
-        Addresses::One(a) => enter_procedure(c, base, &[*a], level, machine, enter),
-        Addresses::Two(a, b) => enter_procedure(c, base, &[*a, *b], level, machine, enter),
-        Addresses::More(all) => enter_procedure(c, base, all.as_slice(), level, machine, enter),
+        VarAddresses::Empty => enter_procedure(c, base, &[], level, machine, enter),
+        VarAddresses::One(a) => enter_procedure(c, base, &[*a], level, machine, enter),
+        VarAddresses::Two(a, b) => enter_procedure(c, base, &[*a, *b], level, machine, enter),
+        VarAddresses::More(all) => enter_procedure(c, base, all.as_slice(), level, machine, enter),
     }
 }
 
