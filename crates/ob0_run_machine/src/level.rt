@@ -3,8 +3,9 @@
 //! The static chain is a linked list on the machine's own stack. A `Level` has the address of its
 //! first cell, the addresses of its VAR parameters, and a reference to the level in which its
 //! procedure is declared. `levels_of` reads the list by structural recursion, so no invariant about
-//! a table of frames is needed. A call's `VarAddresses` holds one or two addresses of VAR parameters
-//! itself, and more of them in a `Vec`. Apart from that, only cells and output allocate memory.
+//! a table of frames is needed. A call's `VarAddresses` holds one or two addresses of VAR
+//! parameters itself, and more of them in a `Vec`. Apart from that, only cells and output allocate
+//! memory.
 
 ghost use Rattle.std.specs.Prelude.{◌≡◌, drop, slice_index_or};
 ghost use Rattle.ob0_run_machine.specs.Evaluation.{innermost_level, level_at};

@@ -1,6 +1,6 @@
 //! Proves what the answers to four requests about an example text (`worked_text`) are, and that an
 //! example exchange exists. Also proves that a request for formatting has an answer for each text.
-ghost use Rattle.ob0_world_worked.specs.Formatting.{CourseExistsWithFormatting, FormattingHasAnswers};
+ghost use Rattle.ob0_world_worked.specs.Formatting.{FormattingHasAnswers};
 ghost use Rattle.ob0_world_worked.specs.WorkedExchange.{WorkedExchangeExists};
 ghost use Rattle.ob0_world_worked.specs.WorkedAnswers.{CaptureIsRefused, RenameIsAnswered, InliningIsAnswered, InliningEverywhereIsAnswered};
 
@@ -12,7 +12,7 @@ use ob0_language_types::laws::constant_uses_are_factors;
 use ob0_layout::laws::{
     formatting_keeps_lexemes, formatting_keeps_module, gaps_give_formatted_text,
 };
-use ob0_world_rules::laws::{answers_are_unique, course_exists};
+use ob0_world_rules::laws::answers_are_unique;
 
 /// Proves that renaming variable x of `worked_text` to y is answered by three edits, and by no
 /// others.
@@ -59,16 +59,6 @@ pub fn formatting_has_answers()
     formatting_keeps_lexemes();
     gaps_give_formatted_text();
 }
-
-/// Proves that a list of events can happen, one after another, from the start of client and server
-/// (`Course`). This supposes only that its renames and inlinings have answers.
-pub fn course_exists_with_formatting()
-    ensures { CourseExistsWithFormatting }
-{
-    formatting_has_answers();
-    course_exists();
-}
-
 /// Proves that the example exchange exists. An editor initializes a session and opens a document
 /// with version 0. It sends a hover request, and a request for the code actions of one kind in a
 /// range. It applies the answer to the second request by two changes in one notification.
