@@ -59,6 +59,7 @@ pub fn formatting_has_answers()
     formatting_keeps_lexemes();
     gaps_give_formatted_text();
 }
+
 /// Proves that the example exchange exists. An editor initializes a session and opens a document
 /// with version 0. It sends a hover request, and a request for the code actions of one kind in a
 /// range. It applies the answer to the second request by two changes in one notification.
