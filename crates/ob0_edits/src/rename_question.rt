@@ -1,11 +1,11 @@
-//! Renames in a text, using its analysis.
+//! Answers requests for renames in an analysed text.
 //!
 //! Declarations and fields are two cases of `AreRenameEdits` and `IsRenameRefusal` of `ob0_rename`.
-//! Both cases contain `WritesName`, so one lemma, `renames_in` of `proofs/Renamings`, covers both.
-//! `RenamesIn` and `IsRefusedIn` are about the module with its names bound (`IsModuleIn`), because
-//! fields are found through the bindings of names. The contract of `ask` is about the bytes of the
-//! text, and `RenamesIn` is about its characters. The lemma `new_name_found` derives the second
-//! statement from the first.
+//! Both cases of `AreRenameEdits` contain `WritesName`, so one lemma, `renames_in` of
+//! `proofs/Renamings`, covers both. `RenamesIn` and `IsRefusedIn` are about the module with its
+//! names bound (`IsModuleIn`), because fields are found through the bindings of names. The contract
+//! of `ask` is about the bytes of the text. The lemma `new_name_found` derives `RenamesIn` from it,
+//! which is about characters.
 
 ghost use Rattle.std.specs.Prelude.{◌≡◌, IfOk};
 ghost use Rattle.std.specs.Str.{chars};

@@ -49,8 +49,8 @@ pub record AreUsesOf (m : Tree Name module_text) (d : ℕ) (w : Value) (uses : O
   pub bound : (k : ℕ) → uses k ≡ true → binds m k ≡ Some d
   pub seen : (k : ℕ) → uses k ≡ true → MeansPredeclaredTruth m k w
 
--- A well-typed module remains well-typed if uses of a constant are replaced by its literal. The literal must have the
--- constant's value at each of these uses.
+-- A well-typed module remains well-typed if uses of a constant are replaced by its literal. If the literal is TRUE or
+-- FALSE, this word must mean the predeclared constant at each of these uses.
 abbrev pub InliningKeepsWellTyped : Type 0
 InliningKeepsWellTyped =
     (m : Tree Name module_text) (d : ℕ) (w : Value) (v : Tree Name factor) (uses : OccurrenceSet)

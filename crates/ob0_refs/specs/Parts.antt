@@ -11,5 +11,5 @@ abbrev pub hover_view : answer.Hover → HoverText
 hover_view h = record { span = h.span; text = string_bytes h.text }
 
 -- returns the span of a conflict that the code found
-abbrev pub span_of_capture : capture_answer.NameConflict → Span
-span_of_capture c = c.span
+abbrev pub span_of_conflict : capture_answer.NameConflict → Span
+span_of_conflict c = c.span

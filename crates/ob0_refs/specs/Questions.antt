@@ -11,7 +11,7 @@ use Rattle.ob0_language_values.specs.Values.{Shape}
 use Rattle.ob0_scope_table.specs.Resolution.{Resolution, span_at}
 use Rattle.ob0_types_fields.specs.FieldTypes.{typed_field}
 use Rattle.ob0_types_fields.specs.declared.field_name.FieldName.{FieldName}
-use Rattle.ob0_types_fields.specs.Identifiers.{field_declaring_token, field_position, field_tokens}
+use Rattle.ob0_types_fields.specs.Identifiers.{field_declaring_token, field_index_in_record, field_tokens}
 use Rattle.ob0_types.specs.IdentifierMeanings.{identifier_meaning_at}
 use Rattle.ob0_types.specs.declared.meant.ResolvedIdentifier.{ResolvedIdentifier}
 use Rattle.ob0_types.specs.declared.meant.IdentifierMeaning.{IdentifierMeaning}
@@ -28,7 +28,7 @@ use Rattle.ob0_refs.specs.declared.answers.Of.TheVariants as answer_of
 -- returns the index of a field among the fields of its record, found by its name; 0 if it isn't
 -- found
 abbrev pub field_index : ParsedModule → FieldName → ℕ
-field_index m x = unwrap_or (field_position m x.owner (text_at m.source x.token)) 0
+field_index m x = unwrap_or (field_index_in_record m x.owner (text_at m.source x.token)) 0
 
 -- returns the answer about a field identifier: its span, the field's record and the field's index
 -- in the record

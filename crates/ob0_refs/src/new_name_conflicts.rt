@@ -3,7 +3,7 @@
 ghost use Rattle.std.specs.Prelude.{◌≡◌, ◌↔◌, None, IfOk, option_map};
 ghost use Rattle.ob0_tree.specs.ParsedModule.{named_tree_of};
 ghost use Rattle.ob0_language_names.specs.Occurrences.{Free};
-ghost use Rattle.ob0_refs.specs.Parts.{span_of_capture};
+ghost use Rattle.ob0_refs.specs.Parts.{span_of_conflict};
 ghost use Rattle.ob0_refs.specs.Captured.{first_conflict_span};
 
 use crate::answers::NameConflict;
@@ -22,7 +22,7 @@ pub fn captures(
     declaration: usize,
     new: &str,
 ) -> Result<Option<NameConflict>, AllocError>
-    ensures span { IfOk result (λ found. option_map span_of_capture found
+    ensures span { IfOk result (λ found. option_map span_of_conflict found
         ≡ first_conflict_span names.now.module_read declaration new.now) }
     ensures free { IfOk result
         (λ found. found ≡ None ↔ Free (named_tree_of names.now.module_read) declaration new.now) }

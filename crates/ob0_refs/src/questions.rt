@@ -20,7 +20,7 @@ use ob0_scope::Named;
 use ob0_scope_table::{PREDECLARED_COUNT, token_span};
 use ob0_tree::text_at;
 use ob0_types::{
-    IdentifierMeaning, ResolvedIdentifier, WellTyped, field_declaring_token, field_position,
+    IdentifierMeaning, ResolvedIdentifier, WellTyped, field_declaring_token, field_index_in_record,
     field_tokens, identifier_meaning_at,
 };
 use ob0_types_fields::FieldName;
@@ -74,7 +74,7 @@ fn field_index(well_typed: &WellTyped<'_>, field: FieldName) -> usize
 {
     let names = well_typed.resolved();
     let name = text_at(names.tokens(), field.token);
-    match field_position(well_typed, field.owner, name) {
+    match field_index_in_record(well_typed, field.owner, name) {
         Some(index) => index,
         None => 0,
     }

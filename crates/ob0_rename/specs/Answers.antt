@@ -113,7 +113,7 @@ abbrev pub AnswersForField : Renaming → ℕ → Name → Result (Vec Edit Glob
 AnswersForField r k f (Ok edits) = RenamesField r k f edits.items
 AnswersForField r k f (Err why) = (why ≡ refusal.Memory) ⊎ IsFieldRefusal r k f why
 
--- ---- by the identifier at the place
+-- ---- for a declaration or a field, whichever is at the place
 
 -- Holds if this refusal applies to the new name of the declaration or field at the place.
 abbrev pub IsTargetRefusal : Renaming → EditRefusal → Type 0

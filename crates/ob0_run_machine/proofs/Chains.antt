@@ -9,7 +9,7 @@ use Rattle.ob0_run_machine.specs.declared.code.Number.{Chain, Row_of-Link, end_o
 use Rattle.ob0_run_machine.specs.declared.code.FirstOperand.TheBlock.{hidden-the_row-Link-0}
 use Rattle.ob0_run_machine.specs.Evaluation.{Levels, StepResult, ends, gives, number, ◌>>=◌}
 use Rattle.ob0_run_machine.specs.Lowered as lowered
-use Rattle.ob0_run_machine.specs.Answers.{link_outcome}
+use Rattle.ob0_run_machine.specs.Answers.{outcome_of_applied_link}
 use Rattle.ob0_run_machine.specs.View.{applied, chain_by_row, chain_on_operand, chain_of, first_of, number_of, variable_of}
 
 pub bind_gives : {A : Type 0} (o : StepResult A) → (o >>= (λ a. gives a)) ≡ o
@@ -23,7 +23,7 @@ bind_assoc (ends e) f g = refl
 -- what a number becomes by the operations that are left
 abbrev pub continued : Levels → List ℤ → List Link → ℤ → StepResult ℤ
 continued ls cells [] a = gives a
-continued ls cells (l ∷ rest) a = link_outcome ls cells l a >>= continued ls cells rest
+continued ls cells (l ∷ rest) a = outcome_of_applied_link ls cells l a >>= continued ls cells rest
 
 -- a variable is there, so an operation between it and a number ends as the number does
 after_variable : (ls : Levels) (cells : List ℤ) (o : lowered.Operator) (v : Variable) (right : lowered.Number)
@@ -32,7 +32,7 @@ after_variable ls cells o (variable.Module offset) right = refl
 after_variable ls cells o _ right = refl
 
 -- an operation on a number is that on its value
-pub applied_to : (ls : Levels) (cells : List ℤ) (left : lowered.Number) (l : Link) → number ls cells (applied l left) ≡ (number ls cells left >>= link_outcome ls cells l)
+pub applied_to : (ls : Levels) (cells : List ℤ) (left : lowered.Number) (l : Link) → number ls cells (applied l left) ≡ (number ls cells left >>= outcome_of_applied_link ls cells l)
 applied_to ls cells left (link.VariableSum v) = after_variable ls cells lowered.sum v left
 applied_to ls cells left (link.VariableDifference v) = after_variable ls cells lowered.difference v left
 applied_to ls cells left (link.VariableProduct v) = after_variable ls cells lowered.product v left
@@ -42,7 +42,7 @@ pub chained : (ls : Levels) (cells : List ℤ) (left : lowered.Number) (links : 
 chained ls cells left [] = sym (bind_gives (number ls cells left))
 chained ls cells left (l ∷ rest) = chained ls cells (applied l left) rest
     ∙ ap (λ o. o >>= continued ls cells rest) (applied_to ls cells left l)
-    ∙ bind_assoc (number ls cells left) (link_outcome ls cells l) (continued ls cells rest)
+    ∙ bind_assoc (number ls cells left) (outcome_of_applied_link ls cells l) (continued ls cells rest)
 
 -- what was operated so far, with what is left, is the whole
 pub record Continuing (ls : Levels) (cells : List ℤ) (whole : StepResult ℤ) (links : List Link) (done : ℕ) (left : ℤ) : Type 0 where

@@ -47,5 +47,5 @@ number_or_overflow None = ends evaluation.Overflow
 number_or_overflow (Some n) = gives n
 
 -- the outcome of applying a link to a number
-abbrev pub link_outcome : Levels → List ℤ → Link → ℤ → StepResult ℤ
-link_outcome ls cells l left = number ls cells (applied l (literal left))
+abbrev pub outcome_of_applied_link : Levels → List ℤ → Link → ℤ → StepResult ℤ
+outcome_of_applied_link ls cells l left = number ls cells (applied l (literal left))

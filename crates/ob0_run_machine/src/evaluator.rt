@@ -3,7 +3,7 @@
 //! registers.
 
 ghost use Rattle.std.specs.Prelude.{◌≡◌, List, ℤ, false, if◌then◌else◌, true};
-ghost use Rattle.ob0_run_machine.specs.Answers.{link_outcome, outcome_of, outcome_of_result};
+ghost use Rattle.ob0_run_machine.specs.Answers.{outcome_of_applied_link, outcome_of, outcome_of_result};
 ghost use Rattle.ob0_run_machine.specs.Evaluation.{address, cell_at, gives, number, truth};
 ghost use Rattle.ob0_run_machine.specs.declared.code.TruthPair.{out-TruthPair};
 ghost use Rattle.ob0_run_machine.specs.Lowered as lowered;
@@ -228,7 +228,7 @@ pub(crate) fn evaluate_chain(
 #[inline(always)]
 #[cycle(evaluation)]
 fn apply(link: &Link, left: i32, level: &Level<'_>, cells: &[i32]) -> Result<i32, EvaluationFault>
-    ensures { outcome_of_result result ≡ link_outcome (levels_of level.now) cells.now link.now left }
+    ensures { outcome_of_result result ≡ outcome_of_applied_link (levels_of level.now) cells.now link.now left }
 {
     match link {
         Link::SumLiteral(n) => add(left, *n),

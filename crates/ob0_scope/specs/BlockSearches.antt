@@ -13,8 +13,8 @@ use Rattle.ob0_language_names.specs.Parts.{formal_names, formal_sections}
 use Rattle.ob0_scope_table.specs.Resolution.{ordinal_in}
 use Rattle.ob0_language_names.specs.Scopes.{same_ordinal}
 
--- A search: the text, the ordinal to which each token is bound, the declaration whose block is
--- searched, and the sought name.
+-- A search: the text, the ordinal to which each token is bound, the declaration (the block that
+-- declares it is searched), and the sought name.
 pub record BlockSearch : Type 0 where
   pub source : TextWithTokens
   pub ordinals : List (Option ℕ)

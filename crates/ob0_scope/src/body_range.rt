@@ -106,7 +106,7 @@ fn body_inside<'t>(p: &'t Procedure, low: usize) -> ReplacedBody<'t>
 }
 
 /// Returns the old index of the closing name after the replaced statements, given its new index.
-/// The result is at most 2^64 - 1.
+/// A result over 2^64 - 1 becomes 2^64 - 1.
 pub(crate) fn old_closing_token(same: SameTokens, closing: usize) -> usize
     ensures { result ≡ old_closing_token same closing }
 {

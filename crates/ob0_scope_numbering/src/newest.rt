@@ -40,11 +40,11 @@ fn key_of<'t>(name: &'t str) -> (u64, &'t str)
 fn suffix_number(bytes: &[u8]) -> u64
     ensures { result ≡ suffix_number bytes.now }
 {
-    number_of_bytes(&bytes[bytes.len().saturating_sub(8)..])
+    number_from_bytes(&bytes[bytes.len().saturating_sub(8)..])
 }
 
 /// Returns the number whose digits to the base 256 are these bytes, modulo 2^64.
-fn number_of_bytes(bytes: &[u8]) -> u64
+fn number_from_bytes(bytes: &[u8]) -> u64
     ensures { result ≡ append_bytes bytes.now 0 }
 {
     let mut number = 0;

@@ -36,8 +36,8 @@ pub record RequestedActions : Type 0 where
   pub range : Range
   pub only : Option (List (List ℕ))
 
--- Returns the code's request for code actions, in a document of this version, as a request of the
--- definitions.
+-- Returns an `ActionsRequest` of the program, about a document of this version, as the
+-- `RequestedActions` of the definitions.
 abbrev pub actions_request_view : ActionsRequest → ℤ → RequestedActions
 actions_request_view r version =
     record {

@@ -235,9 +235,9 @@ fn fields_from_table<'t>(
     }
 }
 
-/// Returns the fields of a well-typed module of which only tokens in one body have changed. If the
-/// module was valid before, only the fields of that body are searched for again. If the module
-/// isn't well-typed now, the result may be any list.
+/// Returns the fields of a module after a change of tokens in one body only. If the module was
+/// well-typed before, only the fields of that body are searched for again. If it isn't well-typed
+/// now, the result may be any list.
 fn fields_after_body_change<'t>(
     alloc: Global,
     resolved: &'t Resolved<'t>,

@@ -2,7 +2,7 @@
 
 ghost use Rattle.std.specs.Prelude.{◌≡◌, IfOk, IfSome, length};
 ghost use Rattle.ob0_tree.specs.Order.{AreIdentifierTokens, AreAscending, IsIdentifierToken};
-ghost use Rattle.ob0_types_fields.specs.Identifiers.{field_declaring_token, field_at, field_position, field_tokens};
+ghost use Rattle.ob0_types_fields.specs.Identifiers.{field_declaring_token, field_at, field_index_in_record, field_tokens};
 
 use crate::checked::WellTyped;
 use ob0_types_fields::FieldName;
@@ -54,8 +54,8 @@ pub fn field_declaring_token(well_typed: &WellTyped<'_>, owner: usize, name: &st
 
 /// Returns the position of the field with this name among the fields of a record, counted from 0. `owner` is the
 /// ordinal of the record. Returns None if the record has no such field.
-pub fn field_position(well_typed: &WellTyped<'_>, owner: usize, name: &str) -> Option<usize>
-    ensures { result ≡ field_position well_typed.now.module_read owner name.now }
+pub fn field_index_in_record(well_typed: &WellTyped<'_>, owner: usize, name: &str) -> Option<usize>
+    ensures { result ≡ field_index_in_record well_typed.now.module_read owner name.now }
 {
     let names = well_typed.resolved();
     well_typed

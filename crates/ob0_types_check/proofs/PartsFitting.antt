@@ -1,7 +1,7 @@
 -- The laws about expressions and statements that the proofs about declarations use: they fit if no fault is reported
 -- for them.
 use Rattle.ob0_language_names.specs.Names.{Name}
-use Rattle.ob0_types_check.specs.ReportLaws.{ConstantsFit, LengthsFit, StatementsFit, TableTypesAgree}
+use Rattle.ob0_types_check.specs.ReportLaws.{ConstantsFit, ReportedLengthsAgree, StatementsFit, TableTypesAgree}
 use Rattle.ob0_types_check.proofs.FittingStatements.{statements_fit-holds}
 use Rattle.ob0_types_check.proofs.Proved.{constants_fit-holds, lengths_fit-holds}
 use Rattle.ob0_types_check.proofs.Tables.{table_types_agree-holds}
@@ -9,7 +9,7 @@ use Rattle.ob0_types_check.proofs.Tables.{table_types_agree-holds}
 pub record PartsFit : Type 0 where
   pub tables : TableTypesAgree
   pub constants : ConstantsFit Name
-  pub lengths : LengthsFit Name
+  pub lengths : ReportedLengthsAgree Name
   pub statements : StatementsFit Name
 
 pub parts_fit : PartsFit

@@ -13,7 +13,7 @@ use Rattle.ob0_types_check.specs.Operations.{required_type, without_fault}
 use Rattle.ob0_types_check.specs.KnownDeclarations.{facts_at}
 use Rattle.ob0_types_check.specs.TypeFaults.{operand_value, length_or_fault, length_by_value, length_of, reported_constant, valued}
 use Rattle.ob0_types_check.specs.Agreement.{Agrees, TypesAgree, shape_in}
-use Rattle.ob0_types_check.specs.ReportLaws.{ConstantsFit, ExpressionsFit, LengthsFit, OperandFits, allowed_meanings}
+use Rattle.ob0_types_check.specs.ReportLaws.{ConstantsFit, ExpressionsFit, ReportedLengthsAgree, OperandFits, allowed_meanings}
 use Rattle.ob0_types_check.proofs.FittingExpressions.{FitsExpression, expression-fits}
 use Rattle.ob0_types_check.proofs.FittingNames.{only-tokens, tokens-fit}
 use Rattle.ob0_types_check.proofs.FittingPlaces.{operand-fits}
@@ -109,7 +109,7 @@ length-there facts shape types o s hs h =
       counted = long.counted;
     }
 
-pub lengths_fit-holds : {N : Type 0} → LengthsFit N
+pub lengths_fit-holds : {N : Type 0} → ReportedLengthsAgree N
 lengths_fit-holds p shapes label meaning e agrees h =
     let parts = none-reported (reported_expression (facts_at p true) e).faults _ h in
     let c = constant-known (facts_at p true) (shape_in shapes) label meaning e agrees refl parts.0 in

@@ -82,8 +82,8 @@ with_parameters h by_place xs t =
       following = define_all t.following (a_variable t.of) xs;
     }
 
--- Returns the faults of a section of parameters of one type, with the heading that includes them.
--- If the Bool is true, they are VAR parameters.
+-- Returns the faults of a section of parameters of one type, and the heading with these parameters
+-- added. If the Bool is true, the parameters are VAR parameters.
 unfoldable pub reported_parameters : KnownHeading
     → Bool
     → Tree ℕ names

@@ -73,8 +73,8 @@ pub record LengthFits
 
 -- If no fault is reported for an array's length, the reported length is the value of the length's
 -- expression.
-abbrev pub LengthsFit : Type 0 → Type 0
-LengthsFit N =
+abbrev pub ReportedLengthsAgree : Type 0 → Type 0
+ReportedLengthsAgree N =
     (p : KnownDeclarations) (shapes : List Shape) (label : ℕ → N) (meaning : TypeMeanings N) (e : Tree ℕ expression)
     → Agrees (facts_at p true) (shape_in shapes) label meaning e
     → (reported_expression (facts_at p true) e >>= length_of (facts_at p false)).faults ≡ []

@@ -1,7 +1,7 @@
 //! The laws that contracts cite. Each function does nothing; its contract is the law.
 
 ghost use Rattle.ob0_types_check.specs.ModuleLaws.{DeclarationsKnown, ModulesFit};
-ghost use Rattle.ob0_types_check.specs.ReportLaws.{ConstantsFit, ExpressionsFit, LengthsFit, StatementsFit, TableTypesAgree};
+ghost use Rattle.ob0_types_check.specs.ReportLaws.{ConstantsFit, ExpressionsFit, ReportedLengthsAgree, StatementsFit, TableTypesAgree};
 ghost use Rattle.ob0_types_check.specs.SomeBodies.{SomeBodiesSuffice};
 ghost use Rattle.ob0_types_check.specs.WellTypedLaws.{NamesBound, NoFaultInConstants, NoFaultInExpressions, NoFaultInLengths, NoFaultInModules, NoFaultInStatements, NoFaultInTargets};
 ghost use Rattle.ob0_language_names.specs.Names.{Name};
@@ -20,7 +20,7 @@ pub fn constants_fit()
 /// Proves that if no fault is reported for an array's length, the reported length is the value of the length's
 /// expression.
 pub fn lengths_fit()
-    ensures { LengthsFit Name }
+    ensures { ReportedLengthsAgree Name }
 {}
 
 /// Proves that statements are well-typed if no fault is reported for them.

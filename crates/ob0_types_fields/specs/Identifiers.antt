@@ -107,8 +107,8 @@ field_tokens_of_record k (found ∷ rest) =
 
 -- returns the position of the field `x` among the fields that the record with ordinal `k` declares,
 -- counted from 0; None if the record has no such field
-abbrev pub field_position : ParsedModule → ℕ → Name → Option ℕ
-field_position m k x =
+abbrev pub field_index_in_record : ParsedModule → ℕ → Name → Option ℕ
+field_index_in_record m k x =
     position_from (λ token. same_name (text_at m.source token) x) 0
     (field_tokens_of_record k (declared_fields m))
 

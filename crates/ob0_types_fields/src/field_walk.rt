@@ -38,7 +38,7 @@ pub(crate) struct FieldWalk<'a, 't> {
 
 impl<'a, 't> FieldWalk<'a, 't> {
     /// Returns the type of the variable, parameter or constant that the name at a token is bound to. Returns None if
-    /// the name is unbound or is bound to something else.
+    /// the name is unbound, or is bound to a constant with a fault or to something else.
     fn value_type(&self, token: usize) -> Option<TypeId>
         ensures { option_map (type_shape (shapes_of self.now.known.now)) result
             ≡ object_type ((field_walk_meanings self.now).object_for token) }

@@ -135,8 +135,8 @@ pub record BeginsExchange (unit : Unit) (x : Exchange) : Type 0 where
 
 -- ---- other messages
 
--- Holds if the request changes nothing in the session. It is a question, a request for edits (whose
--- answer the editor ignores), or a request that the server doesn't know or can't read.
+-- Holds if the request changes nothing in the session: it is neither `initialize` nor `shutdown`. A
+-- request for edits is among them, because the session only answers it.
 abbrev pub IsReadOnlyRequest : Result ClientRequest RpcFault → Type 0
 IsReadOnlyRequest (Ok (asked.initialize client)) = ⊥
 IsReadOnlyRequest (Ok asked.shutdown) = ⊥

@@ -1,5 +1,5 @@
 //! States that each request of an editor has an answer, so that a law about every course is about at least one.
-ghost use Rattle.ob0_world_answers.specs.Answering.{EachAskHasAnswers, EachListHasACourse};
+ghost use Rattle.ob0_world_answers.specs.Answering.{EachAskHasAnswers, EachEventListHasACourse};
 
 use ob0_inline_answers::laws::{inlining_everywhere_has_answers, inlining_here_has_answers};
 use ob0_parse::tree_is_unique;
@@ -19,8 +19,8 @@ pub fn each_ask_has_answers()
 }
 
 /// States that each list of events has a course.
-pub fn each_list_has_a_course()
-    ensures { EachListHasACourse }
+pub fn each_event_list_has_a_course()
+    ensures { EachEventListHasACourse }
 {
     each_ask_has_answers();
     course_exists();

@@ -321,8 +321,8 @@ impl<'t> CheckerState<'t> {
         Ok(left.join_operand(right, of, value))
     }
 
-    /// Reports the fault of a sign, which requires INTEGER, and returns the signed operand. Without a sign it returns
-    /// the operand unchanged.
+    /// Returns the operand with its sign applied. If there is a sign and the operand isn't INTEGER, reports that.
+    /// Without a sign, returns the operand unchanged.
     fn check_sign(
         &self,
         faults: &mut Vec<Fault>,

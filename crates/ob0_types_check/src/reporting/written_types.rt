@@ -104,15 +104,15 @@ impl<'t> CheckerState<'t> {
             None => Ok(TypeId::Unknown),
             Some(meaning) => match meaning {
                 Meaning::Named(of) => Ok(*of),
-                Meaning::Constant(_) => self.report_no_type(faults, token),
-                Meaning::Variable(_) => self.report_no_type(faults, token),
-                Meaning::Procedure(_) => self.report_no_type(faults, token),
+                Meaning::Constant(_) => self.report_not_a_type(faults, token),
+                Meaning::Variable(_) => self.report_not_a_type(faults, token),
+                Meaning::Procedure(_) => self.report_not_a_type(faults, token),
             },
         }
     }
 
     /// Reports `WrongKind` at a name that isn't a type's, and returns the unknown type.
-    fn report_no_type(&self, faults: &mut Vec<Fault>, token: usize) -> Result<TypeId, AllocError>
+    fn report_not_a_type(&self, faults: &mut Vec<Fault>, token: usize) -> Result<TypeId, AllocError>
         ensures { IfOk result (λ t. ReportsAfter faults.old.items faults.new.items t
             (type_by_meaning (facts_in self.now false) token (Some (a_variable type.Integer)))) }
     {

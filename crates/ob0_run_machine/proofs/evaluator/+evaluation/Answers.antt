@@ -8,7 +8,7 @@ use Rattle.ob0_run_machine.specs.Evaluation.{ends, number, ◌>>=◌}
 use Rattle.ob0_run_machine.specs.Levels.{levels_of}
 use Rattle.ob0_run_machine.specs.View.{chain_of, first_of, number_of}
 use Rattle.ob0_run_machine.specs.declared.code.Operation.{out-Operation}
-use Rattle.ob0_run_machine.specs.Answers.{link_outcome}
+use Rattle.ob0_run_machine.specs.Answers.{outcome_of_applied_link}
 use Rattle.ob0_run_machine.proofs.Chains.{applied_to, chain_begins, chain_fails, chain_made}
 use Rattle.ob0_run_machine.proofs.Exits.{reported_exit}
 use Rattle.ob0_run_machine.proofs.evaluator.+evaluation.Goals as goal
@@ -29,19 +29,19 @@ evaluate_general_operation-returns-in-Ok t c =
     let ls = levels_of c.args.level.now in
     let o = out-Operation c.args.o.now in
     let a : SFits w32 c.in-Ok.left = search rules in
-    c.into_flat.ensures ∙ c.apply.ensures ∙ ap (link_outcome ls c.args.cells.now o.link) (to_z-of_z a) ∙ ap (λ z. z >>= link_outcome ls c.args.cells.now o.link) c.in-Ok.ensures ∙ sym (applied_to ls c.args.cells.now (first_of o.first) o.link)
+    c.into_flat.ensures ∙ c.apply.ensures ∙ ap (outcome_of_applied_link ls c.args.cells.now o.link) (to_z-of_z a) ∙ ap (λ z. z >>= outcome_of_applied_link ls c.args.cells.now o.link) c.in-Ok.ensures ∙ sym (applied_to ls c.args.cells.now (first_of o.first) o.link)
 
 pub evaluate_general_operation-returns-in-Err : goal.evaluate_general_operation-returns-in-Err
 evaluate_general_operation-returns-in-Err t c =
     let ls = levels_of c.args.level.now in
     let o = out-Operation c.args.o.now in
-    c.into_flat-in-Err.ensures ∙ ap (λ z. z >>= link_outcome ls c.args.cells.now o.link) c.in-Err.ensures ∙ sym (applied_to ls c.args.cells.now (first_of o.first) o.link)
+    c.into_flat-in-Err.ensures ∙ ap (λ z. z >>= outcome_of_applied_link ls c.args.cells.now o.link) c.in-Err.ensures ∙ sym (applied_to ls c.args.cells.now (first_of o.first) o.link)
 
 pub operation-returns-in-Variable : goal.operation-returns-in-Variable
 operation-returns-in-Variable t c =
     let ls = levels_of c.args.level.now in
     let o = out-Operation c.args.o.now in
     let a : SFits w32 c.value_of.result = search rules in
-    c.into_flat.ensures ∙ c.apply.ensures ∙ ap (link_outcome ls c.args.cells.now o.link) (to_z-of_z a)
-    ∙ ap (λ z. z >>= link_outcome ls c.args.cells.now o.link) (sym c.value_of.ensures ∙ sym (ap (λ f. number ls c.args.cells.now (first_of f)) c.in-Variable.is))
+    c.into_flat.ensures ∙ c.apply.ensures ∙ ap (outcome_of_applied_link ls c.args.cells.now o.link) (to_z-of_z a)
+    ∙ ap (λ z. z >>= outcome_of_applied_link ls c.args.cells.now o.link) (sym c.value_of.ensures ∙ sym (ap (λ f. number ls c.args.cells.now (first_of f)) c.in-Variable.is))
     ∙ sym (applied_to ls c.args.cells.now (first_of o.first) o.link)

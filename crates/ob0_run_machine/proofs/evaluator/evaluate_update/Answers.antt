@@ -1,7 +1,7 @@
 use mir.Val.{SFits}
 use Rattle.std.proofs.Math.Facts.{to_z-of_z}
 use Rattle.std.proofs.Common.{rules, w32, sym, ap, ◌∙◌}
-use Rattle.ob0_run_machine.specs.Answers.{link_outcome}
+use Rattle.ob0_run_machine.specs.Answers.{outcome_of_applied_link}
 use Rattle.ob0_run_machine.specs.Evaluation.{◌>>=◌}
 use Rattle.ob0_run_machine.specs.Levels.{levels_of}
 use Rattle.ob0_run_machine.specs.Lowered.{cell}
@@ -13,4 +13,4 @@ pub returns : goal.returns
 returns c =
     let ls = levels_of c.args.level.now in
     let a : SFits w32 c.value_of-left.result = search rules in
-    c.apply.ensures ∙ ap (link_outcome ls c.args.cells.now c.args.link.now) (to_z-of_z a) ∙ ap (λ z. z >>= link_outcome ls c.args.cells.now c.args.link.now) (sym c.value_of-left.ensures) ∙ sym (applied_to ls c.args.cells.now (cell (variable_of c.args.variable)) c.args.link.now)
+    c.apply.ensures ∙ ap (outcome_of_applied_link ls c.args.cells.now c.args.link.now) (to_z-of_z a) ∙ ap (λ z. z >>= outcome_of_applied_link ls c.args.cells.now c.args.link.now) (sym c.value_of-left.ensures) ∙ sym (applied_to ls c.args.cells.now (cell (variable_of c.args.variable)) c.args.link.now)

@@ -4,7 +4,7 @@ use Rattle.ob0_tree.specs.Places.{text_at}
 use Rattle.ob0_language_names.specs.Names.{same_name}
 use Rattle.ob0_scope_table.specs.Resolution.{Resolution}
 use Rattle.ob0_types_fields.specs.Identifiers.{field_tokens_of_record}
-use Rattle.ob0_types.proofs.fields.field_position.Goals as goal
+use Rattle.ob0_types.proofs.fields.field_index_in_record.Goals as goal
 
 pub returns : goal.returns
 returns c =
