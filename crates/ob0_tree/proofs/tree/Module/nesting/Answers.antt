@@ -12,4 +12,4 @@ pub returns : goal.returns
 returns c =
     let m = c.args.self.now in
     let shallow = subst (λ n. n ≤ 100) (nesting_mapped (text_at m.source) (value_at m.source) (tree_of m)) c.tokens-parsed.ensures.parsed.module_of.shallow in
-    not_capped c.block-2.result (nesting (block_of m.block)) shallow (c.block-2.ensures ∙ ap (λ b. capped (nesting (block_of b))) c.block.ensures)
+    not_capped c.block_nesting.result (nesting (block_of m.block)) shallow (c.block_nesting.ensures ∙ ap (λ b. capped (nesting (block_of b))) c.block.ensures)
