@@ -1,4 +1,4 @@
--- The answers to questions about a text.
+-- Defines the right answers to questions about a text.
 -- Rule: none; for contracts of `ask`.
 use Rattle.std.specs.Prelude.{ℕ, List, None, Option, Some}
 use Rattle.ob0_scan.specs.TextWithTokens.{IsScanOf}
@@ -8,19 +8,19 @@ use Rattle.ob0_language_types.specs.WellTyped.{WellTyped}
 use Rattle.ob0_types.specs.CheckedModules.{IsWellTyped}
 use Rattle.ob0_analysis.specs.Diagnosed.{IsWellTypedModule}
 
--- holds if the text is a well-typed module with these bindings of names
+-- states that the text is a well-typed module, and `names` is this module with its names bound
 pub record IsModuleIn (text : List ℕ) (names : Resolution) : Type 0 where
   pub scan : IsScanOf text names.module_read.source
   pub well_typed : IsWellTyped names
 
--- holds if the text is a well-typed module, and `m` has its tokens and its tree
+-- states that the text is a well-typed module, and `m` has the tokens and the tree of the text
 pub record IsReadAs (text : List ℕ) (m : ParsedModule) : Type 0 where
   pub scan : IsScanOf text m.source
   pub parsed : IsParsed m
   pub well_typed : WellTyped (named_tree_of m)
 
--- Holds for Some if the text is a well-typed module and `answers` holds for this module and the
--- value. Holds for None if the text isn't a well-typed module.
+-- States that the text is a well-typed module, and `answers` relates this module to the answer. For
+-- None, states that the text isn't a well-typed module.
 abbrev pub AnswersIfWellTyped : {A : Type 0} → List ℕ → (Resolution → A → Type 0) → Option A → Type 0
 AnswersIfWellTyped text answers (Some answer) =
     (names : Resolution) × IsModuleIn text names × answers names answer

@@ -1,5 +1,5 @@
 -- States when an analysis of the changed text may reuse the analysis of the previous text.
--- Rule: none; for private contracts: what an analysis takes over.
+-- Rule: none; for private contracts: the results that an analysis reuses.
 use Rattle.std.specs.Prelude.{◌≡◌, ◌==◌, ℕ, true, IfSome, List, Option, map}
 use Rattle.ob0_scan.specs.Refused.{AreFaults}
 use Rattle.ob0_scan.specs.Reused.{kinds, names_in, words_of_tokens}
@@ -25,10 +25,11 @@ use Rattle.ob0_analysis.specs.LastModule.{IsLastModuleOf}
 use Rattle.ob0_analysis.specs.declared.last_module.LastModule.{LastModule}
 use Rattle.ob0_analysis.specs.declared.fault_places.FaultPlaces.{FaultPlaces}
 
--- Holds if three things are true for a previous text `old`. The scan `c` of the changed text
--- reports correctly which tokens both texts share. The procedures were parsed from the tokens of
--- `old`, and also belong to the new tokens if the scan reports that all kinds are the same. If
--- `last` is Some, it has the names and types of the last module before `old`.
+-- States that the results kept for a previous text `old` are right:
+-- - The scan `c` of the changed text reports correctly which tokens both texts share.
+-- - The kept trees (`procedures`) belong to the tokens of `old`. If `c` reports that all tokens
+--   have the same kinds, these trees also belong to the new tokens.
+-- - `last` is None, or it has the names and types of the last module before `old`.
 pub record AreKeptBefore (c : RescanInPlace) (procedures : KeptTrees) (last : Option LastModule) : Type 0 where
   pub old : TextWithTokens
   pub new_scan : IsScan c.rescan.tokens
@@ -38,7 +39,7 @@ pub record AreKeptBefore (c : RescanInPlace) (procedures : KeptTrees) (last : Op
   pub alike : c.alike ≡ true → AreKept c.rescan.tokens.tokens procedures
   pub was : IfSome last (IsLastModuleOf old)
 
--- Holds if the places are the tokens at which a module has faults of names and types. `front` must
+-- States that `places` has the tokens at which a module has faults of names and types. `front` must
 -- be true exactly if the first token starts at byte 0 or the text has no tokens.
 pub record AreFaultPlacesOf
     (source : TextWithTokens) (b : Bindings) (types : ModuleTypes) (places : FaultPlaces) : Type 0 where
@@ -46,7 +47,8 @@ pub record AreFaultPlacesOf
   pub of_types : places.types.items ≡ map (fault_by_tokens source.tokens) types.faults.items
   pub front : places.front ≡ (first_token_start source == 0)
 
--- holds if `c` has the same bindings as `b`, and the faults of `c` are at these tokens of the text
+-- States that the bindings `c` equal `b`, except for their faults. The faults of `c` have the codes
+-- and tokens in `places`, and their spans are computed from these tokens of the text.
 pub record HasFaultsAt
     (source : TextWithTokens) (b : Bindings) (places : List FaultByTokens) (c : Bindings) : Type 0 where
   pub ordinals : c.ordinals.items ≡ b.ordinals.items
@@ -54,8 +56,8 @@ pub record HasFaultsAt
   pub occurrences : c.occurrences.items ≡ b.occurrences.items
   pub faults : c.faults.items ≡ map (fault_at source) places
 
--- holds if `moved` equals `types`, except that the faults of `moved` are at these tokens of the
--- text
+-- States that `moved` equals `types`, except for the faults. The faults of `moved` have the codes
+-- and tokens in `places`, and their spans are computed from these tokens of the text.
 pub record HasTypesAt
     (source : TextWithTokens) (types : ModuleTypes) (places : List FaultByTokens) (moved : ModuleTypes)
     : Type 0 where
@@ -64,8 +66,8 @@ pub record HasTypesAt
   pub faulty : moved.faulty ≡ types.faulty
   pub faults : moved.faults.items ≡ map (fault_at source) places
 
--- holds if this tree, these bindings and this result of checking types belong to the text, and
--- `places` has the tokens of the text's faults
+-- States that this tree, these bindings and this result of checking types belong to the text.
+-- `places` must have the tokens of the text's faults.
 pub record IsModuleWithFaultPlaces
     (source : TextWithTokens) (tree : ModuleTree) (b : Bindings) (types : ModuleTypes)
     (places : FaultPlaces) : Type 0 where
@@ -74,9 +76,10 @@ pub record IsModuleWithFaultPlaces
   pub types_are : AreTypesOf (resolution_with (parsed_module source tree) b) types
   pub places_are : AreFaultPlacesOf source b types places
 
--- Holds if a previous text was a module with this tree, these bindings, this result of checking its
--- types, and faults at these places. The scan `c` of the changed text must report correctly which
--- tokens both texts share, and whether all kinds, all names or all spellings are the same.
+-- States that a previous text was a module with this tree, these bindings, this result of checking
+-- its types, and faults at these places. The scan `c` of the changed text must be right about the
+-- tokens that both texts share. If `c` reports that all kinds, all names or all spellings are the
+-- same, it must also be right about that.
 pub record IsModuleBefore
     (c : RescanInPlace) (tree : ModuleTree) (b : Bindings) (types : ModuleTypes)
     (places : FaultPlaces) : Type 0 where
@@ -92,9 +95,9 @@ pub record IsModuleBefore
   pub same_words : c.same_words ≡ true
       → words_of_tokens c.rescan.tokens.text c.rescan.tokens.tokens ≡ words_of_tokens old.text old.tokens
 
--- Holds if a previous text was a module with this tree, these bindings, this result of checking its
--- types, and faults at these places. The tokens of that text must have the same spelling as the
--- tokens of `new`.
+-- States that a previous text was a module with this tree, these bindings, this result of checking
+-- its types, and faults at these places. The tokens of the previous text must have the same
+-- spelling as the tokens of `new`.
 pub record IsModuleWithSameSpelling
     (new : TextWithTokens) (tree : ModuleTree) (b : Bindings) (types : ModuleTypes) (places : FaultPlaces)
     : Type 0 where
@@ -103,9 +106,10 @@ pub record IsModuleWithSameSpelling
   pub alike : AreWrittenAlike old new
   pub parsed : IsParsed (parsed_module new tree)
 
--- Holds for a scan that failed because of lexical faults if these are the faults of the changed
--- text. The failed scan also returns the old tokens. This refusal, these procedures and this last
--- module must belong to them. Always holds if the scan failed for lack of memory.
+-- States that a failed scan of the changed text is right, if the parser refused the previous text.
+-- If the changed text has lexical faults, the scan returns these faults and the previous text's
+-- tokens. The refusal, the kept trees and the last module must belong to these tokens. Always holds
+-- if the scan failed for lack of memory.
 abbrev pub IsFailureAfterRefusal : List ℕ
     → ParseRefusal
     → KeptTrees
@@ -120,9 +124,10 @@ IsFailureAfterRefusal text refusal procedures last (rescanned.Faults faults toke
     × IfSome last (IsLastModuleOf tokens)
 IsFailureAfterRefusal text refusal procedures last rescanned.Memory = Unit {0}
 
--- Holds for a scan that failed because of lexical faults if these are the faults of the changed
--- text. The failed scan also returns the old tokens. This tree, these bindings and these types must
--- belong to them. Always holds if the scan failed for lack of memory.
+-- States that a failed scan of the changed text is right, if the previous text was a module. If the
+-- changed text has lexical faults, the scan returns these faults and the previous text's tokens.
+-- The tree, the bindings and the types must belong to these tokens. Always holds if the scan failed
+-- for lack of memory.
 abbrev pub IsFailureAfterModule : List ℕ
     → ModuleTree
     → Bindings

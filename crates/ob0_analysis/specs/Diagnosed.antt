@@ -1,4 +1,5 @@
--- The errors that are reported for a text: none exactly if it is a well-typed module.
+-- Defines the errors that are reported for a text. A text has none exactly if it is a well-typed
+-- module.
 -- Rule: docs/PROTOCOL.md, Publishing 3; docs/LANGUAGE.md, Lexemes 7, Syntax faults,
 -- Faults of scopes and types 1.
 use Rattle.std.specs.Prelude.{◌≡◌, ◌⊎◌, ◌≤◌, ◌<◌, ◌++◌, ◌∷◌, ℕ, List, [], Option, Some, None, map, length, slice_get, codes, string_bytes}
@@ -33,13 +34,13 @@ pub record Complaint : Type 0 where
 abbrev pub complaint_of_diagnosis : Diagnosis → Complaint
 complaint_of_diagnosis d = record { code = d.code.now; said = string_bytes d.message; span = d.span }
 
--- holds if the text can be scanned and the tree spells its tokens
+-- states that the text is a module with this tree
 pub record IsTextOf (tree : Tree Name module_text) (text : List ℕ) : Type 0 where
   pub scanned : TextWithTokens
   pub scan : IsScanOf text scanned
   pub module_of : ModuleOf scanned tree
 
--- holds if the text is a well-typed module
+-- states that the text is a well-typed module
 pub record IsWellTypedModule (text : List ℕ) : Type 0 where
   pub tree : Tree Name module_text
   pub text_of : IsTextOf tree text
@@ -47,12 +48,13 @@ pub record IsWellTypedModule (text : List ℕ) : Type 0 where
 
 -- ---- a text without lexemes
 
--- returns the complaint about a fault of lexemes, names or types
+-- returns the complaint about one fault of lexemes, names or types
 abbrev pub complaint_of_fault : Fault → Complaint
 complaint_of_fault fault =
     record { code = code_name fault.code; said = code_message fault.code; span = fault.span }
 
--- Holds if the text can't be scanned and the list reports its lexical faults, at most the first hundred.
+-- States that the text can't be scanned and that the list reports its lexical faults, at most the
+-- first hundred.
 pub record ReportsLexemes (text : List ℕ) (reported : List Complaint) : Type 0 where
   pub unscannable : IsScannable text → ⊥
   pub faults : List Fault
@@ -61,33 +63,35 @@ pub record ReportsLexemes (text : List ℕ) (reported : List Complaint) : Type 0
 
 -- ---- a text with lexemes and without a tree
 
--- returns the span of a token; for None, an empty span at the end of the text
+-- returns the span of a token, or an empty span at the end of the text if there is no token
 abbrev pub span_or_end : List ℕ → Option Token → Span
 span_or_end text (Some token) = token.span
 span_or_end text None = record { start = length text; end = length text }
 
--- returns the span of the token with this index; if there is none, an empty span at the end of the text
+-- returns the span of the token with this index, or an empty span at the end of the text if there
+-- is no such token
 abbrev pub token_span_or_end : TextWithTokens → ℕ → Span
 token_span_or_end s token = span_or_end s.text (slice_get s.tokens token)
 
--- returns the complaint of a syntax error: `expected` followed by this word, at this place
+-- Returns the complaint about a syntax error at this span. The message is `expected` followed by
+-- this word.
 abbrev pub syntax_error : List ℕ → Span → Complaint
 syntax_error word place =
     record { code = codes "Syntax"; said = codes "expected " ++ word; span = place }
 
--- returns the complaint that a construct at this place is nested too deep
+-- returns the complaint that a construct at this span is nested too deep
 abbrev pub depth_error : Span → Complaint
 depth_error place = record { code = codes "TooDeep"; said = codes "nested too deep"; span = place }
 
--- Holds if the complaint reports this refusal of the parser, at the refused token. Never holds for
--- lack of memory.
+-- States that the complaint reports this refusal, at the token that the parser refused. Never holds
+-- if the refusal is lack of memory.
 abbrev pub ReportsRefusal : TextWithTokens → ParseRefusal → Complaint → Type 0
 ReportsRefusal s (Syntax token expected) c = c ≡ syntax_error (expected_text expected) (token_span_or_end s token)
 ReportsRefusal s (TooDeep token) c = c ≡ depth_error (token_span_or_end s token)
 ReportsRefusal s Memory c = ⊥
 
--- holds if the parser refuses the text and the list has only one complaint, which reports this
--- refusal
+-- states that the parser refuses the text, and that the list has only one complaint, which reports
+-- this refusal
 pub record ReportsParser (text : List ℕ) (reported : List Complaint) : Type 0 where
   pub scanned : TextWithTokens
   pub scan : IsScanOf text scanned
@@ -99,8 +103,8 @@ pub record ReportsParser (text : List ℕ) (reported : List Complaint) : Type 0 
 
 -- ---- a text with a tree that isn't well-typed
 
--- Holds if the text has a tree that isn't well-typed, and the list reports the first faults of its
--- names and types: at least one, and at most a hundred.
+-- States that the text has a tree that isn't well-typed. The list must report the first faults of
+-- the text's names and types: at least one, and at most a hundred.
 pub record ReportsTypes (text : List ℕ) (reported : List Complaint) : Type 0 where
   pub names : Resolution
   pub resolved : IsResolution names
@@ -114,14 +118,14 @@ pub record ReportsTypes (text : List ℕ) (reported : List Complaint) : Type 0 w
 
 -- ---- every text
 
--- Holds if the list reports the errors of a text that isn't a well-typed module. These are its
--- lexical faults, or the parser's refusal, or the faults of names and types.
+-- States that the list reports the errors of a text that isn't a well-typed module. These are the
+-- text's lexical faults, or the parser's refusal, or the faults of names and types.
 abbrev pub ReportsFaults : List ℕ → List Complaint → Type 0
 ReportsFaults text reported =
     ReportsLexemes text reported ⊎ (ReportsParser text reported ⊎ ReportsTypes text reported)
 
--- holds if the text is a well-typed module and the list is empty, or if it isn't one and the list
--- reports its errors
+-- States that the list has exactly the errors to report for the text. The list is empty if the text
+-- is a well-typed module. Otherwise the list reports the text's errors.
 abbrev pub Reports : List ℕ → List Complaint → Type 0
 Reports text reported =
     (IsWellTypedModule text × (reported ≡ []))
@@ -129,7 +133,7 @@ Reports text reported =
 
 -- ---- laws
 
--- Two reports of the parser's refusal for the same text are equal.
+-- States that two reports of the parser's refusal for the same text are equal.
 abbrev pub RefusalIsUnique : Type 0
 RefusalIsUnique =
     (text : List ℕ) (a b : List Complaint) → ReportsParser text a → ReportsParser text b → a ≡ b

@@ -1,5 +1,5 @@
--- The last text that was a module, and what the current text shares with it.
--- Rule: none; for private contracts: what an analysis takes over.
+-- Defines the last text that was a module, and the tokens that the current text shares with it.
+-- Rule: none; for private contracts: the results that an analysis reuses.
 use Rattle.std.specs.Prelude.{◌≡◌, ◌≤◌, ◌+◌, IfSome, Option, Some}
 use Rattle.ob0_scan.specs.SameKinds.{HasSameTokens, HasSameWords}
 use Rattle.ob0_scan.specs.TextWithTokens.{IsScan, TextWithTokens}
@@ -14,9 +14,10 @@ use Rattle.ob0_types.specs.CheckedModules.{AreTypesOf}
 use Rattle.ob0_types.specs.declared.checked.ModuleTypes.{ModuleTypes}
 use Rattle.ob0_analysis.specs.declared.last_module.LastModule.{LastModule}
 
--- Holds if an earlier text was a module with this tree, these bindings and this result of checking
--- its types. `s` says which tokens at the beginning and at the end of the earlier text also begin
--- and end the current text `new`. These tokens must have the same kinds and spelling in both texts.
+-- States that an earlier text was a module with this tree, these bindings and this result of
+-- checking its types. `s` describes the tokens that begin both the earlier text and the current
+-- text `new`, and the tokens that end both texts. These tokens must have the same kinds and
+-- spellings in both texts.
 pub record IsEarlierModule
     (new : TextWithTokens) (tree : ModuleTree) (b : Bindings) (types : ModuleTypes) (s : SameTokens)
     : Type 0 where
@@ -29,22 +30,25 @@ pub record IsEarlierModule
   pub same : HasSameTokens s old.tokens new.tokens
   pub written : HasSameWords s old new
 
--- holds if `last` has the names and types of an earlier text that was a module, and all tokens of
--- the earlier text that may differ from `new` lie in its body at `last.place`
+-- States that `last` has the names and types of an earlier text that was a module. All tokens of
+-- the earlier text that may differ from the current text `new` must lie in the body at
+-- `last.place`.
 pub record IsLastModuleOf (new : TextWithTokens) (last : LastModule) : Type 0 where
   pub tree : ModuleTree
   pub had : IsEarlierModule new tree last.bindings last.types last.same
   pub placed : body_place_around last.same.prefix last.same.old_suffix (module_tree_of tree) ≡ Some last.place
 
--- Holds if the range of differences `wider` contains the range `same`. At its end, the range must
--- grow by the same number of tokens in the old and in the new text.
+-- States that the tokens that may differ according to `wider` include the tokens that may differ
+-- according to `same`. At the end of the range, `wider` must add as many tokens in the old text as
+-- in the new text.
 pub record WidensDifference (same wider : SameTokens) : Type 0 where
   pub front : wider.prefix ≤ same.prefix
   pub back : same.old_suffix ≤ wider.old_suffix
   pub as_far : wider.new_suffix + same.old_suffix ≡ same.new_suffix + wider.old_suffix
 
--- Holds if `after` is the last module of a new text whenever `before` is the last module of the old
--- text and `change` has the tokens that both texts share. Always holds if `after` is None.
+-- States that a change from an old text to a new text keeps the last module right: if `before`
+-- belongs to the old text, then `after` belongs to the new text. This must hold for any two texts
+-- that share the tokens described by `change`. Always holds if `after` is None.
 abbrev pub KeepsLastModule : Option LastModule → SameTokens → Option LastModule → Type 0
 KeepsLastModule before change after =
     (old new : TextWithTokens)

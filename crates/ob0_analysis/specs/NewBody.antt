@@ -1,12 +1,13 @@
--- A text in which the statements of one body were replaced.
--- Rule: none; for private contracts: what an analysis takes over.
+-- Defines a text in which the statements of one body were replaced.
+-- Rule: none; for private contracts: the results that an analysis reuses.
 use Rattle.std.specs.Prelude.{◌≡◌, ◌<◌, ◌+◌, Option, Some}
 use Rattle.ob0_scan.specs.declared.tokens.SameTokens.{SameTokens}
 use Rattle.ob0_scope_table.specs.declared.one_body.BodyPlace.{BodyPlace}
 
--- Holds if the body of the earlier module at `was` and the body of the current module at `now` are
--- at the same place, and the tokens that may differ lie in them. Both bodies begin at the same
--- token before these tokens, and both end at the same distance after them.
+-- States that the earlier module's body at `was` and the current module's body at `now` are the
+-- same body. Its first identifier is at the same token index in both modules, before the tokens
+-- that may differ. The closing name of its block is at the same distance after these tokens in both
+-- modules. Never holds if `now` is None.
 pub record IsSameBody (was : BodyPlace) (now : Option BodyPlace) (s : SameTokens) : Type 0 where
   pub place : BodyPlace
   pub is : now ≡ Some place

@@ -1,5 +1,5 @@
--- A text with the same tree as the previous text.
--- Rule: none; for private contracts: what an analysis takes over.
+-- Defines a text with the same tree as the previous text.
+-- Rule: none; for private contracts: the results that an analysis reuses.
 use Rattle.std.specs.Prelude.{◌≡◌}
 use Rattle.ob0_scan.specs.Reused.{kinds}
 use Rattle.ob0_scan.specs.TextWithTokens.{TextWithTokens}
@@ -9,8 +9,9 @@ use Rattle.ob0_scope_table.specs.declared.resolved.Bindings.{Bindings}
 use Rattle.ob0_types.specs.declared.checked.ModuleTypes.{ModuleTypes}
 use Rattle.ob0_analysis.specs.LastModule.{IsEarlierModule}
 
--- holds if an earlier text was a module with this tree, these bindings and this result of checking
--- its types, and the tokens of that text have the same kinds as the tokens of `new`
+-- States that an earlier text was a module with this tree, these bindings and this result of
+-- checking its types. The tokens of the earlier text must have the same kinds as the tokens of
+-- `new`. The tokens that `s` describes must also have the same spellings.
 pub record IsEarlierModuleWithSameKinds
     (new : TextWithTokens) (tree : ModuleTree) (b : Bindings) (types : ModuleTypes) (s : SameTokens)
     : Type 0 where

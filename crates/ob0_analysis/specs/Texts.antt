@@ -1,4 +1,4 @@
--- The bytes of a text that is given by its characters.
+-- Defines the bytes of a text that is given by its characters.
 -- Rule: none; for contracts: a text as characters and as bytes.
 use Rattle.std.specs.Prelude.{ℕ, List, encode_utf8_all}
 

@@ -1,41 +1,42 @@
-//! The analysis of a text, as one value that can be kept and updated.
+//! Keeps the analysis of a text as one value, and updates it when the text changes.
 //!
 //! An `Analysis` owns one of two things:
 //! - For a text that has lexemes, a `ScannedText`: the parts of its module, or the parser's refusal
 //!   and the tokens.
-//! - For a text with lexical faults, an `UnscannableText`: the text, its faults, and the last `ScannedText`
-//!   before it.
+//! - For a text with lexical faults, an `UnscannableText`: the text, its faults, and the last
+//!   `ScannedText` before it.
 //!
-//! The value of an `Analysis` is only the text. Its invariant says that everything in it belongs to
-//! that text (`IsValidAnalysisResult`, `IsValidOutcome`). So `of` and `after` have the same clause, and contracts don't
-//! mention what is reused. If an analysis reuses more, the crates above don't change.
+//! In contracts, the value of an `Analysis` is only the text. Its invariant says that the analysis
+//! is right for that text (`IsValidAnalysisResult`, `IsValidOutcome`). So `of` and `after` have the
+//! same clause, and contracts don't mention which results are reused. The crates above don't depend
+//! on how much is reused.
 //!
 //! `after` finds the common beginning and end of the old and the new text (`Difference::between`).
 //! It scans only the rest, and replaces the old tokens there (`rescan_in_place`). The next step
 //! depends on the tokens:
 //! - All tokens have the same kinds as before, and the old text has a tree: the tree is kept. It
-//!   consists of token indexes, so it also spells the new tokens (`tree_stays` of `ob0_parse`).
-//!   Bindings are kept if the identifiers have the same spelling and no name has a fault. If the
-//!   tokens that may differ in spelling lie in one body, only the names there are bound again, and
-//!   the types outside it are reused (`one_body.rt`). Otherwise all names are bound and all types
-//!   are checked again.
+//!   has token indexes instead of names and numbers, so it is also the tree of the new text
+//!   (`tree_stays` of `ob0_parse`). Bindings are kept if the identifiers have the same spelling and
+//!   no name has a fault. Suppose that all tokens that may differ in spelling lie in one body. Then
+//!   only the names in that body are bound again, and the types outside the body are reused
+//!   (`one_body.rt`). Otherwise all names are bound and all types are checked again.
 //! - All tokens have the same kinds as before, and the parser refused the old text: the refusal is
 //!   kept (`refusal_stays`). The parser looks only at kinds, so it would stop at the same token.
 //!   This saves the parsing for half of the keystrokes in an unfinished statement.
-//! - A kind has changed: procedures of the module's own block and its body are reused
-//!   (`reparse_tree`). If the tokens that differ lie in one body of both modules, after the body's
-//!   first identifier, all results outside the body are kept, with their tokens moved
-//!   (`new_body.rt`). The two modules are equal outside this body (`body_replaced` in
-//!   `proofs/NewBody.antt`). Between them there may be texts that the parser refuses: meanwhile the
-//!   results for the earlier module are kept (`last_module.rt`).
+//! - A kind has changed: the text is parsed, but procedures of the module's own block and the
+//!   module's body are reused (`reparse_tree`). Suppose that the tokens that differ lie in one body
+//!   of both modules, after the body's first identifier. Then all results outside the body are
+//!   kept, with their tokens moved (`new_body.rt`). The two modules are equal outside this body
+//!   (`body_replaced` in `proofs/NewBody.antt`). Between the two modules there may be texts that
+//!   the parser refuses. Meanwhile the results for the earlier module are kept (`last_module.rt`).
 //!
-//! If all tokens have the same spelling (`words_of_tokens`), for example after a change of blanks, line
-//! endings or comments, everything is kept (`reanalyse_same_words`). The tree has the same names and
-//! numbers, and each fault is at the same tokens (`bindings_move_with_tokens` of `ob0_scope`,
-//! `types_depend_on_tokens` of `ob0_types`). Faults are stored with spans. So the tokens of each fault
-//! are found by binary search before the scan, and the spans are computed again after it
-//! (`FaultPlaces`). A fault without tokens is at the text's start. So this is done only if both
-//! texts begin with a token, or neither does (`AreWrittenAlike`).
+//! If all tokens have the same spelling (`words_of_tokens`), for example after a change of blanks,
+//! line endings or comments, everything is kept (`reanalyse_same_words`). The tree has the same
+//! names and numbers, and each fault is at the same tokens (`bindings_move_with_tokens` of
+//! `ob0_scope`, `types_depend_on_tokens` of `ob0_types`). Faults are stored with spans. So the
+//! tokens of each fault are found by binary search before the scan, and the spans are computed
+//! again after it (`FaultPlaces`). A fault without tokens is at the text's start. So everything is
+//! kept only if both texts begin with a token, or neither does (`AreWrittenAlike`).
 //!
 //! If a new text has lexical faults, all results for the last text that had lexemes are kept,
 //! because a failing scan returns the old tokens (`IsRightRescanRefusal`). The next successful scan
@@ -57,12 +58,12 @@ use ob0_scan::{Fault, ScanRefusal, scan};
 use std::alloc::{AllocError, Global};
 use std::marker::Model;
 
-/// An old analysis is dropped if half of the room in its lists exceeds the new text's length by
-/// more than this number of bytes.
+/// An old analysis is dropped if half of its `room` exceeds the new text's length by more than this
+/// number of bytes.
 const MAX_SPARE_BYTES: usize = 4096;
 
-/// The analysis of a text with lexical faults: the text, its faults, and the analysis of the last text that had
-/// lexemes.
+/// The analysis of a text with lexical faults: the text, its faults, and the analysis of the last
+/// text that had lexemes. `last` is None if no such analysis is kept.
 #[derive(Drop)]
 pub(crate) struct UnscannableText {
     text: String,
@@ -70,23 +71,25 @@ pub(crate) struct UnscannableText {
     last: Option<ScannedText>,
 }
 
-/// The result of analysing a text: its lexical faults, or the analysis of its lexemes.
+/// The result of analysing a text: its lexical faults, or the analysis of its tokens.
 #[derive(Drop)]
 pub(crate) enum AnalysisResult {
     NoLexemes(UnscannableText),
     Read(ScannedText),
 }
 
-/// The analysis of a text. In contracts its value is only the text. All results in it belong to
-/// this text, so it answers like an analysis from scratch.
+/// The analysis of a text. In contracts its value is only the text, because an analysis that reuses
+/// earlier results answers like one from scratch.
 pub struct Analysis {
     found: AnalysisResult,
-    /// The length of the longest text since the last analysis from scratch. Lists keep their
-    /// capacity, so reused ones may have room for a text of that length.
+    /// The length, in bytes, of the longest earlier text with lexemes since the last analysis from
+    /// scratch, or 0 if there is none. Lists keep their capacity, so reused lists may have room for
+    /// a text of that length.
     room: usize,
 }
 
-// This impl is written by hand, because each crate that drops an `Analysis` would have to prove a derived impl again.
+// This impl is written by hand, because each crate that drops an `Analysis` would have to prove a
+// derived impl again.
 impl Drop for Analysis {
     fn drop(self) {
         let Analysis {
@@ -130,9 +133,9 @@ impl Analysis {
         }
     }
 
-    /// Analyses another text, and reuses results for the parts that both texts have in common
-    /// (`ScannedText::after`). If the new text has lexical faults, the results for the last text that
-    /// had lexemes are kept.
+    /// Analyses a changed text, and reuses results for the parts that the old and the new text have
+    /// in common (`ScannedText::after`). If the new text has lexical faults, the results for the
+    /// last text that had lexemes are kept.
     pub fn after(self, alloc: Global, text: &str) -> Result<Analysis, AllocError>
         ensures { IfOk result (λ a. a ≡ text.now) }
     {
@@ -148,8 +151,9 @@ impl Analysis {
         }
     }
 
-    /// Analyses a text after a text with lexical faults. If the analysis of the last text that had
-    /// lexemes is kept, it is reused; its lists have room for a text of `room` bytes.
+    /// Analyses a text if the previous text had lexical faults. Reuses the analysis of the last
+    /// text that had lexemes, if that analysis is kept. Its lists have room for a text of `room`
+    /// bytes.
     fn analyse_after_faults(
         alloc: Global,
         ill: UnscannableText,
@@ -170,7 +174,7 @@ impl Analysis {
     }
 
     /// Analyses a text, and reuses the analysis `read` of a text that has lexemes. The lists of
-    /// `read` have room for a text of `room` bytes. If this is much more than the new text needs,
+    /// `read` have room for a text of `room` bytes. If `room` is much more than the new text needs,
     /// `read` is dropped, because reused lists keep their capacity.
     fn analyse_after_scanned(
         alloc: Global,
@@ -198,7 +202,8 @@ impl Analysis {
     }
 
     /// Returns the analysis of a text with these lexical faults. `last` is the kept analysis of the
-    /// last text that had lexemes, and `room` is the number of bytes for which its lists have room.
+    /// last text that had lexemes, or None. `room` is the number of bytes for which the lists of
+    /// `last` have room.
     fn with_lexical_faults(
         alloc: Global,
         text: &str,
@@ -227,9 +232,9 @@ impl Analysis {
         }
     }
 
-    /// Returns the size of the analysis in bytes of text, as a measure of its memory. This is the
-    /// length of its text or, if that is longer, of the earlier text for which its lists have room.
-    /// If the text has lexical faults, both lengths are added.
+    /// Returns a measure of the memory that the analysis uses, in bytes of text. This is the length
+    /// of the text, or `room` if that is greater. If the text has lexical faults, it is the sum of
+    /// both.
     pub fn size_in_bytes(&self) -> usize
         ensures { length self.now ≤ result }
     {
@@ -253,7 +258,8 @@ impl Analysis {
     }
 
     /// Returns the errors of the text. There are none exactly if the text is a well-typed module.
-    /// - If the text has lexical faults, the errors are the first hundred of these, in text order.
+    /// - If the text has lexical faults, the errors are the first hundred lexical faults, in text
+    ///   order.
     /// - If the text has lexemes but no tree, the only error is the parser's refusal, at the token
     ///   where parsing stops.
     /// - If the text has a tree, the errors are the first hundred faults of names and types.
@@ -261,7 +267,7 @@ impl Analysis {
         ensures reported { IfOk result (λ list. Reports self.now (map complaint_of_diagnosis list.items)) }
         ensures utf8 { IsUtf8 self.now }
     {
-        // The contract of this call gives the proof the invariant of the analysis.
+        // The proof needs the invariant of the analysis, which this call's contract states.
         let _text = self.text();
         match &self.found {
             AnalysisResult::NoLexemes(ill) => diagnoses_of_faults(alloc, ill.faults.as_slice()),

@@ -1,4 +1,4 @@
-//! Questions to the module of a text.
+//! Answers questions about the module of a text.
 //!
 //! `ask` builds views of the module from the kept tokens, tree, bindings and types. If the module
 //! is well-typed, `ask` passes the view of the well-typed module to the question. If the text isn't
@@ -6,10 +6,10 @@
 //!
 //! A question is a struct with `impl Question`. The impl has the type `Answer` of the answers, the
 //! function `answer`, and a ghost member `answers = { λ question names answer. .. }`, which is the
-//! contract of `answer`. If `answers` is about the characters of the text, it is an implication
-//! from `IsModuleIn (utf8 content) names` and `content ≡ chars names.module_read.source.text`. If a
-//! question is only for one text, it states this in the ghost member `is_about`, which `ask`
-//! requires.
+//! contract of `answer`. To state something about the characters `content` of the text, `answers`
+//! is an implication. Its conditions are `IsModuleIn (utf8 content) names` and
+//! `content ≡ chars names.module_read.source.text`. If a question can be asked about only one text,
+//! the ghost member `is_about` states this, and callers of `ask` must prove it.
 
 ghost use Rattle.std.specs.Prelude.{⊤, ℕ, List, IfOk};
 ghost use Rattle.std.specs.Str.{IsUtf8};
@@ -30,7 +30,7 @@ pub trait Question {
     /// default, there is none.
     ghost is_about: { Self → List ℕ → Type 0 } = { λ _ _. ⊤ };
 
-    /// The relation between the question, the module and its answer.
+    /// The relation between a question, a module, and a right answer to the question.
     ghost answers: { Self → Resolution → Self.Answer → Type 0 };
 
     /// Answers the question about this module. Fails only if an allocation fails.
@@ -52,7 +52,7 @@ pub fn ask<Q: Question>(
 {
     scan_is_unique();
     tree_is_unique();
-    // The contract of this call gives the proof the invariant of the analysis.
+    // The proof needs the invariant of the analysis, which this call's contract states.
     let _text = analysis.text();
     let Some(parts) = analysis.module_parts() else {
         return Ok(None);
@@ -62,7 +62,7 @@ pub fn ask<Q: Question>(
     let checked = parts.checked(&resolved);
     match checked.well_typed() {
         Some(module) => {
-            // The contract of this call gives the proof the invariant of the module.
+            // The proof needs the invariant of the module, which this call's contract states.
             let _names = module.resolved();
             Ok(Some(question.answer(alloc, &module)?))
         }

@@ -1,4 +1,4 @@
-//! The errors that are reported for a text.
+//! Makes the errors that are reported for a text.
 
 ghost use Rattle.std.specs.Prelude.{◌≡◌, IfOk, map};
 ghost use Rattle.ob0_analysis.specs.Diagnosed.{ReportsRefusal, complaint_of_diagnosis, complaint_of_fault, syntax_error as expected_at, depth_error as too_deep_at, token_span_or_end as span_or_end};
@@ -15,7 +15,7 @@ pub struct Diagnosis {
     pub span: Span,
 }
 
-/// Returns the diagnoses of faults of lexemes, names or types, in the same order.
+/// Returns a diagnosis for each of these faults of lexemes, names or types, in the same order.
 pub fn diagnoses_of_faults(alloc: Global, faults: &[Fault]) -> Result<Vec<Diagnosis>, AllocError>
     ensures { IfOk result (λ list. map complaint_of_diagnosis list.items ≡ map complaint_of_fault faults.now) }
 {
@@ -37,7 +37,8 @@ fn diagnosis_of_fault(alloc: Global, fault: &Fault) -> Result<Diagnosis, AllocEr
     })
 }
 
-/// Returns the diagnosis of the parser's refusal, at the token that was refused.
+/// Returns the diagnosis of the parser's refusal, at the token that was refused. Returns an error
+/// if the refusal is lack of memory or an allocation fails.
 pub fn diagnosis_of_refusal(
     alloc: Global,
     tokens: &Tokens,
@@ -56,7 +57,8 @@ pub fn diagnosis_of_refusal(
     }
 }
 
-/// Returns the diagnosis of a syntax error: `expected` followed by this word, at this span.
+/// Returns the diagnosis of a syntax error at this span. The message is `expected` followed by this
+/// word.
 fn syntax_error(alloc: Global, word: &str, span: Span) -> Result<Diagnosis, AllocError>
     ensures { IfOk result (λ d. complaint_of_diagnosis d ≡ expected_at word.now span) }
 {
@@ -67,7 +69,7 @@ fn syntax_error(alloc: Global, word: &str, span: Span) -> Result<Diagnosis, Allo
     })
 }
 
-/// Returns the diagnosis of a construct that is nested too deep, at this span.
+/// Returns the diagnosis of a construct at this span that is nested too deep.
 fn depth_error(alloc: Global, span: Span) -> Result<Diagnosis, AllocError>
     ensures { IfOk result (λ d. complaint_of_diagnosis d ≡ too_deep_at span) }
 {
@@ -78,8 +80,8 @@ fn depth_error(alloc: Global, span: Span) -> Result<Diagnosis, AllocError>
     })
 }
 
-/// Returns the span of the token with this index. If there is no such token, the span is empty and lies at the end of
-/// the text.
+/// Returns the span of the token with this index. If there is no such token, the span is empty and
+/// lies at the end of the text.
 fn token_span_or_end(tokens: &Tokens, token: usize) -> Span
     ensures { result ≡ span_or_end tokens.now token }
 {

@@ -1,4 +1,4 @@
-//! The difference between two texts.
+//! Finds the difference between two texts.
 
 ghost use Rattle.std.specs.Prelude.{◌≡◌, ◌+◌, ◌-◌, ◌<◌, ◌≤◌, true, length, take, drop};
 ghost use Rattle.ob0_scan.specs.Reused.{ReplacesRange};
@@ -14,8 +14,8 @@ pub(crate) struct Difference {
 }
 
 impl Difference {
-    /// Returns the difference between two texts. It contains neither their common prefix nor the
-    /// common suffix of the remaining bytes.
+    /// Returns the difference between two texts. The difference contains neither their common
+    /// prefix nor the common suffix of the remaining bytes.
     pub(crate) fn between(old: &str, new: &str) -> Difference
         ensures { ReplacesRange old.now new.now result.from result.removed result.added }
     {
@@ -30,8 +30,8 @@ impl Difference {
     }
 }
 
-/// The number of bytes that are compared at once. Only the last of these pieces, in which the texts
-/// differ, is compared byte by byte.
+/// The size, in bytes, of the pieces in which two texts are compared. The first piece that differs
+/// or isn't full is compared byte by byte.
 const COMPARISON_BLOCK: usize = 256;
 
 /// Returns the length of the common prefix of two texts, in bytes.
@@ -44,8 +44,8 @@ fn common_prefix_length(a: &[u8], b: &[u8]) -> usize
     extend_prefix(a, b, known, 1)
 }
 
-/// Extends a known common prefix of two texts by equal pieces of `size` bytes. Returns the new length of the prefix, in
-/// bytes.
+/// Extends the common prefix of two texts, whose first `known` bytes are equal, by as many equal
+/// pieces of `size` bytes as possible. Returns the length of the extended prefix, in bytes.
 fn extend_prefix(a: &[u8], b: &[u8], known: usize, size: usize) -> usize
     requires some { 0 < size }
     requires in_a { known ≤ length a.now }
@@ -76,8 +76,9 @@ fn common_suffix_length(a: &[u8], b: &[u8], from: usize) -> usize
     extend_suffix(a, b, most, known, 1)
 }
 
-/// Extends a known common suffix of two texts by equal pieces of `size` bytes. Returns the new length of the suffix, at
-/// most `most` bytes.
+/// Extends the common suffix of two texts, whose last `known` bytes are equal, by as many equal
+/// pieces of `size` bytes as possible. Returns the length of the extended suffix, which is at most
+/// `most` bytes.
 fn extend_suffix(a: &[u8], b: &[u8], most: usize, known: usize, size: usize) -> usize
     requires some { 0 < size }
     requires in_a { most ≤ length a.now }
@@ -96,8 +97,8 @@ fn extend_suffix(a: &[u8], b: &[u8], most: usize, known: usize, size: usize) -> 
     count
 }
 
-/// Returns true only if both texts have `size` bytes at the byte offsets `in_a` and `in_b`, and
-/// these bytes are equal.
+/// Returns whether the `size` bytes of `a` at the byte offset `in_a` exist, and equal the `size`
+/// bytes of `b` at the byte offset `in_b`.
 fn is_same_piece(a: &[u8], b: &[u8], in_a: usize, in_b: usize, size: usize) -> bool
     ensures yes { result ≡ true → IsCommonPiece a.now b.now in_a in_b size }
 {

@@ -1,5 +1,5 @@
-//! The tokens at which a module has faults. After a change that keeps the spelling of all tokens,
-//! the spans of the faults in the new text are computed from these tokens.
+//! Keeps the tokens at which a module has faults. After a change that keeps the spelling of all
+//! tokens, the spans of the faults in the new text are computed from these tokens.
 
 ghost use Rattle.std.specs.Prelude.{◌≡◌, ◌==◌, true, IfOk, map};
 ghost use Rattle.ob0_scope_table.specs.FaultTokens.{fault_at, first_token_start};
@@ -10,8 +10,8 @@ use ob0_scope_table::{Bindings, FaultByTokens, faults_at_tokens, faults_by_token
 use ob0_types::ModuleTypes;
 use std::alloc::{AllocError, Global};
 
-/// The tokens at which a module has faults of names and of types. `front` is true if the text begins with a token or
-/// has no tokens.
+/// The tokens at which a module has faults of names and of types. `front` is true if the text
+/// begins with a token or has no tokens.
 #[derive(Drop)]
 pub(crate) struct FaultPlaces {
     pub(crate) names: Vec<FaultByTokens>,
@@ -20,7 +20,7 @@ pub(crate) struct FaultPlaces {
 }
 
 impl FaultPlaces {
-    /// Returns the tokens at which a module has faults.
+    /// Returns the tokens at which a module has faults of names and of types.
     pub(crate) fn of(
         alloc: Global,
         tokens: &Tokens,
@@ -38,8 +38,8 @@ impl FaultPlaces {
         })
     }
 
-    /// Returns true if a text and the module's text both begin with a token, or neither does. A
-    /// text without tokens counts as one that begins with a token.
+    /// Returns whether a text and the module's text both begin with a token, or neither of them
+    /// does. A text without tokens counts as one that begins with a token.
     pub(crate) fn has_same_front(&self, tokens: &Tokens) -> bool
         ensures { result ≡ true → (first_token_start tokens.now == 0) ≡ self.now.front }
     {
@@ -47,7 +47,7 @@ impl FaultPlaces {
     }
 }
 
-/// Returns true if the text begins with a token or has no tokens.
+/// Returns whether the text begins with a token or has no tokens.
 fn begins_with_token(tokens: &Tokens) -> bool
     ensures { result ≡ (first_token_start tokens.now == 0) }
 {

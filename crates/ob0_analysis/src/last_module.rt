@@ -2,13 +2,14 @@
 //! after it.
 //!
 //! After most keystrokes in an unfinished statement the text has no tree. Meanwhile the names and
-//! types of the earlier module are kept, as long as all differences from it lie in one body, after
-//! the body's first identifier and before the END of its block. When the text has a tree again,
-//! only that body is bound and checked (`reuse_last_module`).
+//! types of the earlier module are kept, as long as all differences from that module lie in one
+//! body. The differences must come after the body's first identifier and before the END of its
+//! block. When the text has a tree again, only that body is bound and checked
+//! (`reuse_last_module`).
 //!
-//! The tree is dropped after the first text that the parser refuses, so the body can't be found
-//! again later. So for all later texts the whole body counts as different (`widen_to_body`), and
-//! any further change must lie in the same body (`after`).
+//! The tree is dropped when the parser refuses the first of these texts, so the body can't be found
+//! again later. From then on, the whole body counts as different (`widen_to_body`), and any further
+//! change must lie in the same body (`after`).
 
 ghost use Rattle.std.specs.Prelude.{◌≡◌, ◌≤◌, IfSome, Some};
 ghost use Rattle.ob0_analysis.specs.LastModule.{IsEarlierModule, WidensDifference, KeepsLastModule, IsLastModuleOf};
@@ -18,9 +19,9 @@ use ob0_scope_table::{Bindings, BodyPlace, body_place_in_tree};
 use ob0_tree::ModuleTree;
 use ob0_types::ModuleTypes;
 
-/// The names and types of the last text that was a module. `same` has the tokens that the current
-/// text shares with this module, and `place` is the place in this module of the body that contains
-/// all differences.
+/// The names and types of the last text that was a module. `same` describes the tokens that the
+/// current text shares with this module. `place` is the place, in this module, of the body that
+/// contains all differences.
 #[derive(Drop)]
 pub(crate) struct LastModule {
     pub(crate) bindings: Bindings,
@@ -30,8 +31,8 @@ pub(crate) struct LastModule {
 }
 
 impl LastModule {
-    /// Keeps the names and types of the previous module if all tokens that differ lie in one of its
-    /// bodies. Otherwise returns None.
+    /// Keeps the names and types of the previous module if all tokens that may differ lie in one
+    /// body, after its first identifier. Otherwise returns None.
     pub(crate) fn of(
         tokens: &Tokens,
         tree: &ModuleTree,
@@ -89,10 +90,10 @@ impl LastModule {
     }
 }
 
-/// Extends the range of differences between two texts (`same`) to a whole body of the old text:
-/// from the token after the body's first identifier up to the END of its block, without the END.
-/// Returns None if a difference lies outside this range, or if the range would end after the
-/// current text's `count` tokens.
+/// Extends the range of tokens that may differ (`same`) to a whole body of the old text. The
+/// extended range begins after the body's first identifier and ends before the END of its block.
+/// Returns None if a token that may differ lies outside this range, or if the range would end after
+/// the current text's `count` tokens.
 fn widen_to_body(same: SameTokens, body: BodyPlace, count: usize) -> Option<SameTokens>
     ensures { IfSome result (λ wider. WidensDifference same wider × (wider.new_suffix ≤ count)) }
 {
@@ -105,8 +106,9 @@ fn widen_to_body(same: SameTokens, body: BodyPlace, count: usize) -> Option<Same
     Some(wider)
 }
 
-/// Extends the range of differences between two texts (`same`) to `prefix..old_suffix`, as token
-/// indexes in the old text. Returns None if the new range doesn't contain the old one.
+/// Extends the range of tokens that may differ (`same`) to the range `prefix..old_suffix` of token
+/// indexes in the old text. Returns None if the range `prefix..old_suffix` doesn't contain the
+/// range of `same`.
 fn widen_difference(same: SameTokens, prefix: usize, old_suffix: usize) -> Option<SameTokens>
     ensures wider { IfSome result (WidensDifference same) }
     ensures prefix { IfSome result (λ wider. wider.prefix ≡ prefix) }

@@ -1,10 +1,10 @@
-//! The laws that contracts of this crate cite.
+//! States a law about the errors of a text, for the proofs of other crates.
 
 ghost use Rattle.ob0_analysis.specs.Diagnosed.{RefusalIsUnique};
 
 use ob0_scan::laws::scan_is_unique;
 
-/// Proves that the report of the parser's refusal is a function of the text.
+/// Proves that two reports of the parser's refusal for the same text are equal.
 pub fn refusal_is_unique()
     ensures { RefusalIsUnique }
 {

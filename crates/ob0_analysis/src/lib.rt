@@ -1,6 +1,5 @@
-//! The analysis of a text as one value (`Analysis`), which is made once and then kept. Questions
-//! about the text's module are asked of it (`ask`). It also gives the errors of the text
-//! (`Analysis::diagnoses`).
+//! Analyses a text, and keeps the results as one value (`Analysis`). From this value, `ask` answers
+//! questions about the text's module, and `Analysis::diagnoses` returns the errors of the text.
 #![tactic(auto)]
 
 mod analysis;

@@ -48,9 +48,10 @@ pub(crate) fn reuse_last_module(
     Ok(ModuleParts::from_parts(tokens, tree, names, types))
 }
 
-/// Returns true if the body of the earlier module (`was`) and the body of the current one (`now`)
-/// are at the same place: both begin at the same token, before the tokens that may differ, and both
-/// end at the same distance after these tokens. Returns false if `now` is None.
+/// Returns whether the earlier module's body (`was`) and the current module's body (`now`) are the
+/// same body. Its first identifier must be at the same token index in both modules, before the
+/// tokens that may differ. The closing name of its block must be at the same distance after these
+/// tokens in both modules. Returns false if `now` is None.
 fn is_same_body(was: BodyPlace, now: Option<BodyPlace>, same: SameTokens) -> bool
     ensures { result ≡ true → IsSameBody was now same }
 {
@@ -72,7 +73,8 @@ fn is_same_body(was: BodyPlace, now: Option<BodyPlace>, same: SameTokens) -> boo
     place.closing - same.new_suffix == was.closing - same.old_suffix
 }
 
-/// Binds the names of the replaced body again and reuses all other bindings. Fails only if an allocation fails.
+/// Binds the names of the replaced body again and reuses all other bindings. Fails only if an
+/// allocation fails.
 fn bind_new_body(
     alloc: Global,
     tokens: &Tokens,

@@ -1,9 +1,10 @@
-//! A module with everything that its analysis found.
+//! Keeps a module with all results of its analysis.
 //!
-//! A *view* (`Module`, `Resolved`, `Checked`) has one part and a reference to the view below it.
-//! Its invariant says that the part belongs to that view. A view has two constructors, which
-//! require this invariant: `new` owns the part, and `from_parts` borrows the part and doesn't
-//! allocate. In contracts, a `ModuleParts` has the same value as its `Resolved`.
+//! A *view* (`Module`, `Resolved`, `Checked`) has one part of the results and a reference to the
+//! view of the layer below. The view's invariant says that the part is right for the layer below.
+//! Each view has two constructors, which require this invariant: `new` owns the part, and
+//! `from_parts` borrows the part and doesn't allocate. In contracts, a `ModuleParts` has the same
+//! value as its `Resolved`.
 
 ghost use Rattle.std.specs.Prelude.{◌≡◌, IfOk};
 ghost use Rattle.ob0_tree.specs.ParsedModule.{IsParsed, parsed_module};
@@ -127,7 +128,7 @@ impl ModuleParts {
         &self.tokens
     }
 
-    /// Takes the module apart and returns its parts, so that each can be reused.
+    /// Takes the module apart and returns its parts, so that each part can be reused separately.
     pub(crate) fn into_parts(self) -> (Tokens, ModuleTree, Bindings, ModuleTypes)
         ensures parsed { IsParsed (parsed_module result.0 result.1) }
         ensures resolved { IsResolution (resolution_with (parsed_module result.0 result.1) result.2) }

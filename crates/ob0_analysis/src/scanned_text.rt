@@ -1,4 +1,5 @@
-//! A text that has lexemes: its tokens, with its module or the parser's refusal.
+//! Analyses a text that has lexemes. The result has the text's tokens, with its module or the
+//! parser's refusal.
 
 ghost use Rattle.std.specs.Prelude.{◌≡◌, [], true, IfErr, IfOk, IfSome, MatchOption, map};
 ghost use Rattle.ob0_scan.specs.Refused.{AreFaults, IsRightRescanRefusal};
@@ -40,7 +41,8 @@ use std::marker::Model;
 
 /// A text that has lexemes and no tree. It is kept as its tokens and the parser's refusal, with
 /// procedures that the next parse can reuse. `last` has the names and types of the last text that
-/// was a module. It is None unless the two texts differ in only one body.
+/// was a module. `last` is None if there was no such text, or if the differences from that text may
+/// lie in more than one body.
 #[derive(Drop)]
 pub(crate) struct UnparsableText {
     tokens: Tokens,
@@ -119,7 +121,7 @@ impl ScannedText {
     }
 
     /// Binds the names and checks the types of a text that has this tree. If `last` is Some, the
-    /// names and types of the last module are reused.
+    /// names and types of the last module are reused if possible.
     fn analyse_tree(
         alloc: Global,
         tokens: Tokens,
@@ -137,7 +139,7 @@ impl ScannedText {
         Ok(ScannedText::from_module(parts))
     }
 
-    /// Returns the analysis of a text that is this module.
+    /// Makes the analysis of a text from the parts of its module.
     fn from_module(parts: ModuleParts) -> ScannedText
         ensures { result ≡ parts.module_read.source.text }
     {
@@ -149,11 +151,12 @@ impl ScannedText {
     /// Analyses a changed text. These results for the previous text are reused:
     /// - always the tokens and procedures that both texts have in common;
     /// - if all tokens have the same kinds as before, the tree or the parser's refusal;
-    /// - if also all identifiers have the same spelling and no name has a fault, their bindings;
+    /// - if also all identifiers have the same spelling and no name has a fault, the bindings;
+    /// - if all differences lie in one body, the bindings and types outside this body;
     /// - if all tokens have the same spelling, everything, with the faults at the same tokens.
     ///
-    /// If the new text has lexical faults, the error has these and the analysis of the previous
-    /// text.
+    /// If the new text has lexical faults, the error has these faults and the analysis of the
+    /// previous text.
     pub(crate) fn after(self, alloc: Global, text: &str) -> Result<ScannedText, ReanalysisFailure>
         ensures ok { IfOk result (λ r. r ≡ text.now) }
         ensures err { IfErr result (IsReanalysisFailure text.now) }
@@ -218,9 +221,9 @@ impl ScannedText {
         }
     }
 
-    /// Analyses a changed and scanned text if the parser refused the previous text. If all tokens
-    /// have the same kinds as before, the refusal is kept. Otherwise the text is parsed, and the
-    /// kept procedures and the names and types of the last module are reused if possible.
+    /// Analyses a changed text that was scanned, if the parser refused the previous text. If all
+    /// tokens have the same kinds as before, the refusal is kept. Otherwise the text is parsed, and
+    /// the kept procedures and the names and types of the last module are reused if possible.
     fn reanalyse_refused(
         alloc: Global,
         changed: RescanInPlace,
@@ -266,7 +269,7 @@ impl ScannedText {
     {
         let (tokens, tree, bindings, types) = old.into_parts();
         let places = FaultPlaces::of(alloc, &tokens, &bindings, &types)?;
-        // The contract of this call gives the proof the invariant of the tokens.
+        // The proof needs the invariant of the tokens, which this call's contract states.
         let _text = tokens.text();
         match rescan_text(alloc, tokens, text) {
             Ok(changed) => Ok(ScannedText::reanalyse_module(
@@ -299,8 +302,8 @@ impl ScannedText {
         }
     }
 
-    /// Analyses a changed and scanned text if the previous text was a module, with faults at the
-    /// tokens in `places`. If all tokens have the same kinds as before, the tree is kept. The
+    /// Analyses a changed text that was scanned. The previous text was a module, and `places` has
+    /// the tokens of its faults. If all tokens have the same kinds as before, the tree is kept. The
     /// bindings and types are reused if possible.
     fn reanalyse_module(
         alloc: Global,
@@ -335,9 +338,9 @@ impl ScannedText {
         ScannedText::reanalyse_same_tree(alloc, tokens, tree, bindings, types, same, same_names)
     }
 
-    /// Parses and analyses a changed text in which a token has another kind. Procedures of the
-    /// previous tree are reused. If both modules differ in only one body, the names and types
-    /// outside it are also reused.
+    /// Parses and analyses a changed text in which a token has another kind than before. Procedures
+    /// of the previous tree are reused. If the text is a module that differs from the previous one
+    /// in only one body, the names and types outside this body are also reused.
     fn reanalyse_changed_kinds(
         alloc: Global,
         tokens: Tokens,
@@ -384,7 +387,7 @@ impl ScannedText {
     }
 
     /// Checks the types of a text that has the previous tree and these bindings. If the texts
-    /// differ in only one body (`in_body`), the previous types outside it are reused.
+    /// differ in only one body (`in_body`), the previous types outside this body are reused.
     fn reanalyse_with_bindings(
         alloc: Global,
         tokens: Tokens,
@@ -445,12 +448,12 @@ impl ScannedText {
         scan_is_unique();
         match &self.reading {
             ParseOutcome::NoTree(ill) => {
-                // The contract of this call gives the proof the invariant of the tokens.
+                // The proof needs the invariant of the tokens, which this call's contract states.
                 let _text = ill.tokens.text();
                 None
             }
             ParseOutcome::Module(parts) => {
-                // The contract of this call gives the proof the invariant of the tokens.
+                // The proof needs the invariant of the tokens, which this call's contract states.
                 let _text = parts.tokens().text();
                 Some(parts)
             }

@@ -1,4 +1,4 @@
-//! The errors of a text that has lexemes.
+//! Makes the errors of a text that has lexemes.
 
 ghost use Rattle.std.specs.Prelude.{IfOk, map};
 ghost use Rattle.ob0_parse.specs.IsRightParseRefusal.{IsRightParseRefusal};
@@ -12,7 +12,8 @@ use ob0_scan::Tokens;
 use ob0_scan::laws::scan_is_unique;
 use std::alloc::{AllocError, Global};
 
-/// Returns the only error of a text without a tree: the parser's refusal, at the token that was refused.
+/// Returns the only error of a text without a tree: the parser's refusal, at the token that was
+/// refused.
 pub(crate) fn diagnose_refusal(
     alloc: Global,
     tokens: &Tokens,
@@ -22,14 +23,15 @@ pub(crate) fn diagnose_refusal(
     ensures { IfOk result (λ list. Reports tokens.now.text (map complaint_of_diagnosis list.items)) }
 {
     scan_is_unique();
-    // The contract of this call gives the proof the invariant of the tokens.
+    // The proof needs the invariant of the tokens, which this call's contract states.
     let _text = tokens.text();
     let mut reported = Vec::new(alloc);
     reported.push(diagnosis_of_refusal(alloc, tokens, refusal)?)?;
     Ok(reported)
 }
 
-/// Returns the faults of names and types of a text that has a tree.
+/// Returns the faults of names and types of a text that has a tree. The list is empty if the module
+/// is well-typed.
 pub(crate) fn diagnose_module(
     alloc: Global,
     parts: &ModuleParts,
@@ -39,7 +41,7 @@ pub(crate) fn diagnose_module(
 {
     scan_is_unique();
     tree_is_unique();
-    // The contract of this call gives the proof the invariant of the tokens.
+    // The proof needs the invariant of the tokens, which this call's contract states.
     let _text = parts.tokens().text();
     let reported = diagnoses_of_faults(alloc, parts.faults())?;
     Ok(reported)

@@ -1,4 +1,4 @@
--- Defines which command line a list of words means.
+-- Defines which command the words of a command line request.
 -- Rule: docs/PROTOCOL.md, The program; clap's definition of a command line.
 use Rattle.std.specs.Prelude.{◌≡◌, ◌⊎◌, ◌≤◌, ℕ, List, [], Option, Some, codes, if◌then◌else◌, pos}
 use Rattle.std.specs.Str.{bytes_eq}
@@ -14,20 +14,21 @@ use Rattle.ob0_cli.specs.declared.line.CommandLine.TheVariants.{Serve, Check, Ru
 use Rattle.ob0_cli.specs.declared.line.CommandFault.{CommandFault}
 use Rattle.ob0_cli.specs.declared.line.CommandFault.TheVariants.{Refused, Memory}
 
--- The subcommand that was found, with the values of its arguments, or None if no subcommand was
--- found.
+-- The subcommand that clap found: its name and the values of its arguments. None means that no
+-- subcommand was found.
 abbrev pub FoundCommand : Type 0
 FoundCommand = Option (Text × List Row)
 
--- Holds if the number `n` is the value of the argument `id`, given or by default.
+-- States that the value of the argument `id` is the number `n`. The value was given or is the
+-- default.
 abbrev pub HasNumberValue : Text → List Row → ℕ → Type 0
 HasNumberValue id rows n =
     (digits : Text)
     × (one_of id rows ≡ Some digits)
     × (n ≡ digits_value 10 (without_leading_plus digits))
 
--- Holds if the command line belongs to the subcommand with this name, and has the values found for
--- its arguments.
+-- States that the command belongs to the subcommand with this name, and has the values that clap
+-- found for its arguments.
 abbrev pub HasFoundValues : Text → List Row → CommandLine → Type 0
 HasFoundValues name rows Serve = name ≡ codes "serve"
 HasFoundValues name rows (Check file) =
@@ -44,28 +45,28 @@ HasFoundValues name rows (Rename file position new) =
     × HasNumberValue (codes "column") rows position.character
     × (first_of (codes "name") rows ≡ Some new.now)
 
--- Holds if the command reads a file and this is the file's path.
+-- States that the command reads a file and that this is the file's path.
 abbrev pub HasFilePath : CommandLine → Text → Type 0
 HasFilePath Serve path = ⊥
 HasFilePath (Check file) path = file.now ≡ path
 HasFilePath (Run file calls turns) path = file.now ≡ path
 HasFilePath (Rename file position new) path = file.now ≡ path
 
--- Holds if a subcommand was found, and the command line is that subcommand with the values found
+-- States that a subcommand was found, and that the command is that subcommand with the values found
 -- for its arguments.
 abbrev pub YieldsCommandLine : FoundCommand → CommandLine → Type 0
 YieldsCommandLine found line =
     (name : Text) × (rows : List Row) × (found ≡ Some (name, rows)) × HasFoundValues name rows line
 
--- Holds if clap's definition of `ob0` finds no fault in the words, and this command line is the
--- subcommand that they request, with its values.
+-- States that clap's definition of `ob0` finds no fault in the words, and that the words request
+-- this command.
 pub record SpellsCommand (words : List Text) (line : CommandLine) : Type 0 where
   pub fine : fault_of ob0_app words ≡ []
   pub read : YieldsCommandLine (subcommand_of ob0_app words) line
 
--- Holds if the words may be refused with this fault. A clap error has a kind that clap's definition
--- allows for the words' first fault, and never the kind `OutOfMemory`. For `help` and for an
--- unknown subcommand two kinds are allowed. `Memory` is allowed for any words.
+-- States that the words may be refused with this fault. A clap error has a kind that clap's
+-- definition allows for the words' first fault, and never the kind `OutOfMemory`. For `help` and
+-- for an unknown subcommand, two kinds are allowed. `Memory` is allowed for any words.
 abbrev pub RefusesWords : List Text → CommandFault → Type 0
 RefusesWords words (Refused error) =
     IsAmong (kind_of error) (fault_of ob0_app words) × ¬ (kind_of error ≡ OutOfMemory)
@@ -73,28 +74,30 @@ RefusesWords words Memory = Unit {0}
 
 -- ---- the values that clap's matches have
 
--- Holds if the argument `id` has a value, which is a text.
+-- States that the argument `id` has a value, which is a text.
 abbrev pub HasTextValue : Text → List Row → Type 0
 HasTextValue id rows = (text : Text) × (first_of id rows ≡ Some text)
 
--- Returns the greatest number that the option with this name accepts. Each name except `calls`
--- counts as `turns`.
+-- Returns the greatest number that the option with this name accepts: `max_calls` for `calls`.
+-- Every other name is treated like `turns`.
 abbrev pub max_option_value : Text → ℕ
 max_option_value id = if bytes_eq id (codes "calls") then max_calls else max_turns
 
--- Holds if the value of the option is a number from 0 to the greatest that it accepts.
+-- States that the value of the option is a number from 0 to the greatest number that the option
+-- accepts.
 abbrev pub HasBoundedValue : Text → List Row → Type 0
 HasBoundedValue id rows =
     (text : Text)
     × (one_of id rows ≡ Some (without_minus text))
     × IsSignedIn (pos 0) (pos (max_option_value id)) text
 
--- Holds if the value of the argument is an unsigned number of 64 bits, such as a line or a column.
+-- States that the value of the argument is an unsigned number of 64 bits, such as a line or a
+-- column.
 abbrev pub HasCoordinateValue : Text → List Row → Type 0
 HasCoordinateValue id rows =
     (text : Text) × (one_of id rows ≡ Some text) × IsUnsignedIn 0 18446744073709551615 text
 
--- Holds if the subcommand with this name has a value of the right kind for each argument that it
+-- States that the subcommand with this name has a value of the right kind for each argument that it
 -- needs.
 abbrev pub HasNeededValues : Text → List Row → Type 0
 HasNeededValues name rows = (name ≡ codes "serve") ⊎ ((name ≡ codes "check") × HasTextValue (codes "file") rows)
@@ -108,8 +111,8 @@ HasNeededValues name rows = (name ≡ codes "serve") ⊎ ((name ≡ codes "check
     × HasCoordinateValue (codes "column") rows
     × HasTextValue (codes "name") rows)
 
--- Holds if a subcommand was found, and it has a value of the right kind for each argument that it
--- needs.
+-- States that a subcommand was found, and that it has a value of the right kind for each argument
+-- that it needs.
 abbrev pub IsCompleteCommand : FoundCommand → Type 0
 IsCompleteCommand found =
     (name : Text) × (rows : List Row) × (found ≡ Some (name, rows)) × HasNeededValues name rows

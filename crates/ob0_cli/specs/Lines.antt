@@ -5,19 +5,22 @@ use Rattle.clap.specs.Words.{App, Rule, Text, new_app, new_rule, with_rule, with
 use Rattle.clap.specs.declared.builder.ArgAction.TheVariants.{Set, SetTrue}
 use Rattle.clap.specs.declared.builder.value_parser.ValueParser.TheVariants.{Signed, Unsigned}
 
--- Returns clap's rule for a required argument that is a word. Its value has one name in the help.
+-- Returns clap's rule for a required argument whose value is a word. The help shows one name for
+-- the value.
 abbrev pub word_rule : Text → Rule
 word_rule id = record (new_rule id) { action = Some Set; value_names = 1; required = true }
 
--- Returns clap's rule for a required argument that is an unsigned number of 64 bits.
+-- Returns clap's rule for a required argument whose value is an unsigned number of 64 bits.
 abbrev pub number_rule : Text → Rule
 number_rule id = record (word_rule id) { parser = Some (Unsigned 0 18446744073709551615) }
 
--- The greatest number that `--calls` accepts: calls that may be open at a time in a run.
+-- The greatest value of the option `--calls`. The option limits how many calls may be open at a
+-- time in a run.
 abbrev pub max_calls : ℕ
 max_calls = 64
 
--- The greatest number that `--turns` accepts: iterations of a loop in a run.
+-- The greatest value of the option `--turns`. The option limits the iterations of each execution of
+-- a loop in a run.
 abbrev pub max_turns : ℕ
 max_turns = 100000
 
@@ -51,8 +54,8 @@ abbrev pub client_rule : Rule
 client_rule =
     record (new_rule (codes "client")) { long = Some (codes "clientProcessId"); value_names = 1 }
 
--- The subcommand `serve` without its options. An option may be given several times, because a
--- client may add one that the user has already given.
+-- The subcommand `serve` without its options. Each option may be given several times, because a
+-- client may add an option that the user has already given.
 abbrev pub serve_without_options : App
 serve_without_options =
     record (new_app (codes "serve"))
@@ -81,13 +84,13 @@ rename =
     (number_rule (codes "column")))
     (word_rule (codes "name"))
 
--- The program without its subcommands. It has a version, and one subcommand is required.
+-- The program `ob0` without its subcommands. It has a version, and requires one subcommand.
 abbrev pub ob0_without_subcommands : App
 ob0_without_subcommands =
     record (new_app (codes "ob0"))
     { top = record (new_app (codes "ob0")).top { subcommand_required = true; has_version = true } }
 
--- The program with its four subcommands. clap adds the subcommand `help`.
+-- The program `ob0` with its four subcommands. clap also adds the subcommand `help`.
 abbrev pub ob0_app : App
 ob0_app =
     with_subcommand

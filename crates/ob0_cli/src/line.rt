@@ -11,10 +11,10 @@
 //!
 //! Only the `App` of `serve` and `serve_definition` mention the options of `serve`.
 //!
-//! Traps: if a function takes a `&str`, no `ghost` clause can depend on it. So the bound of a
-//! number is a function of its name (`max_option_value`). A local named `run` is `run'` in the
-//! answers of proofs. A `where` block needs every `_` written out. Help texts are constants of at
-//! most 80 columns, one for each command: a test counts the columns.
+//! Traps: no `ghost` clause can depend on a `&str` parameter. So the greatest value of an option is
+//! a function of the option's name (`max_option_value`). In the files `Answers.antt` of the proofs,
+//! a local named `run` is called `run'`. A `where` block needs every `_` written out. Help texts
+//! are constants, one for each command. A test checks that their lines have at most 80 columns.
 
 ghost use Rattle.std.specs.Prelude.{◌≡◌, ◌≢◌, ◌≤◌, Some, false, true, IfOk, IfErr, MatchOption, map};
 ghost use Rattle.clap.specs.Words.{App, Rule, app_of, first_of, found_of, new_app, rows_of, rule_of, subcommand_rows_of, with_rule, with_subcommand};
@@ -133,7 +133,7 @@ pub enum CommandLine<'a> {
         calls: u32,
         turns: u32,
     },
-    /// Print a file's text with another name in place of the name at a position.
+    /// Print a file's text, with the name or field at a position renamed.
     Rename {
         file: &'a str,
         position: Position,
@@ -142,7 +142,8 @@ pub enum CommandLine<'a> {
 }
 
 impl<'a> CommandLine<'a> {
-    /// Returns the file that the command reads. Returns None for `serve`, which reads no file.
+    /// Returns the path of the file that the command reads. Returns None for `serve`, which reads
+    /// no file.
     pub fn file(self) -> Option<&'a str>
         ensures { MatchOption result (self.entry ≡ Serve)
             (λ file. (self.entry ≢ Serve) × HasFilePath self.entry file.now) }
@@ -186,7 +187,7 @@ pub fn command<'a>(alloc: Global, words: &'a [&'a str]) -> Result<CommandLine<'a
     }
 }
 
-/// Reads the words of a command line according to clap's definition of `ob0`.
+/// Parses the words of a command line with clap, according to the definition of `ob0`.
 fn parse_command_line<'a>(
     ob0_definition: Command<'a>,
     words: &'a [&'a str],
@@ -205,7 +206,7 @@ fn parse_command_line<'a>(
     }
 }
 
-/// Returns the command line that clap's matches describe.
+/// Returns the `CommandLine` for the subcommand that clap found, with the values of its arguments.
 fn command_line_of<'a>(matches: &ArgMatches<'a>) -> CommandLine<'a>
     requires { IsCompleteCommand (subcommand_rows_of matches.now) }
     ensures { YieldsCommandLine (subcommand_rows_of matches.now) result }
@@ -216,7 +217,8 @@ fn command_line_of<'a>(matches: &ArgMatches<'a>) -> CommandLine<'a>
     }
 }
 
-/// Returns the command line of the subcommand with this name. Its values are those that clap found.
+/// Returns the `CommandLine` for the subcommand with this name, with the values that clap found for
+/// its arguments.
 fn subcommand_line<'a>(name: &str, given: &ArgMatches<'a>) -> CommandLine<'a>
     requires { HasNeededValues name.now (rows_of (found_of given.now)) }
     ensures { HasFoundValues name.now (rows_of (found_of given.now)) result }
@@ -276,8 +278,8 @@ fn coordinate_value_of(given: &ArgMatches<'_>, id: &str) -> u64
     }
 }
 
-/// Makes clap's definition of `ob0`: four subcommands, one of which must be given. clap adds
-/// `help`.
+/// Makes clap's definition of `ob0`, which has four subcommands. One of them must be given. clap
+/// also adds `help`.
 fn ob0_definition<'a>(alloc: Global) -> Result<Command<'a>, AllocError>
     ensures { IfOk result (λ c. app_of c ≡ ob0_app) }
 {
@@ -290,8 +292,9 @@ fn ob0_definition<'a>(alloc: Global) -> Result<Command<'a>, AllocError>
     add_subcommand(with_run, rename_definition(alloc))
 }
 
-/// Adds the subcommand `below` to the command `above`. If making one of the two ran out of memory,
-/// returns that error. The other one is dropped here, so that only this proof covers the drop.
+/// Adds the subcommand `below` to the command `above`. If making either of them ran out of memory,
+/// returns that error. The other command is then dropped here, so that only the proof of this
+/// function covers the drop.
 fn add_subcommand<'a>(
     above: Result<Command<'a>, AllocError>,
     below: Result<Command<'a>, AllocError>,
@@ -341,7 +344,8 @@ fn command_with_help<'a>(
     Command::new(alloc, name).about(about).after_help(notes)
 }
 
-/// Makes the subcommand `serve`. It accepts the options that LSP 3.17 recommends, and ignores them.
+/// Makes the subcommand `serve`. The subcommand accepts the options that LSP 3.17 recommends, and
+/// ignores them.
 fn serve_definition<'a>(alloc: Global) -> Result<Command<'a>, AllocError>
     ensures { IfOk result (λ c. app_of c ≡ serve_lines) }
 {
@@ -438,7 +442,8 @@ fn rename_definition<'a>(alloc: Global) -> Result<Command<'a>, AllocError>
     add_argument(with_column, word(alloc, "name", "NAME", "The new name"))
 }
 
-/// Makes a required argument, which is a word. `shown` is its name in the help.
+/// Makes a required argument whose value is a word. `shown` is the name of the value in the help,
+/// and `help` explains the argument.
 fn word<'a>(alloc: Global, id: &'a str, shown: &'a str, help: &'a str) -> Arg<'a>
     ensures rule { rule_of result ≡ word_rule id.entry.now }
     ensures own { result.global ≡ false }
@@ -450,8 +455,8 @@ fn word<'a>(alloc: Global, id: &'a str, shown: &'a str, help: &'a str) -> Arg<'a
         .help(help)
 }
 
-/// Makes a required argument, which is an unsigned number of 64 bits. `shown` is its name in the
-/// help.
+/// Makes a required argument whose value is an unsigned number of 64 bits. `shown` is the name of
+/// the value in the help, and `help` explains the argument.
 fn number<'a>(alloc: Global, id: &'a str, shown: &'a str, help: &'a str) -> Arg<'a>
     ensures rule { rule_of result ≡ number_rule id.entry.now }
     ensures own { result.global ≡ false }

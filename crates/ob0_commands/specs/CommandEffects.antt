@@ -14,8 +14,8 @@ use Rattle.ob0_commands.specs.Renamed.{RenameEndsWithoutFault}
 use Rattle.ob0_commands.specs.Statuses.{IsNonUtf8File, InputFailureMatches, StopsPrintingFaults, StopsRunning}
 use Rattle.ob0_commands.specs.TextRuns.{RunEndsWithoutFault}
 
--- Holds if `check_file` ends with this status. 0: the file has no diagnostics, and nothing is printed.
--- 1: its errors are printed and flushed. Any other status: a fault ended the command
+-- States that `check` ends with this status. With status 0, the file has no diagnostics, and nothing is printed. With
+-- status 1, the file's errors are printed and flushed. With any other status, a fault ended the command
 -- (`EndsByFault`).
 abbrev pub ChecksFile : {O : Type 0}
     → (contents : O → Option (List ℕ))
@@ -32,8 +32,9 @@ ChecksFile contents is_flushed has_failed before after StderrLines file status =
     status
     ⊎ EndsByFault has_failed before after file (StopsPrintingFaults file) StderrLines status
 
--- Holds if `run` ends with this status. 0 or 1: it printed the run of the file's module on the
--- numbers of the input, or the file's errors. Any other status: a fault stopped the command.
+-- States that `run` ends with this status. With status 0 or 1, a run of the file's module on the
+-- numbers of the input is printed, or the file's errors are printed (`RunEndsWithoutFault`). With
+-- any other status, a fault ended the command (`EndsByFault`).
 abbrev pub RunsFile : {O I : Type 0}
     → (contents : O → Option (List ℕ))
     → (is_flushed has_failed : O → Bool)
@@ -56,8 +57,9 @@ RunsFile contents is_flushed has_failed before after StderrLines file remaining 
     × InputFailureMatches (input_failed input) (input_failed left) fault)
     StderrLines status
 
--- Holds if `rename` ends with this status. 0: it printed the file's text with the new name. 1: it
--- printed the file's errors or refused the name. Any other status: a fault stopped the command.
+-- States that `rename` ends with this status. With status 0, the file's text is printed with the
+-- new name. With status 1, the file's errors are printed or the name is refused. With any other
+-- status, a fault ended the command (`EndsByFault`).
 abbrev pub RenamesInFile : {O : Type 0}
     → (contents : O → Option (List ℕ))
     → (is_flushed has_failed : O → Bool)
@@ -74,8 +76,8 @@ RenamesInFile contents is_flushed has_failed before after StderrLines file posit
     status
     ⊎ EndsByFault has_failed before after file (StopsPrintingFaults file) StderrLines status
 
--- Holds if the command of this command line ends with this status, as `ChecksFile`, `RunsFile` or
--- `RenamesInFile` says. Only `run` reads from the input: at most one byte over the limit
+-- States that the command of this command line ends with this status, as `ChecksFile`, `RunsFile`
+-- or `RenamesInFile` says. Only `run` reads from the input: at most one byte over the limit
 -- `max_input`, and nothing if the file isn't a well-typed module. Never holds for `serve`, which
 -- isn't a command on a file.
 abbrev pub PerformsOnFile : {O I : Type 0}

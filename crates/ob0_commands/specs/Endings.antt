@@ -1,10 +1,10 @@
--- Defines how a command on a file ends: its status, its output and its lines on standard error.
--- If the status is 0 or 1, the file is UTF-8 or too long, and neither the output nor the input has
--- failed in the call. Any other status is the status of a fault. `StopsPrintingFaults` and
--- `StopsRunning` state the reason for the fault. A run is printed only if its input is a list of
--- numbers (`IsInputOf`); status 5 may occur with any input. `decode_text` allocates nothing, so 5
--- occurs only for a file that isn't too long (`AllocatesOnlyIfShort`). Each command prints after
--- its last allocation. So a fault other than `Write` leaves the output unchanged
+-- Defines how a command on a file ends: its status, its output and its lines on standard error. If
+-- the status is 0 or 1, the file is UTF-8 or too long. In that case, neither the output nor the
+-- input has failed in the call. Any other status is the status of a fault. `StopsPrintingFaults`
+-- and `StopsRunning` state the reason for the fault. A run is printed only if its input is a list
+-- of numbers (`IsInputOf`). Status 5 may occur with any input. `decode_text` allocates nothing, so
+-- status 5 occurs only for a file that isn't too long (`AllocatesOnlyIfShort`). Each command prints
+-- after its last allocation. So a fault other than `Write` leaves the output unchanged
 -- (`PrintsNothingUnlessWrite`).
 -- Rule: docs/PROTOCOL.md, The program 5 to 8.
 use Rattle.std.specs.Prelude.{◌≡◌, ◌≤◌, ℕ, List, Option, Some, Bool}
@@ -12,15 +12,15 @@ use Rattle.ob0_commands.specs.Printed.{fault_line}
 use Rattle.ob0_commands.specs.Statuses.{AllocatesOnlyIfShort, OutputFailureMatches, PrintsNothingUnlessWrite, status_of}
 use Rattle.ob0_commands.specs.declared.faults.FileFault.{FileFault}
 
--- Holds if no fault stops the command. The status is 0 and `Good` holds, or the status is 1 and
--- `Other` holds. In both cases `Both` holds.
+-- States that no fault stops the command. The status is 0 and `Good` holds, or the status is 1 and
+-- `Other` holds. With either status, `Both` holds.
 pub record EndsWithoutFault (Good Other Both : Type 0) (status : ℕ) : Type 0 where
   pub low : status ≤ 1
   pub good : status ≡ 0 → Good
   pub other : status ≡ 1 → Other
   pub both : Both
 
--- Holds if a fault ends the command. `Stops` holds for the fault, the command's status is the
+-- States that a fault ends the command. `Stops` holds for the fault, the command's status is the
 -- fault's status, and the fault's line is printed on standard error (`StderrLines`). The output is
 -- unchanged, unless the fault is `Write`.
 pub record EndsByFault {O : Type 0} (has_failed : O → Bool) (before after : O) (file : List ℕ)

@@ -1,25 +1,25 @@
--- Defines which numbers the text of an input spells.
+-- Defines which numbers the text of an input spells. Texts and words are bytes.
 -- Rule: docs/PROTOCOL.md, The program 2 and 6.
 use Rattle.std.specs.Prelude.{◌≡◌, ◌≢◌, ◌≤◌, ◌⊎◌, ℕ, ℤ, List, [], ◌∷◌, ◌++◌, Bool, true, Option, IfSome, IsTrue, ⊤, length, slice_index}
 use Rattle.std.specs.Str.Parse.{IsNumeral, signed_digits_value, without_leading_sign}
 use Rattle.ob0_run_machine.specs.Evaluation.{fits}
 use Rattle.ob0_scan.specs.Classes.{is_space}
 
--- Holds if the word spells this number of 32 bits: one or more decimal digits, optionally after a
--- `-`.
+-- States that the word spells this number of 32 bits: one or more decimal digits, optionally after
+-- a `-`.
 pub record SpellsNumber (word : List ℕ) (n : ℤ) : Type 0 where
   pub no_plus : slice_index word 0 ≢ 43
   pub digits : IsNumeral 10 (without_leading_sign word)
   pub value : n ≡ signed_digits_value 10 word
   pub small : fits n ≡ true
 
--- Holds if the text after a word is empty or begins with white space.
+-- States that a word ends before this text: the text is empty or begins with white space.
 abbrev pub IsAtWordEnd : List ℕ → Type 0
 IsAtWordEnd [] = ⊤
 IsAtWordEnd (b ∷ bs) = IsTrue (is_space b)
 
--- Holds if the text spells these numbers. Each word is a number, and words are separated by white
--- space: space, tab, CR or LF.
+-- States that the text spells these numbers. Each word is a number, and words are separated by
+-- white space: space, tab, CR or LF.
 pub data SpellsNumbers : List ℕ → List ℤ → Type 0 where
   nothing : SpellsNumbers [] []
   space : {b : ℕ} {text : List ℕ} {ns : List ℤ}
@@ -31,7 +31,7 @@ pub data SpellsNumbers : List ℕ → List ℤ → Type 0 where
       → SpellsNumber word n
       → IsAtWordEnd after → SpellsNumbers after ns → SpellsNumbers text (n ∷ ns)
 
--- Holds if the text is a list of numbers.
+-- States that the text spells a list of numbers.
 abbrev pub IsListOfNumbers : List ℕ → Type 0
 IsListOfNumbers text = (ns : List ℤ) × SpellsNumbers text ns
 
@@ -39,15 +39,16 @@ IsListOfNumbers text = (ns : List ℤ) × SpellsNumbers text ns
 abbrev pub max_input : ℕ
 max_input = 16777216
 
--- Holds if the text of an input spells these numbers and has at most 16,777,216 bytes.
+-- States that the text of an input spells these numbers and has at most 16,777,216 bytes.
 pub record IsInputOf (ns : List ℤ) (text : List ℕ) : Type 0 where
   pub short : length text ≤ max_input
   pub writes : SpellsNumbers text ns
 
--- Holds if the text isn't a valid input: it is too long, or isn't a list of numbers.
+-- States that the text isn't a valid input: it is too long, or isn't a list of numbers.
 abbrev pub IsInvalidInput : List ℕ → Type 0
 IsInvalidInput text = ¬ ((ns : List ℤ) × IsInputOf ns text)
 
--- Holds if the reader has failed, or its bytes are known and aren't a valid input.
+-- States that an input can't be used: its reader has failed, or its bytes are known and aren't a
+-- valid input.
 abbrev pub IsUnusableInput : Option (List ℕ) → Bool → Type 0
 IsUnusableInput given failed = (failed ≡ true) ⊎ IfSome given IsInvalidInput

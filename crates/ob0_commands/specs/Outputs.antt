@@ -4,18 +4,18 @@
 use Rattle.std.specs.Prelude.{◌≡◌, ◌⊎◌, Bool, true}
 use Rattle.ob0_commands.specs.declared.tracked_output.TrackedWriter.{TrackedWriter}
 
--- Returns the wrapped writer.
+-- Returns the writer that a `TrackedWriter` wraps.
 abbrev pub wrapped_writer : {W : Type 0} → TrackedWriter W → W
 wrapped_writer output = output.device
 
--- Returns true if a flush has succeeded since the last write of at least one byte.
+-- Returns whether a flush has succeeded since the last write of at least one byte.
 abbrev pub has_flushed : {W : Type 0} → TrackedWriter W → Bool
 has_flushed output = output.has_flushed
 
--- Returns true if a call that writes or flushes has failed.
+-- Returns whether a call that writes or flushes has failed.
 abbrev pub output_failed : {W : Type 0} → TrackedWriter W → Bool
 output_failed output = output.has_failed
 
--- Holds if everything written is flushed, or the writer is unchanged.
+-- States that everything written is flushed, or that the writer is unchanged.
 abbrev pub IsFlushedOrUnchanged : {O : Type 0} → (is_flushed : Bool) (before after : O) → Type 0
 IsFlushedOrUnchanged is_flushed before after = (is_flushed ≡ true) ⊎ (after ≡ before)

@@ -29,25 +29,26 @@ fault_line fault.Memory = codes "fault: Memory\n"
 
 -- ---- the errors of a file
 
--- Returns the line `L:C: FaultCode: message` of a diagnostic at this position.
+-- Returns the line `L:C: FaultCode: message` that reports a diagnostic at this position.
 abbrev pub complaint_line_at : Position → Complaint → List ℕ
 complaint_line_at p c =
     decimal p.line
     ++ (codes ":"
     ++ (decimal p.character ++ (codes ": " ++ (c.code ++ (codes ": " ++ (c.said ++ codes "\n"))))))
 
--- Returns one line for each diagnostic. The n-th diagnostic starts at the n-th position.
+-- Returns the lines that report these diagnostics, in order. The n-th diagnostic starts at the n-th
+-- position.
 abbrev pub complaint_lines_at : List Position → List Complaint → List ℕ
 complaint_lines_at [] cs = []
 complaint_lines_at (p ∷ ps) [] = []
 complaint_lines_at (p ∷ ps) (c ∷ cs) = complaint_line_at p c ++ complaint_lines_at ps cs
 
--- Returns the line of a diagnostic, with the position of its start. Lines and UTF-16 units are
--- counted from 0.
+-- Returns the line that reports a diagnostic of the text, with the position of the diagnostic's
+-- start. Lines and UTF-16 units are counted from 0.
 abbrev pub complaint_line : List ℕ → Complaint → List ℕ
 complaint_line text c = complaint_line_at (position_of (width_of Utf16) (chars text) c.span.start) c
 
--- Returns a line for each diagnostic of the text.
+-- Returns the lines that report these diagnostics of the text, in order.
 abbrev pub complaint_lines : List ℕ → List Complaint → List ℕ
 complaint_lines text [] = []
 complaint_lines text (c ∷ cs) = complaint_line text c ++ complaint_lines text cs
@@ -60,9 +61,10 @@ too_long_complaint = complaint_of_fault (record { code = TooLong; span = record 
 abbrev pub too_long_line : List ℕ
 too_long_line = complaint_line_at (record { line = 0; character = 0 }) too_long_complaint
 
--- Holds if the output grows by the lines of a file's errors. If the file has more bytes than a text
--- may have, that is one line. Otherwise the text isn't a well-typed module, and each diagnostic has
--- a line. If the output's bytes aren't known, this holds for any output, if the file has errors.
+-- States that the file has errors, and that their lines are appended to the output. If the file has
+-- more bytes than a text may have, there is only one line. Otherwise the text isn't a well-typed
+-- module, and each diagnostic has a line. If the output's bytes aren't known, only the errors are
+-- stated.
 abbrev pub PrintsFaults : List ℕ → Option (List ℕ) → Option (List ℕ) → Type 0
 PrintsFaults file before after =
     ((max_text < length file) × Appends before after too_long_line)
@@ -78,13 +80,13 @@ abbrev pub output_item_text : PrintedItem → List ℕ
 output_item_text (number_out n) = codes " " ++ signed_decimal n
 output_item_text line_out = codes "\n"
 
--- Returns the text of a run's output.
+-- Returns the text of a run's output: the texts of the items, one after another.
 abbrev pub output_text : List PrintedItem → List ℕ
 output_text [] = []
 output_text (w ∷ ws) = output_item_text w ++ output_text ws
 
--- Holds if the known bytes of the output grow by the text without its last part `left`, which is
--- written later.
+-- States that the output grows by the text except its last part `left`, which is written later. If
+-- the output's bytes aren't known, nothing is stated about them.
 pub record IsWrittenExcept (before after : Option (List ℕ)) (text left : List ℕ) : Type 0 where
   pub written : List ℕ
   pub grew : Appends before after written

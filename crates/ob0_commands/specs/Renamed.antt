@@ -18,8 +18,8 @@ use Rattle.ob0_commands.specs.Printed.{PrintsFaults}
 use Rattle.ob0_commands.specs.StderrLines.{refusal_line}
 use Rattle.ob0_commands.specs.Statuses.{IsTextFile}
 
--- Holds if the edits can be applied to the text, and the known bytes of the output grow by the
--- edited text, in UTF-8.
+-- States that the edits can be applied to the text, and that the edited text is printed in UTF-8.
+-- If the output's bytes aren't known, nothing is stated about them.
 pub record PrintsPatched (unit : Unit) (content : List ℕ) (edits : List Edit)
     (before after : Option (List ℕ)) : Type 0 where
   pub text : List ℕ
@@ -27,8 +27,8 @@ pub record PrintsPatched (unit : Unit) (content : List ℕ) (edits : List Edit)
   pub made : patched (width_of unit) content edits ≡ Some (chars text)
   pub printed : Appends before after text
 
--- Holds if the result has edits that can be applied to the text, and the known bytes of the output
--- grow by the edited text. Doesn't hold for a refusal.
+-- States that the result is a list of edits that can be applied to the text, and that the edited
+-- text is printed. A refusal never satisfies this.
 abbrev pub PrintsEditedText : Unit
     → List ℕ
     → Result (Vec Edit Global) EditRefusal
@@ -39,15 +39,16 @@ PrintsEditedText unit content (Ok edits) before after =
     PrintsPatched unit content edits.items before after
 PrintsEditedText unit content (Err refusal) before after = ⊥
 
--- Holds if the result is a refusal whose line is printed on standard error. Doesn't hold for edits.
+-- States that the result is a refusal whose line is printed on standard error. A list of edits
+-- never satisfies this.
 abbrev pub PrintsRefusal : Result (Vec Edit Global) EditRefusal
     → (Option (List ℕ) → Type 0)
     → Type 0
 PrintsRefusal (Ok edits) StderrLines = ⊥
 PrintsRefusal (Err refusal) StderrLines = StderrLines (Some (refusal_line refusal))
 
--- Holds if the file has a text, the edits `edits` rename the declaration at the position to the new
--- name, and the edited text is printed. Positions count UTF-16 units.
+-- States that the file has a text, and that the edits `edits` rename the declaration at the
+-- position to the name `new`. The edited text is printed. Positions count UTF-16 units.
 pub record PrintsRenamed (file : List ℕ) (position : Position) (new : List ℕ)
     (before after : Option (List ℕ)) : Type 0 where
   pub has_text : IsTextFile file
@@ -55,8 +56,8 @@ pub record PrintsRenamed (file : List ℕ) (position : Position) (new : List ℕ
   pub rename : RenamesIn Utf16 (chars file) position new edits
   pub prints : PrintsPatched Utf16 (chars file) edits before after
 
--- Holds if the file has a text, the name is refused, the refusal is printed on standard error, and
--- the output is unchanged.
+-- States that the file has a text, but that the name is refused. The refusal is printed on standard
+-- error, and the output is unchanged.
 pub record RefusesName (file : List ℕ) (position : Position) (new : List ℕ)
     (before after : Option (List ℕ)) (StderrLines : Option (List ℕ) → Type 0) : Type 0 where
   pub has_text : IsTextFile file
@@ -65,8 +66,8 @@ pub record RefusesName (file : List ℕ) (position : Position) (new : List ℕ)
   pub nothing : after ≡ before
   pub said : StderrLines (Some (refusal_line refusal))
 
--- Holds if the file's errors are printed on the output and nothing is printed on standard error, or
--- if the name is refused (`RefusesName`).
+-- States that the file's errors are printed on the output and nothing is printed on standard error,
+-- or that the name is refused (`RefusesName`).
 abbrev pub PrintsErrorsOrRefusal : List ℕ
     → Position
     → List ℕ
@@ -78,9 +79,10 @@ PrintsErrorsOrRefusal file position new before after StderrLines =
     (PrintsFaults file before after × StderrLines None)
     ⊎ RefusesName file position new before after StderrLines
 
--- Holds if `rename` ends with this status. 0: the text with the new name is printed and flushed,
--- and nothing is printed on standard error. 1: the file's errors are printed or the name is
--- refused, and any output is flushed.
+-- States that `rename` ends with this status and that no fault stops it. With status 0, the text
+-- with the new name is printed and flushed, and nothing is printed on standard error. With status
+-- 1, the file's errors are printed or the name is refused, and any output is flushed. With either
+-- status, `Both` holds.
 abbrev pub RenameEndsWithoutFault : {O : Type 0}
     → (contents : O → Option (List ℕ))
     → (is_flushed : O → Bool)

@@ -1,6 +1,6 @@
 -- Defines the lines that the commands print on standard error, in bytes of UTF-8. `EndsByFault`,
--- `PrintsStoppedRun` and `RefusesName` have a parameter `StderrLines`, which says of a line that it
--- is printed (`PrintsLine`). So the printed line belongs to the same fault, run or refusal as the
+-- `PrintsStoppedRun` and `RefusesName` have a parameter `StderrLines`: the fact that a line is
+-- printed (`PrintsLine`). So the printed line belongs to the same fault, run or refusal as the
 -- status and the output.
 -- Rule: docs/PROTOCOL.md, The program 2, 3, 5, 6 and 7.
 use Rattle.std.specs.Prelude.{◌≡◌, ◌++◌, ℕ, List, Option, Some, None, Bool, true, false, codes}
@@ -8,8 +8,8 @@ use Rattle.std.specs.Io.KnownBytes.{Appends}
 use Rattle.ob0_text.specs.RefusalTexts.{refusal_text}
 use Rattle.ob0_text.specs.declared.refusals.EditRefusal.{EditRefusal}
 
--- Holds if this line is printed and flushed on standard error, or the writer has failed. For None,
--- holds if the writer is unchanged.
+-- States that this line is printed and flushed on standard error, or that the writer has failed.
+-- For None, states that the writer is unchanged.
 abbrev pub PrintsLine : {E : Type 0}
     → (contents : E → Option (List ℕ))
     → (is_flushed has_failed : E → Bool)
@@ -21,6 +21,6 @@ PrintsLine contents is_flushed has_failed before after (Some line) =
     has_failed after ≡ false
     → Appends (contents before) (contents after) line × (is_flushed after ≡ true)
 
--- Returns the line that reports a refusal: `refused: TEXT`.
+-- Returns the line that reports a refusal: `refused: TEXT` and a line feed.
 abbrev pub refusal_line : EditRefusal → List ℕ
 refusal_line refusal = codes "refused: " ++ (refusal_text refusal ++ codes "\n")

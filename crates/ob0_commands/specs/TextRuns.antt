@@ -16,24 +16,23 @@ use Rattle.ob0_commands.specs.Endings.{EndsWithoutFault}
 use Rattle.ob0_commands.specs.Numbers.{IsInputOf}
 use Rattle.ob0_commands.specs.Printed.{PrintsFaults, run_end_line, output_text}
 
--- Holds if the text is a well-typed module and `r` is its run on this input. `c` bounds the open
--- calls, and `t` the iterations of each loop.
+-- States that the text is a well-typed module and that `r` is its run on this input. At most `c`
+-- calls are open at a time, and each execution of a loop has at most `t` iterations.
 pub record TextRunsAs (text : List ℕ) (input : List ℤ) (c t : ℕ) (r : Run) : Type 0 where
   pub tree : Tree Name module_text
   pub text_of : IsTextOf tree text
   pub well_typed : WellTyped tree
   pub is : r ≡ run tree input c t
 
--- Holds if the text is a well-typed module, and this program runs like the module.
+-- States that the text is a well-typed module, and that this program runs like the module.
 pub record IsLoweredTo (text : List ℕ) (program : Program) : Type 0 where
   pub tree : Tree Name module_text
   pub text_of : IsTextOf tree text
   pub well_typed : WellTyped tree
   pub runs : lowered.RunsAs tree program
 
--- Holds if `r` is a run of the file's module, and the known bytes of the output grow by the output
--- of `r`. If the reader's bytes are known, the run's input consists of the numbers that these bytes
--- spell.
+-- States that `r` is a run of the file's module, and that the output of `r` is printed. If the
+-- reader's bytes are known, they spell the numbers of the run's input.
 pub record PrintsRun (file : List ℕ) (given : Option (List ℕ)) (c t : ℕ)
     (before after : Option (List ℕ)) (r : Run) : Type 0 where
   pub input : List ℤ
@@ -41,7 +40,8 @@ pub record PrintsRun (file : List ℕ) (given : Option (List ℕ)) (c t : ℕ)
   pub runs : TextRunsAs file input c t r
   pub printed : Appends before after (output_text r.output)
 
--- Holds if the output of a run is printed, and that run reaches the end of the module's body.
+-- States that the output of a run is printed, and that the run reaches the end of the module's
+-- body.
 abbrev pub PrintsCompleteRun : List ℕ
     → Option (List ℕ)
     → ℕ
@@ -52,8 +52,8 @@ abbrev pub PrintsCompleteRun : List ℕ
 PrintsCompleteRun file given c t before after =
     (r : Run) × PrintsRun file given c t before after r × (r.ending ≡ meaning_of_end end.Done)
 
--- Holds if a run has an end other than Done, its output is printed, and the line that reports its
--- end is printed on standard error.
+-- States that a run has an end other than `Done` and that its output is printed. The line that
+-- reports this end is printed on standard error.
 pub record PrintsStoppedRun (file : List ℕ) (given : Option (List ℕ)) (c t : ℕ)
     (before after : Option (List ℕ)) (StderrLines : Option (List ℕ) → Type 0) : Type 0 where
   pub r : Run
@@ -63,8 +63,9 @@ pub record PrintsStoppedRun (file : List ℕ) (given : Option (List ℕ)) (c t :
   pub ends : r.ending ≡ meaning_of_end last
   pub said : StderrLines (run_end_line last)
 
--- Holds in two cases. Either the file's errors are printed, and nothing is printed on standard
--- error. Or a run with an end other than Done is printed (`PrintsStoppedRun`).
+-- States that one of two cases applies. Either the file's errors are printed, and nothing is
+-- printed on standard error. Or a run with an end other than `Done` is printed
+-- (`PrintsStoppedRun`).
 abbrev pub PrintsErrorsOrStoppedRun : List ℕ
     → Option (List ℕ)
     → ℕ
@@ -77,9 +78,10 @@ PrintsErrorsOrStoppedRun file given c t before after StderrLines =
     (PrintsFaults file before after × StderrLines None)
     ⊎ PrintsStoppedRun file given c t before after StderrLines
 
--- Holds if `run` ends with this status. 0: the output of a run to the end of the module's body is
--- printed, and nothing is printed on standard error. 1: the output of a run with another end, or
--- the file's errors, are printed. All output is flushed.
+-- States that `run` ends with this status and that no fault stops it. With status 0, the output of
+-- a run to the end of the module's body is printed, and nothing is printed on standard error. With
+-- status 1, the output of a run with another end is printed, or the file's errors. All output is
+-- flushed. With either status, `Both` holds.
 abbrev pub RunEndsWithoutFault : {O : Type 0}
     → (contents : O → Option (List ℕ))
     → (is_flushed : O → Bool)

@@ -1,7 +1,7 @@
 //! Prints the errors of a file.
 //!
-//! A file of more bytes than a text may have is reported as too long, and its UTF-8 isn't examined. The positions of
-//! all diagnostics are found in one pass.
+//! A file that has more bytes than a text may have is reported as too long. Whether such a file is
+//! UTF-8 isn't checked. The positions of all diagnostics are found in one pass over the text.
 
 ghost use Rattle.std.specs.Prelude.{◌≡◌, ◌≢◌, ◌<◌, ◌≤◌, [], true, IfOk, IfNone, IfSome, MatchOption, OnOk, IfErr, length, map, string_bytes};
 ghost use Rattle.std.specs.Io.KnownBytes.{Appends};
@@ -22,11 +22,12 @@ use ob0_text::{Lines, Position, TextStore};
 use std::alloc::{AllocError, Global};
 use std::mem::ManuallyDrop;
 
-/// Prints one line `L:C: FaultCode: message` to `out` for each diagnostic of a file, and returns the program's exit status.
-/// `L:C` is the diagnostic's start, in lines and UTF-16 units counted from 0. `file` has all bytes of the file, or the
-/// first 1,048,577. The status is 0 for a module without diagnostics and 1 for diagnostics. If the bytes aren't UTF-8
-/// or a write fails, the status is 4; if an allocation fails, it is 5. With 4 or 5 the line `fault: NAME` is printed to
-/// `err`.
+/// Prints one line `L:C: FaultCode: message` to `out` for each diagnostic of a file, and returns
+/// the program's exit status. `L:C` is the diagnostic's start, in lines and UTF-16 units counted
+/// from 0. `file` holds all bytes of the file, or the first 1,048,577 if the file has more. The
+/// status is 0 if there are no diagnostics and 1 if there are some. If the bytes aren't UTF-8 or a
+/// write fails, the status is 4. If an allocation fails, it is 5. With 4 or 5 the line `fault:
+/// NAME` is printed to `err`.
 pub fn check_text<O: Output, E: Output>(alloc: Global, file: &[u8], out: &mut O, err: &mut E) -> u8
     ensures { ChecksFile O.contents O.is_flushed O.has_failed out.old out.new
         (PrintsLine E.contents E.is_flushed E.has_failed err.old err.new) file.now result }
@@ -39,8 +40,8 @@ pub fn check_text<O: Output, E: Output>(alloc: Global, file: &[u8], out: &mut O,
 }
 
 /// Returns the text of a file that has no diagnostics. Otherwise prints the diagnostics, flushes
-/// and returns None. The only diagnostic of a file that has more bytes than a text may have is that
-/// it is too long.
+/// and returns None. A file that has more bytes than a text may have gets only one diagnostic: it
+/// is too long.
 pub fn check_file<'f, O: Output>(
     alloc: Global,
     file: &'f [u8],
@@ -69,7 +70,7 @@ pub fn check_file<'f, O: Output>(
     Ok(None)
 }
 
-/// Returns the diagnostics of a text.
+/// Analyses a text and returns its diagnostics.
 fn diagnose(alloc: Global, text: &str) -> Result<Vec<Diagnosis>, AllocError>
     ensures { IfOk result (λ list. Reports text.now (map complaint_of_diagnosis list.items)) }
 {
@@ -77,8 +78,8 @@ fn diagnose(alloc: Global, text: &str) -> Result<Vec<Diagnosis>, AllocError>
     analysis.diagnoses(alloc)
 }
 
-/// Returns the analysis of a text. The analysis is never dropped: the process ends soon and frees all memory at once,
-/// which is faster than freeing the analysis part by part.
+/// Returns the analysis of a text. The analysis is never dropped. The process ends soon and frees
+/// all memory at once, which is faster than freeing the analysis part by part.
 pub fn analyse(alloc: Global, text: &str) -> Result<ManuallyDrop<Analysis>, AllocError>
     ensures { IfOk result (λ analysis. manually_drop_value analysis ≡ text.now) }
 {
@@ -86,8 +87,8 @@ pub fn analyse(alloc: Global, text: &str) -> Result<ManuallyDrop<Analysis>, Allo
     Ok(ManuallyDrop::new(analysis))
 }
 
-/// Returns the text of a file. If the file is too long, prints that error and returns None. If the bytes aren't UTF-8,
-/// the fault is `Utf8`.
+/// Returns the text of a file. If the file is too long, prints the diagnostic for that, flushes and
+/// returns None. If the bytes aren't UTF-8, the fault is `Utf8`.
 pub fn decode_text<'f, O: Output>(file: &'f [u8], out: &mut O) -> Result<Option<&'f str>, FileFault>
     ensures found { IfOk result (λ found. MatchOption found ((max_text < length file.entry.now)
         × Appends (O.contents out.old) (O.contents out.new) too_long_line)
@@ -131,7 +132,7 @@ pub fn print_diagnoses<O: Output>(
     print(out, diagnosis_lines(alloc, text, reported)?.as_str())
 }
 
-/// Returns a line for each diagnostic.
+/// Returns the lines that report the diagnostics of a text, in order.
 fn diagnosis_lines(alloc: Global, text: &str, reported: &[Diagnosis]) -> Result<String, AllocError>
     ensures { IfOk result
         (λ lines. string_bytes lines ≡ complaint_lines text.now (map complaint_of_diagnosis reported.now)) }
@@ -142,7 +143,7 @@ fn diagnosis_lines(alloc: Global, text: &str, reported: &[Diagnosis]) -> Result<
     complaint_lines_at(alloc, reported, positions.as_slice())
 }
 
-/// Returns the byte offset of each diagnostic's start, in order.
+/// Returns the start of each diagnostic in order, as a byte offset in the text.
 fn diagnosis_starts(alloc: Global, reported: &[Diagnosis]) -> Result<Vec<usize>, AllocError>
     ensures { IfOk result (λ starts. starts.items ≡ map (λ d. d.span.start) reported.now) }
 {
@@ -152,7 +153,8 @@ fn diagnosis_starts(alloc: Global, reported: &[Diagnosis]) -> Result<Vec<usize>,
         .collect(alloc)
 }
 
-/// Returns one line for each diagnostic. The n-th diagnostic starts at the n-th position.
+/// Returns the lines that report these diagnostics, in order. The n-th diagnostic starts at the
+/// n-th position.
 fn complaint_lines_at(
     alloc: Global,
     reported: &[Diagnosis],

@@ -1,4 +1,4 @@
-//! Performs the command of a command line on the bytes of a file.
+//! Performs the command that a command line requests, on the bytes of a file.
 
 ghost use Rattle.std.specs.Prelude.{◌≢◌};
 ghost use Rattle.ob0_cli.specs.declared.line.CommandLine.TheVariants.{Serve};
@@ -13,9 +13,9 @@ use crate::tracked_output::Output;
 use ob0_cli::CommandLine;
 use std::alloc::Global;
 
-/// Performs the command of a command line on a file with these bytes, and returns the program's exit status. Output
-/// goes to `out`, faults and refusals go to `err`. Only `run` reads from `input`. `serve` isn't allowed here, because
-/// it isn't a command on a file.
+/// Performs the command that a command line requests, on a file with these bytes. Returns the
+/// program's exit status. Output goes to `out`, faults and refusals go to `err`. Only `run` reads
+/// from `input`. `serve` isn't allowed here, because it isn't a command on a file.
 pub fn perform<R: Input, O: Output, E: Output>(
     alloc: Global,
     line: CommandLine<'_>,

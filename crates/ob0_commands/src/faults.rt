@@ -1,4 +1,5 @@
-//! Defines the faults of commands on files, with their exit statuses and lines.
+//! Defines the faults of commands on files. Each fault has an exit status and a line on standard
+//! error.
 
 ghost use Rattle.std.specs.Prelude.{◌≡◌, ◌≤◌, Some};
 ghost use Rattle.ob0_commands.specs.Printed.{fault_line};
@@ -9,7 +10,7 @@ use crate::tracked_output::{Output, print};
 use std::alloc::{AllocError, AllocFailed};
 use thiserror::Error;
 
-/// The reason why a command on a file failed. The name of each fault is printed.
+/// The reason why a command on a file failed. The name of the fault is printed.
 #[derive(Clone, Copy, Debug, Drop, PartialEq, Eq, Error)]
 pub enum FileFault {
     #[error("the file can't be read")]
@@ -36,7 +37,7 @@ impl FileFault {
         }
     }
 
-    /// Returns the line, with its line ending, that reports the fault.
+    /// Returns the line that reports the fault, including its line feed.
     fn line(self) -> &'static str
         ensures { result.now ≡ fault_line self }
     {

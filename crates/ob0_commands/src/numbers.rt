@@ -1,13 +1,13 @@
-//! Reads the numbers of an input.
+//! Reads the numbers of a run's input.
 //!
 //! The whole input is read before the run. The bytes are split into words before they are decoded,
 //! so only each word has to be UTF-8. A word that begins with `+` isn't a number, although Rust's
 //! `parse` accepts it.
 //!
-//! The loop's invariant (`Gathered`) has two directions. If the remaining text spells a list of
-//! numbers, the whole text spells the numbers found so far, followed by that list. If the whole
-//! text spells a list of numbers, the remaining text also spells one. The first word of the
-//! remaining text ends at the first white space (`first_word` of `proofs/Words`).
+//! The invariant of the loop in `parse_numbers` (`Gathered`) has two directions. If the remaining
+//! text spells a list of numbers, the whole text spells the numbers found so far, followed by that
+//! list. If the whole text spells a list of numbers, the remaining text also spells one. The first
+//! word of the remaining text ends at the first white space (`first_word` of `proofs/Words`).
 
 ghost use Rattle.std.specs.Prelude.{◌≡◌, ◌≤◌, ℤ, IfOk, OnOk, IfErr, IfSome, MatchOption, length, suc};
 ghost use Rattle.std.specs.List.{position_or_len};
@@ -22,8 +22,9 @@ use crate::reading::{Input, read_input};
 use ob0_scan::is_space;
 use std::alloc::{AllocError, Global};
 
-/// Reads the numbers of the input. They are words between white space, each a whole number of 32 bits in decimal
-/// digits, optionally after a `-`. If a read fails, or the input is too long or has another word, the fault is `Input`.
+/// Reads the numbers of the input. The input consists of words, separated by white space. Each word
+/// is a signed whole number of 32 bits in decimal digits, optionally after a `-`. The fault is
+/// `Input` if a read fails, the input is too long, or a word isn't such a number.
 pub fn read_numbers<R: Input>(alloc: Global, input: &mut R) -> Result<Vec<i32>, FileFault>
     ensures numbers { IfOk result
         (λ numbers. IfSome (R.remaining input.old) (IsInputOf numbers.items)) }
@@ -62,7 +63,8 @@ fn parse_numbers(alloc: Global, text: &[u8]) -> Result<Option<Vec<i32>>, AllocEr
     Ok(Some(numbers))
 }
 
-/// Returns the number of bytes before the first white space, or of all bytes if there is none.
+/// Returns the number of bytes before the first white space. If there is no white space, returns
+/// the number of all bytes.
 fn word_len(bytes: &[u8]) -> usize
     ensures is { result ≡ position_or_len is_space bytes.now }
     ensures inside { result ≤ length bytes.now }

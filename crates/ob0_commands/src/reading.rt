@@ -1,9 +1,9 @@
-//! Reads the bytes of a file and of an input.
+//! Reads all bytes of a file, and all bytes of the input of a run.
 //!
-//! The commands read from an `Input`: a reader that remembers whether it has failed. So the
-//! contracts can state that the faults `File` and `Input` come from a failed read (`IsFaultOrMemory`).
+//! The commands read from an `Input`: a reader that remembers whether a read has failed. So the
+//! contracts can state the reason for the faults `File` and `Input` (`IsFaultOrMemory`).
 //! `TrackedReader` makes an `Input` of any reader. If the remaining bytes of a reader aren't known
-//! (`Read::remaining`), the contracts don't say which numbers are read.
+//! (`Read::remaining`), the contracts don't say which bytes are read.
 
 ghost use Rattle.std.specs.Prelude.{◌≡◌, ◌≤◌, ◌<◌, ◌||◌, ◌⊎◌, Bool, true, false, is_err, IfOk, OnOk, IfErr, IfSome, length, suc};
 ghost use Rattle.std.specs.Io.{ReadsAtMost};
@@ -26,12 +26,12 @@ pub const MAX_FILE: usize = MAX_TEXT + 1;
 /// The most bytes that the input of a run may have.
 const MAX_INPUT: usize = 16_777_216;
 
-/// A reader that remembers whether it has failed.
+/// A reader that remembers whether one of its reads has failed.
 pub trait Input: Read {
-    // Returns true if a call of `read_noting_failure` has failed.
+    // Returns whether a call of `read_noting_failure` has failed.
     ghost has_failed: { Self → Bool };
 
-    /// Reads bytes into the buffer and returns how many. A failure is remembered.
+    /// Reads bytes into the buffer, and returns the number of bytes read. A failure is remembered.
     fn read_noting_failure(&mut self, buf: &mut [u8]) -> io::Result<usize>
         ensures bound { ReadsAtMost result buf.new }
         ensures bytes { ReadConsumes
@@ -39,7 +39,7 @@ pub trait Input: Read {
         ensures failed { has_failed self.new ≡ (has_failed self.old || is_err result) };
 }
 
-/// A reader that remembers failures, and so is an `Input`.
+/// A wrapper that makes any reader an `Input`: it remembers whether a read has failed.
 #[derive(Drop)]
 pub struct TrackedReader<R> {
     device: R,
@@ -47,7 +47,7 @@ pub struct TrackedReader<R> {
 }
 
 impl<R> TrackedReader<R> {
-    /// Wraps a reader, which counts as not failed.
+    /// Wraps a reader. No read of the wrapper has failed yet.
     pub fn new(device: R) -> TrackedReader<R>
         ensures device { wrapped_reader result ≡ device }
         ensures works { input_failed result ≡ false }
@@ -86,7 +86,8 @@ impl<R: Read> Input for TrackedReader<R> {
     }
 }
 
-/// Returns all bytes of a file, or the first 1,048,577 of them. If a read fails, the fault is `File`.
+/// Returns all bytes of a file, or the first 1,048,577 if the file has more. If a read fails, the
+/// fault is `File`.
 pub fn read_file<R: Input>(alloc: Global, file: &mut R) -> Result<Vec<u8>, FileFault>
     ensures bound { IfOk result (λ bytes. length bytes.items ≤ suc max_text) }
     ensures taken { IfOk result
@@ -101,8 +102,8 @@ pub fn read_file<R: Input>(alloc: Global, file: &mut R) -> Result<Vec<u8>, FileF
     read_up_to(alloc, file, MAX_FILE, FileFault::File)
 }
 
-/// Returns all bytes of the input. If a read fails, the fault is `Input`. If the input has more than 16,777,216 bytes,
-/// one byte over that limit is read, and the fault is `Input`.
+/// Returns all bytes of the input. If a read fails, the fault is `Input`. If the input has more
+/// than 16,777,216 bytes, the fault is also `Input`. In that case one byte over the limit is read.
 pub fn read_input<R: Input>(alloc: Global, input: &mut R) -> Result<Vec<u8>, FileFault>
     ensures bound { IfOk result (λ bytes. length bytes.items ≤ max_input) }
     ensures taken { IfOk result
@@ -121,7 +122,8 @@ pub fn read_input<R: Input>(alloc: Global, input: &mut R) -> Result<Vec<u8>, Fil
     Ok(bytes)
 }
 
-/// Returns all bytes that are left to read, or the first `most` of them. If a read fails, returns `fault`.
+/// Returns all remaining bytes of the reader, or the first `most` if there are more. If a read
+/// fails, returns `fault`.
 fn read_up_to<R: Input>(
     alloc: Global,
     reader: &mut R,

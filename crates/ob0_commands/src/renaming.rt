@@ -1,11 +1,11 @@
 //! Renames a declaration in a file's text, and prints the result.
 //!
-//! `rename_text` analyses the text once. The renaming uses that analysis (`rename_edits` of
-//! `ob0_edits`). If the text isn't a well-typed module, the diagnostics of the same analysis are
-//! printed, with `decode_text` and `print_diagnoses` as in `check_file`. `rename_utf8_text` does the work
-//! after the test for UTF-8. It is a separate function because its proof needs a `&str`. The
-//! contract of `rename_edits` is about the characters of a text, and the contract of `diagnoses` is
-//! about its bytes.
+//! `rename_text` analyses the text once. `rename_edits` of `ob0_edits` computes the edits from that
+//! analysis. If the text isn't a well-typed module, the diagnostics of the same analysis are
+//! printed, as in `check_file`. `rename_utf8_text` does the work once the bytes are known to be
+//! UTF-8. It is a separate function because its proof needs a `&str`. The contract of
+//! `rename_edits` is about the characters of a text, but the contract of `diagnoses` is about the
+//! bytes.
 
 ghost use Rattle.std.specs.Prelude.{◌≡◌, true, IfOk, IfErr, OnErr};
 ghost use Rattle.ob0_commands.specs.Endings.{EndsWithoutFault};
@@ -21,10 +21,11 @@ use ob0_edits::rename_edits;
 use ob0_text::{Edit, EditRefusal, Lines, Position, TextStore, patch};
 use std::alloc::Global;
 
-/// Prints a file's text to `out`, with the declaration at a position renamed to `new`, and returns the program's exit
-/// status. The position counts lines and UTF-16 units from 0. If the name is refused, `refused: TEXT` is printed to
-/// `err`. If the file isn't a well-typed module, its diagnostics are printed as by `check_text`. The status is 0 for a
-/// text and 1 for a refusal or diagnostics; 4 and 5 are as for `check_text`.
+/// Prints a file's text to `out`, with the declaration at a position renamed to `new`, and returns
+/// the program's exit status. The position counts lines and UTF-16 units from 0. If the name is
+/// refused, `refused: TEXT` is printed to `err`. If the file isn't a well-typed module, its
+/// diagnostics are printed as by `check_text`. The status is 0 if the text is printed, and 1 for a
+/// refusal or diagnostics. For 4 and 5, see `check_text`.
 pub fn rename_text<O: Output, E: Output>(
     alloc: Global,
     file: &[u8],
@@ -43,7 +44,7 @@ pub fn rename_text<O: Output, E: Output>(
     }
 }
 
-/// Renames in a file like `rename_text`, but returns a fault instead of printing its line.
+/// Does the work of `rename_text`, but returns a fault instead of printing its line.
 fn rename_file<O: Output, E: Output>(
     alloc: Global,
     file: &[u8],
@@ -68,9 +69,9 @@ fn rename_file<O: Output, E: Output>(
     rename_utf8_text(alloc, text, position, new, out, err)
 }
 
-/// Prints a text with the declaration at a position renamed, or the refusal. If the text isn't a
-/// well-typed module, prints its diagnostics. Returns the program's exit status, 0 or 1, or the
-/// fault.
+/// Prints a text with the declaration at a position renamed, or the refusal of the name. If the
+/// text isn't a well-typed module, prints its diagnostics instead. Returns the program's exit
+/// status: 0 for the renamed text, otherwise 1.
 fn rename_utf8_text<O: Output, E: Output>(
     alloc: Global,
     text: &str,
@@ -100,8 +101,9 @@ fn rename_utf8_text<O: Output, E: Output>(
     }
 }
 
-/// Prints the edited text to `out`, or the refusal to `err` as `refused: TEXT`. Returns the program's exit status: 0
-/// for edits, 1 for a refusal. If an allocation failed, the fault is `Memory`.
+/// Applies the edits and prints the edited text to `out`, or prints the refusal to `err` as
+/// `refused: TEXT`. Returns the program's exit status: 0 for edits, 1 for a refusal. If an
+/// allocation fails, the fault is `Memory`.
 pub fn print_rename_outcome<T: TextStore, O: Output, E: Output>(
     alloc: Global,
     store: &T,

@@ -1,15 +1,15 @@
 //! Runs a file's module on an input, and prints the output.
 //!
-//! `run_text` analyses and lowers the text once. `LoweringQuestion` asks the analysis for the
-//! program; if the text isn't a well-typed module, the diagnostics are printed. Then the input is
-//! read, and the program is executed. The module is dropped before the execution. `IsLoweredTo`
-//! states that the program runs like the text's module, and the contract of `execute` gives the run
-//! of the program (`RunsAs`).
+//! `run_text` analyses the text once and lowers it to a program (`LoweringQuestion`). If the text
+//! isn't a well-typed module, the diagnostics are printed. Otherwise the analysis is dropped, the
+//! input is read, and the program is executed. `IsLoweredTo` states that the program runs like the
+//! text's module. The contract of `execute` describes the run of the program (`RunsAs`).
 //!
-//! The output is written in pieces of at most `PIECE_SIZE` bytes (`print_items`), so its whole text is never stored.
-//! `IsWrittenExcept` separates the written text from the waiting piece. A piece is an `ArrayString`: it is on the stack
-//! and doesn't grow. It is written if the next item might not fit. So nothing is allocated after the first byte is
-//! printed. (A `String` could allocate between pieces, because its contract allows that.)
+//! The output is written in pieces of at most `PIECE_SIZE` bytes (`print_items`), so the whole text
+//! of the output is never stored. `IsWrittenExcept` separates the written text from the piece that
+//! isn't written yet. A piece is an `ArrayString`: it is on the stack and doesn't grow. It is
+//! written if the next item might not fit. So nothing is allocated after the first byte is printed.
+//! (A `String` could allocate between pieces, because its contract allows that.)
 
 ghost use Rattle.std.specs.Prelude.{◌≡◌, ◌+◌, ◌≤◌, ◌++◌, true, IfOk, IfErr, IfNone, MatchOption, OnOk, OnErr, option_map, suc};
 ghost use Rattle.std.specs.Io.KnownBytes.{Appends};
@@ -38,7 +38,7 @@ use ob0_analysis::{Analysis, Question, WellTyped, ask};
 use ob0_run::{End, Item, Outcome, Program, execute, lower};
 use std::alloc::{AllocError, Global};
 
-/// The question to an analysis: which program is the module lowered to?
+/// A question to an analysis: which program is its module lowered to?
 #[derive(Drop)]
 struct LoweringQuestion {}
 
@@ -52,12 +52,13 @@ impl Question for LoweringQuestion {
     }
 }
 
-/// Runs a file's module on the numbers of `input`, and returns the program's exit status. At most `calls` calls are
-/// open at a time, and each execution of a loop has at most `turns` iterations. The output is printed to `out`. An end
-/// other than Done is printed to `err` as `fault: NAME`. If the file isn't a well-typed module, its diagnostics are
-/// printed as by `check_text`, and the input isn't read. The status is 0 for Done and 1 for another end or diagnostics;
-/// 4 and 5 are as for `check_text`. If the input can't be read, is too long or isn't a list of numbers, the status is
-/// 4.
+/// Runs a file's module on the numbers of `input`, and returns the program's exit status. At most
+/// `calls` calls are open at a time, and each execution of a loop has at most `turns` iterations.
+/// The output is printed to `out`. An end other than `Done` is printed to `err` as `fault: NAME`.
+/// If the file isn't a well-typed module, its diagnostics are printed as by `check_text`, and the
+/// input isn't read. The status is 0 for `Done`, and 1 for another end or diagnostics. If the input
+/// can't be read, is too long or isn't a list of numbers, the status is 4. For the other uses of 4
+/// and for 5, see `check_text`.
 pub fn run_text<R: Input, O: Output, E: Output>(
     alloc: Global,
     file: &[u8],
@@ -79,7 +80,7 @@ pub fn run_text<R: Input, O: Output, E: Output>(
     }
 }
 
-/// Runs a file's module like `run_text`, but returns a fault instead of printing its line.
+/// Does the work of `run_text`, but returns a fault instead of printing its line.
 fn run_file<R: Input, O: Output, E: Output>(
     alloc: Global,
     file: &[u8],
@@ -116,8 +117,9 @@ fn run_file<R: Input, O: Output, E: Output>(
     print_run_outcome(outcome.output.as_slice(), outcome.end, out, err)
 }
 
-/// Returns the program that a text is lowered to. If the text isn't a well-typed module, prints its diagnostics and
-/// returns None. The analysis is dropped here because a run may take long and needs only the program.
+/// Returns the program that a text is lowered to. If the text isn't a well-typed module, prints its
+/// diagnostics and returns None. The analysis is dropped on return, because a run may take long and
+/// needs only the program.
 fn lower_text<O: Output>(
     alloc: Global,
     text: &str,
@@ -144,8 +146,9 @@ fn lower_text<O: Output>(
     }
 }
 
-/// Runs the program that a text is lowered to, on this input. `calls` bounds the open calls, and
-/// `turns` the iterations of each loop. Only the contract uses `text`.
+/// Runs on this input the program that a text is lowered to. At most `calls` calls are open at a
+/// time, and each execution of a loop has at most `turns` iterations. Only the contract uses
+/// `text`.
 fn execute_module(
     alloc: Global,
     text: &str,
@@ -160,7 +163,8 @@ fn execute_module(
     execute(alloc, program, input, calls, turns)
 }
 
-/// Returns the line, with its line ending, that reports an end other than `Done`. Returns None for `Done`.
+/// Returns the line that reports an end other than `Done`, including its line feed. Returns None
+/// for `Done`.
 fn run_end_line_of(end: End) -> Option<&'static str>
     ensures { option_map (λ line. line.now) result ≡ run_end_line end }
 {
@@ -175,8 +179,8 @@ fn run_end_line_of(end: End) -> Option<&'static str>
     }
 }
 
-/// Prints a run's output to `out`, and the line of an end other than `Done` to `err`. Returns the program's exit
-/// status: 0 for `Done`, otherwise 1.
+/// Prints a run's output to `out`. If the run has an end other than `Done`, prints the line for
+/// that end to `err`. Returns the program's exit status: 0 for `Done`, otherwise 1.
 pub fn print_run_outcome<O: Output, E: Output>(
     output: &[Item],
     end: End,
@@ -206,11 +210,11 @@ pub fn print_run_outcome<O: Output, E: Output>(
     }
 }
 
-/// The greatest length of an item's text, in bytes: a space, a sign and ten digits.
+/// The greatest length in bytes of an output item's text: a space, a sign and ten digits.
 const MAX_ITEM_LENGTH: usize = 12;
 
-/// Prints items, and flushes. Their text is collected in pieces on the stack, so the whole text is never stored and
-/// nothing is allocated.
+/// Prints the items of a run's output, and flushes. Their text is collected in pieces on the stack,
+/// so the whole text is never stored and nothing is allocated.
 fn print_items<O: Output>(output: &[Item], out: &mut O) -> Result<(), FileFault>
     ensures printed { OnOk result
         (Appends (O.contents out.old) (O.contents out.new) (output_text (output_items output.now))) }
@@ -227,8 +231,8 @@ fn print_items<O: Output>(output: &[Item], out: &mut O) -> Result<(), FileFault>
     print(out, text.as_str())
 }
 
-/// Appends an item to the text that waits to be written. If the item might not fit, the waiting text is first written
-/// and cleared.
+/// Appends an output item to `text`, the collected text that isn't written yet. If the item might
+/// not fit, `text` is first written and cleared.
 fn append_item<O: Output>(
     text: &mut ArrayString<PIECE_SIZE>,
     digits: &mut Buffer,
@@ -249,7 +253,8 @@ fn append_item<O: Output>(
     Ok(())
 }
 
-/// Appends an item to a text: a space and the digits of a number, or a line feed. The text must have room for 12 bytes.
+/// Appends an output item to a text. A number becomes a space and its digits, and a line end
+/// becomes a line feed. The text must have room for 12 bytes.
 fn push_item(text: &mut ArrayString<PIECE_SIZE>, digits: &mut Buffer, item: Item)
     requires { array_string_len text.old + 12 ≤ 8192 }
     ensures { text.new.bytes ≡ text.old.bytes ++ output_item_text (item_of item) }

@@ -3,13 +3,14 @@
 //! The commands print to an `Output`: a writer that remembers whether it has been flushed since the
 //! last write, and whether it has failed. std's contracts of `Write` mention neither fact, but the
 //! contract of `print` needs both. `TrackedWriter` makes an `Output` of any writer, including
-//! standard error. `O.contents` is None for a writer whose bytes aren't known, as in `Write`. The
-//! clauses then say nothing about the bytes.
+//! standard error. The bytes that a writer has written are its `contents`, or None if they aren't
+//! known. If they aren't known, the clauses say nothing about them.
 //!
-//! After a command has printed, its output is flushed. If a name is refused, the output is unchanged, and whether it is
-//! flushed isn't known (`IsFlushedOrUnchanged`). `check_file` and `rename` print only once, so their contracts follow from
-//! one call of `print`. The contracts say nothing about the bytes after a failed write, because std's `write_all`
-//! doesn't.
+//! Each command flushes its output after it has printed. If a name is refused, the output is
+//! unchanged, and whether the output is flushed isn't known (`IsFlushedOrUnchanged`). `check` and
+//! `rename` print only once, so their contracts follow from one call of `print`. After a failed
+//! write, the contracts say nothing about the written bytes, because the contract of std's
+//! `write_all` says nothing about them.
 
 ghost use Rattle.std.specs.Prelude.{◌≡◌, ◌≢◌, ◌||◌, [], Bool, Some, true, false, is_err, OnOk, OnErr, IfErr};
 ghost use Rattle.std.specs.Io.{WritesAtMost};
@@ -21,16 +22,17 @@ ghost use Rattle.ob0_commands.specs.StderrLines.{PrintsLine};
 use crate::faults::FileFault;
 use std::io::{self, Write};
 
-/// The size in bytes of two buffers. A file or an input is read into one, and output is collected
-/// in the other before it is written.
+/// The size in bytes of two buffers. Files and inputs are read through one of them. The other
+/// collects output before it is written.
 pub(crate) const PIECE_SIZE: usize = 8192;
 
-/// A writer that remembers whether it has been flushed since the last write, and whether it has failed.
+/// A writer that remembers whether it has been flushed since the last write, and whether one of its
+/// calls has failed.
 pub trait Output: Write {
-    // Returns true if a flush has succeeded since the last write of at least one byte.
+    // Returns whether a flush has succeeded since the last write of at least one byte.
     ghost is_flushed: { Self → Bool };
 
-    // Returns true if a call of `write_tracked` or `flush_tracked` has failed.
+    // Returns whether a call of `write_tracked` or `flush_tracked` has failed.
     ghost has_failed: { Self → Bool };
 
     /// Writes all the bytes. If that fails, the failure is remembered.
@@ -41,7 +43,7 @@ pub trait Output: Write {
         ensures kept { bytes.now ≡ [] → is_flushed self.new ≡ is_flushed self.old }
         ensures failed { has_failed self.new ≡ (has_failed self.old || is_err result) };
 
-    /// Flushes. The success or the failure is remembered.
+    /// Flushes the writer, and remembers whether that succeeded.
     fn flush_tracked(&mut self) -> io::Result<()>
         ensures bytes { Keeps (Self.contents self.old) (Self.contents self.new) }
         ensures flushed { OnOk result (is_flushed self.new ≡ true) }
@@ -49,7 +51,7 @@ pub trait Output: Write {
         ensures failed { has_failed self.new ≡ (has_failed self.old || is_err result) };
 }
 
-/// A writer that remembers flushes and failures, and so is an `Output`.
+/// A wrapper that makes any writer an `Output`: it remembers flushes and failures.
 #[derive(Drop)]
 pub struct TrackedWriter<W> {
     device: W,
@@ -58,7 +60,7 @@ pub struct TrackedWriter<W> {
 }
 
 impl<W> TrackedWriter<W> {
-    /// Wraps a writer, which counts as not flushed and not failed.
+    /// Wraps a writer. The wrapper counts as not flushed and not failed.
     pub fn new(device: W) -> TrackedWriter<W>
         ensures device { wrapped_writer result ≡ device }
         ensures fresh { has_flushed result ≡ false }
@@ -126,7 +128,7 @@ impl<W: Write> Output for TrackedWriter<W> {
     }
 }
 
-/// Writes a whole text, without a flush. If that fails, the fault is `Write`.
+/// Writes a whole text, but doesn't flush. If the write fails, the fault is `Write`.
 pub(crate) fn write<W: Output>(out: &mut W, text: &str) -> Result<(), FileFault>
     ensures written { OnOk result (Appends (W.contents out.old) (W.contents out.new) text.now) }
     ensures unfailed { OnOk result (W.has_failed out.new ≡ W.has_failed out.old) }
@@ -139,7 +141,7 @@ pub(crate) fn write<W: Output>(out: &mut W, text: &str) -> Result<(), FileFault>
     }
 }
 
-/// Writes a whole text, and flushes. If either fails, the fault is `Write`.
+/// Writes a whole text, and flushes. If the write or the flush fails, the fault is `Write`.
 pub fn print<W: Output>(out: &mut W, text: &str) -> Result<(), FileFault>
     ensures printed { OnOk result (Appends (W.contents out.old) (W.contents out.new) text.now) }
     ensures flushed { OnOk result (W.is_flushed out.new ≡ true) }

@@ -19,8 +19,8 @@ use Rattle.ob0_edits.specs.declared.inlinings.Inlining.{Inlining}
 use Rattle.ob0_edits.specs.declared.inlinings.Inlining.TheVariants.{Here, Everywhere}
 use Rattle.ob0_edits.specs.declared.inlinings.Inlinings as found_inlinings
 
--- holds if this is the answer to inlining at a byte offset of a module, according to the
--- definitions of `ob0_inline`
+-- States that this is the answer, edits or a refusal, to inlining at a byte offset of a module. The
+-- definitions of `ob0_inline` say which answer is right.
 abbrev pub AnswersInlining : Inlining
     → Unit
     → List ℕ
@@ -31,8 +31,8 @@ abbrev pub AnswersInlining : Inlining
 AnswersInlining Here unit text m offset answer = AnswersInlineHere unit text m offset answer
 AnswersInlining Everywhere unit text m offset answer = AnswersInlineEverywhere unit text m offset answer
 
--- Holds if these are the edits of an inlining. None stands for a refusal, which is never a failed
--- allocation.
+-- States that these are the edits of an inlining at a byte offset of a module. None means that the
+-- inlining is refused for another reason than a failed allocation.
 abbrev pub IsInlineResult : Inlining → Unit → List ℕ → ParsedModule → ℕ → Option (Vec Edit Global) → Type 0
 IsInlineResult how unit text m offset (Some edits) = AnswersInlining how unit text m offset (Ok edits)
 IsInlineResult how unit text m offset None =
@@ -40,8 +40,8 @@ IsInlineResult how unit text m offset None =
     × ¬ (refusal ≡ Memory)
     × AnswersInlining how unit text m offset (Err refusal)
 
--- Holds if these edits inline the constant at a byte offset of a well-typed module. Applied all at
--- once, they give a text whose module has the same runs.
+-- States that these edits inline the constant at a byte offset of a well-typed module. Applied all
+-- at once, the edits give a text whose module has the same runs.
 pub record InlinesIn (how : Inlining) (unit : Unit) (text : List ℕ) (offset : ℕ)
     (edits : Vec Edit Global) : Type 0 where
   pub module_read : ParsedModule
@@ -51,7 +51,7 @@ pub record InlinesIn (how : Inlining) (unit : Unit) (text : List ℕ) (offset : 
   pub made : patched (width_of unit) text edits.items ≡ Some after
   pub runs : RunsAsBefore (utf8 text) (utf8 after)
 
--- holds if the text is a well-typed module and this inlining is refused
+-- States that the text is a well-typed module and that this inlining is refused.
 pub record IsNotInlinedIn (how : Inlining) (unit : Unit) (text : List ℕ) (offset : ℕ) : Type 0 where
   pub module_read : ParsedModule
   pub read : IsReadAs (utf8 text) module_read
@@ -59,20 +59,20 @@ pub record IsNotInlinedIn (how : Inlining) (unit : Unit) (text : List ℕ) (offs
 
 -- ---- the result for a text
 
--- Holds if these are the edits in the answer to an inlining. For None it holds if the answer is a
+-- States that these are the edits in the answer to an inlining. None means that the answer is a
 -- refusal other than a failed allocation.
 abbrev pub AreEditsUnlessRefused : Result (Vec Edit Global) EditRefusal → Option (Vec Edit Global) → Type 0
 AreEditsUnlessRefused answer (Some edits) = answer ≡ Ok edits
 AreEditsUnlessRefused answer None = (refusal : EditRefusal) × ¬ (refusal ≡ Memory) × (answer ≡ Err refusal)
 
--- Holds for edits that inline the constant at a byte offset of the text. For None it holds if the
+-- States that these edits inline the constant at a byte offset of the text. None means that the
 -- text is a well-typed module and this inlining is refused.
 abbrev pub OffersInlining : Inlining → Unit → List ℕ → ℕ → Option (Vec Edit Global) → Type 0
 OffersInlining how unit text offset (Some edits) = InlinesIn how unit text offset edits
 OffersInlining how unit text offset None = IsNotInlinedIn how unit text offset
 
--- Holds if these are the results of both kinds of inlining at a byte offset of a text. For None it
--- holds if the text isn't a well-typed module.
+-- States that these are the results of both kinds of inlining at a byte offset of a text. None
+-- means that the text isn't a well-typed module.
 abbrev pub FindsInlineResults : Unit → List ℕ → ℕ → Option found_inlinings.Inlinings → Type 0
 FindsInlineResults unit text offset (Some found) =
     OffersInlining Here unit text offset found.here × OffersInlining Everywhere unit text offset found.everywhere

@@ -17,12 +17,12 @@ use Rattle.ob0_analysis.specs.Diagnosed.{IsTextOf, IsWellTypedModule}
 use Rattle.ob0_analysis.specs.Texts.{utf8}
 use Rattle.ob0_analysis.specs.RunsKept.{RunsAsBefore}
 
--- returns the formatted text of a module, in bytes
+-- Returns the formatted text of a module, as a list of bytes.
 abbrev pub layout_of : {text : List ℕ} → Indent → IsWellTypedModule text → List ℕ
 layout_of indent m = layout indent m.tree m.text_of.scan.scan.lexemes
 
--- Returns the edit for each gap that changes: the range of the gap, with positions in this unit,
--- and its new text.
+-- Returns the edit for each gap (white space between lexemes) that formatting changes: the gap's
+-- range, with positions in this unit, and the gap's new text.
 abbrev pub layout_changes : {text : List ℕ}
     → Unit
     → Indent
@@ -34,9 +34,9 @@ layout_changes unit indent characters m =
     map (edit_of (width_of unit) characters) (changed_gaps source.text
     (all_gaps indent source.text (line_roles 0 m.tree) m.text_of.scan.scan.lexemes))
 
--- Holds if these edits format a text. There is one edit for each gap that changes, and it replaces
--- the whole gap. Applied all at once, the edits give the formatted text. The formatted text has the
--- same module, with the same runs.
+-- States that these edits format a text. For each gap that changes there is one edit, which
+-- replaces the whole gap. Applied all at once, the edits give the formatted text. The formatted
+-- text has the same module, with the same runs.
 pub record FormatsIn (unit : Unit) (indent : Indent) (text : List ℕ)
     (edits : List Edit) : Type 0 where
   pub before : IsWellTypedModule (utf8 text)
@@ -47,19 +47,19 @@ pub record FormatsIn (unit : Unit) (indent : Indent) (text : List ℕ)
   pub same_module : IsTextOf before.tree (utf8 after)
   pub runs : RunsAsBefore (utf8 text) (utf8 after)
 
--- holds if the formatted text of the module is longer than a text may be
+-- States that the text is a well-typed module whose formatted text is longer than a text may be.
 pub record IsTooLongFormatted (indent : Indent) (text : List ℕ) : Type 0 where
   pub before : IsWellTypedModule (utf8 text)
   pub long : max_text < length (layout_of indent before)
 
--- Holds for edits that format the module. Holds for the refusal `TooLong` if the formatted text is
--- too long, and for no other refusal.
+-- States that the answer is right: edits format the module, and the refusal `TooLong` means that
+-- the formatted text is too long. No other refusal is right.
 abbrev pub IsFormatResult : Unit → Indent → List ℕ → Result (Vec Edit Global) EditRefusal → Type 0
 IsFormatResult unit indent text (Ok edits) = FormatsIn unit indent text edits.items
 IsFormatResult unit indent text (Err refusal) = (refusal ≡ TooLong) × IsTooLongFormatted indent text
 
--- Holds if this is the result of formatting a text: edits, or the only possible refusal, `TooLong`.
--- For None it holds if the text isn't a well-typed module.
+-- States that this is the result of formatting a text: edits, or the only possible refusal,
+-- `TooLong`. None means that the text isn't a well-typed module.
 abbrev pub FindsFormatResult : Unit
     → Indent
     → List ℕ

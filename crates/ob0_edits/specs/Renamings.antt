@@ -16,14 +16,14 @@ use Rattle.ob0_analysis.specs.Texts.{utf8}
 use Rattle.ob0_rename.specs.Answers.{AreRenameEdits, IsRenameRefusal}
 use Rattle.ob0_rename.specs.Renaming.{Renaming, renaming_of}
 
--- Holds if the result is edits that rename the declaration or field at the place, or the refusal of
--- that renaming.
+-- States that the result is right for the renaming `r`: edits that rename the declaration or field,
+-- or the refusal of the renaming.
 abbrev pub IsRenameResult : Renaming → Result (Vec Edit Global) EditRefusal → Type 0
 IsRenameResult r (Ok edits) = AreRenameEdits r edits.items
 IsRenameResult r (Err refusal) = IsRenameRefusal r refusal
 
--- Holds if these edits rename the declaration or field at a place of a well-typed module. Applied
--- all at once, they give a text of the renamed module, which has the same runs.
+-- States that these edits rename the declaration or field at a position of a well-typed module to
+-- `new`. Applied all at once, the edits give a text of the renamed module, which has the same runs.
 pub record RenamesIn (unit : Unit) (text : List ℕ) (place : Position) (new : List ℕ)
     (edits : List Edit) : Type 0 where
   pub names : Resolution
@@ -33,15 +33,15 @@ pub record RenamesIn (unit : Unit) (text : List ℕ) (place : Position) (new : L
   pub made : patched (width_of unit) text edits ≡ Some after
   pub runs : RunsAsBefore (utf8 text) (utf8 after)
 
--- holds if the text is a well-typed module and the renaming is refused for this reason
+-- States that the text is a well-typed module and that the renaming is refused for this reason.
 pub record IsRefusedIn (unit : Unit) (text : List ℕ) (place : Position) (new : List ℕ)
     (refusal : EditRefusal) : Type 0 where
   pub names : Resolution
   pub read : IsModuleIn (utf8 text) names
   pub refused : IsRenameRefusal (renaming_of unit text names place new) refusal
 
--- Holds if this is the result of renaming in a text: edits, or the refusal. For None it holds if
--- the text isn't a well-typed module.
+-- States that this is the result of renaming in a text: edits, or the refusal. None means that the
+-- text isn't a well-typed module.
 abbrev pub FindsRenameResult : Unit
     → List ℕ
     → Position

@@ -18,8 +18,8 @@ use ob0_inline::{inline_all, inline_here};
 use ob0_text::{Edit, EditRefusal, Position, TextStore};
 use std::alloc::{AllocError, Global};
 
-/// The kind of an inlining: at one use, or at all uses. If all uses are inlined, the declaration is
-/// removed.
+/// The kind of an inlining: of one use of a constant, or of all its uses. If all uses are inlined,
+/// the constant's declaration is removed.
 #[derive(Clone, Copy, Debug, Drop, PartialEq, Eq)]
 pub enum Inlining {
     Here,
@@ -33,7 +33,7 @@ pub struct Inlinings {
     pub everywhere: Option<Vec<Edit>>,
 }
 
-/// Asks which edits inline the constant at a place of a store's text.
+/// The question of which edits inline the constant at the position `place` in a store's text.
 #[derive(Drop)]
 struct InliningsQuestion<'a, T: TextStore> {
     store: &'a T,
@@ -60,8 +60,8 @@ impl<'a, T: TextStore> Question for InliningsQuestion<'a, T> {
     }
 }
 
-/// Returns the edits of an answer, or None if it is a refusal. A failed allocation is returned as
-/// an error.
+/// Returns the edits in an answer, or None if the answer is a refusal. A failed allocation (the
+/// refusal `Memory`) is returned as an error.
 fn edits_unless_refused(
     answer: Result<Vec<Edit>, EditRefusal>,
 ) -> Result<Option<Vec<Edit>>, AllocError>
@@ -74,9 +74,9 @@ fn edits_unless_refused(
     }
 }
 
-/// Returns the edits that inline the constant at a place, for each kind of inlining, or None for a
-/// kind that is refused. Returns None altogether if the store's text isn't a well-typed module. A
-/// failed allocation is an error, never a refusal.
+/// Returns the edits that inline the constant at a position, for each kind of inlining. A kind that
+/// is refused has None instead of edits. If the store's text isn't a well-typed module, the whole
+/// result is None. A failed allocation is an error, never a refusal.
 pub fn inline_edits<T: TextStore>(
     alloc: Global,
     store: &T,

@@ -15,7 +15,7 @@ use ob0_layout::laws::{
 use ob0_text::{Edit, EditRefusal, Indent, TextStore};
 use std::alloc::{AllocError, Global};
 
-/// Asks which edits format a store's text.
+/// The question of which edits format a store's text with this indentation.
 #[derive(Drop)]
 struct FormatQuestion<'a, T: TextStore> {
     store: &'a T,
@@ -42,8 +42,9 @@ impl<'a, T: TextStore> Question for FormatQuestion<'a, T> {
     }
 }
 
-/// Returns the edits that format a store's text, or the refusal. Returns None if the text isn't a
-/// well-typed module. A failed allocation is an error, never a refusal.
+/// Returns the edits that format a store's text, or the refusal if the formatted text is too long.
+/// Returns None if the text isn't a well-typed module. A failed allocation is an error, never a
+/// refusal.
 pub fn format_edits<T: TextStore>(
     alloc: Global,
     store: &T,

@@ -5,8 +5,7 @@ ghost use Rattle.ob0_text.specs.declared.refusals.EditRefusal.TheVariants.{Memor
 use ob0_text::{Edit, EditRefusal};
 use std::alloc::AllocError;
 
-/// Returns these edits or this refusal unchanged. The refusal `Memory` is returned as an error
-/// instead.
+/// Returns edits or a refusal unchanged, except that the refusal `Memory` is returned as an error.
 pub(crate) fn memory_as_error(
     outcome: Result<Vec<Edit>, EditRefusal>,
 ) -> Result<Result<Vec<Edit>, EditRefusal>, AllocError>

@@ -2,10 +2,10 @@
 //!
 //! Declarations and fields are two cases of `AreRenameEdits` and `IsRenameRefusal` of `ob0_rename`.
 //! Both cases of `AreRenameEdits` contain `WritesName`, so one lemma, `renames_in` of
-//! `proofs/Renamings`, covers both. `RenamesIn` and `IsRefusedIn` are about the module with its
-//! names bound (`IsModuleIn`), because fields are found through the bindings of names. The contract
-//! of `ask` is about the bytes of the text. The lemma `new_name_found` derives `RenamesIn` from it,
-//! which is about characters.
+//! `proofs/Renamings`, covers declarations and fields. `RenamesIn` and `IsRefusedIn` are about the
+//! module with its names bound (`IsModuleIn`), because fields are found through the bindings of
+//! names. The contract of `ask` is about the bytes of the text. `RenamesIn` is about characters.
+//! The lemma `new_name_found` derives `RenamesIn` from the contract of `ask`.
 
 ghost use Rattle.std.specs.Prelude.{◌≡◌, IfOk};
 ghost use Rattle.std.specs.Str.{chars};
@@ -18,7 +18,8 @@ use ob0_rename::rename;
 use ob0_text::{Edit, EditRefusal, Position, TextStore};
 use std::alloc::{AllocError, Global};
 
-/// Asks which edits rename the declaration or field at a place of a store's text.
+/// The question of which edits rename the declaration or field at the position `place` in a store's
+/// text to `new`.
 #[derive(Drop)]
 struct RenameQuestion<'a, T: TextStore> {
     store: &'a T,
@@ -43,8 +44,8 @@ impl<'a, T: TextStore> Question for RenameQuestion<'a, T> {
     }
 }
 
-/// Returns the edits that rename the declaration or field at a place of a store's text to `new`, or
-/// the refusal. Returns None if the text isn't a well-typed module. A failed allocation is an
+/// Returns the edits that rename the declaration or field at a position in a store's text to `new`,
+/// or the refusal. Returns None if the text isn't a well-typed module. A failed allocation is an
 /// error, never a refusal.
 pub fn rename_edits<T: TextStore>(
     alloc: Global,

@@ -10,31 +10,34 @@ use Rattle.ob0_edits_tokens.specs.Changed.{words_of, changed_words, changes_at, 
 use Rattle.ob0_edits_tokens.specs.Replaced.{AreIdentifierIndexes}
 use Rattle.ob0_edits_tokens.specs.Written.{name_word}
 
--- Returns the words as the tokens that a tree over word indexes spells. In place of each name or
--- integer, the token has the index of its word. `k` is the index of the first word of the list.
+-- Returns the words as the tokens that a tree over word indexes spells. The token of a name or
+-- integer has the index of its word instead of the name or the value. `k` is the index in the text
+-- of the list's first word.
 abbrev pub indexed_tokens : ℕ → List Word → List (Terminal ℕ)
 indexed_tokens k [] = []
 indexed_tokens k (w ∷ ws) = index_terminal k w.kind ∷ indexed_tokens (suc k) ws
 
--- returns the word with this index, or a name without text if there is no such word
+-- Returns the word with this index, or a name without text if there is no such word.
 abbrev pub word_at : List Word → ℕ → Word
 word_at ws k = slice_index_or ws k (name_word [])
 
--- returns the text of the word with this index
+-- Returns the text of the word with this index, or the empty text if there is no such word.
 abbrev pub text_of_word : List Word → ℕ → List ℕ
 text_of_word ws k = (word_at ws k).text
 
--- returns the value of the word with this index, or 0 if it isn't an integer or doesn't exist
+-- Returns the value of the integer with this word index, or 0 if there is no such word or the word
+-- isn't an integer.
 abbrev pub number_at : List Word → ℕ → ℕ
 number_at ws k = kind_value_or_zero (word_at ws k).kind
 
--- returns the new name if the index is one of the places, otherwise the text of the word with this
--- index
+-- Returns the new name if the index `k` is one of the places, otherwise the text of the word with
+-- this index.
 abbrev pub renamed_word_text : List Word → List ℕ → List ℕ → ℕ → List ℕ
 renamed_word_text ws places new k = if is_among k places then new else text_of_word ws k
 
--- Holds if renaming keeps the spelling of trees. Let a tree over word indexes spell the words of a
--- text. After both get a new name at the same places, the tree still spells the words.
+-- States that renaming keeps the spelling of trees. Let a tree over word indexes spell the words of
+-- a text. If the tree and the words both get a new name at the same places, the tree still spells
+-- the words.
 abbrev pub RenamingKeepsSpelling : Type 0
 RenamingKeepsSpelling =
     (s : TextWithTokens) (sort : Sort) (t : Tree ℕ sort) (places new : List ℕ)

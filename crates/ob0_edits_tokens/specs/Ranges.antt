@@ -5,12 +5,14 @@ use Rattle.ob0_scan.specs.declared.lexeme.Span.{Span}
 use Rattle.ob0_text.specs.declared.position_types.Range.{Range}
 use Rattle.ob0_text.specs.Texts.{position_of}
 
--- returns a span of bytes as a range of positions; `width` gives the units of a character
+-- Returns a span of bytes of the text as a range of positions. `width` gives the number of units of
+-- a character.
 abbrev pub range_of : (ℕ → ℕ) → List ℕ → Span → Range
 range_of width text span =
     record { start = position_of width text span.start; end = position_of width text span.end }
 
--- returns the start and the end of each span, one span after another
+-- Returns the start and the end of each span in one list: two offsets for each span, in the order
+-- of the spans.
 unfoldable pub bounds : List Span → List ℕ
 bounds [] = []
 bounds (span ∷ spans) = span.start ∷ span.end ∷ bounds spans

@@ -12,13 +12,14 @@ use Rattle.ob0_text.specs.Patches.{Cut, pieced}
 use Rattle.ob0_edits_tokens.specs.Changed.{WordChanges}
 use Rattle.ob0_edits_tokens.specs.Replaced.{token_or_empty, span_at, cut_of}
 
--- Returns the changes that remove the words from index `first` to index `last`, both included. All
--- other words are changed as `changes` does.
+-- Returns the changes that remove the words from the index `first` to the index `last`, both
+-- included. All other words change as in `changes`.
 abbrev pub changes_with_removal : ℕ → ℕ → WordChanges → WordChanges
 changes_with_removal first last changes k = if nat_le first k && nat_le k last then Some [] else changes k
 
--- Holds if the tokens from `first` to `last` may be a declaration of a CONST section: an identifier
--- first, and a `;` last. The token before them, if there is one, is CONST or another `;`.
+-- States that the tokens from the index `first` to the index `last` may be a declaration in a CONST
+-- section. Only their borders count: the first is an identifier, and the last is a `;`. The token
+-- before them, if there is one, is CONST or another `;`.
 pub record IsDeclaration (tokens : List Token) (first last : ℕ) : Type 0 where
   pub order : first < last
   pub inside : last < length tokens
@@ -29,18 +30,21 @@ pub record IsDeclaration (tokens : List Token) (first last : ℕ) : Type 0 where
       → ((token_or_empty tokens k).kind ≡ token.ReservedWord reserved.Const)
       ⊎ ((token_or_empty tokens k).kind ≡ token.Symbol symbol.Semicolon)
 
--- returns the span from the start of one token to the end of another
+-- Returns the span from the start of the token with the index `first` to the end of the token with
+-- the index `last`.
 abbrev pub span_of_tokens : List Token → ℕ → ℕ → Span
 span_of_tokens tokens first last =
     record { start = (span_at tokens first).start; end = (span_at tokens last).end }
 
--- returns the cut that removes the text from the token `first` to the token `last`
+-- Returns the cut, in byte offsets, that removes the text from the start of the token with the
+-- index `first` to the end of the token with the index `last`.
 abbrev pub removal_cut : List Token → ℕ → ℕ → Cut
 removal_cut tokens first last =
     record { from = (span_at tokens first).start; to = (span_at tokens last).end; new = [] }
 
--- Returns the text after two changes. The part from the token `first` to the token `last` is
--- removed, and the token at each of the places is replaced by `new`.
+-- Returns the text that two changes leave. The part from the token `first` to the token `last` is
+-- removed, and the token at each of the places is replaced by `new`. Tokens are given by their
+-- indexes.
 abbrev pub text_after_removal : TextWithTokens → ℕ → ℕ → List ℕ → List ℕ → List ℕ
 text_after_removal s first last places new =
     pieced s.text 0 (removal_cut s.tokens first last ∷ map (cut_of s.tokens new) places)

@@ -19,19 +19,20 @@ use Rattle.ob0_text.specs.Patches.{Cut, pieced, patched}
 use Rattle.ob0_edits_tokens.specs.Changed.{words_of}
 use Rattle.ob0_edits_tokens.specs.Ranges.{range_of}
 
--- returns the token with this index; if there is none, an empty token at the text's start
+-- Returns the token with this index. If there is no such token, returns an empty identifier at the
+-- text's start.
 abbrev pub token_or_empty : List Token → ℕ → Token
 token_or_empty tokens p =
     slice_index_or tokens p
     (record { kind = token.Identifier; span = record { start = 0; end = 0 } })
 
--- returns the span of the token with this index; if there is none, an empty span at the text's
--- start
+-- Returns the span of the token with this index. If there is no such token, returns an empty span
+-- at the text's start.
 abbrev pub span_at : List Token → ℕ → Span
 span_at tokens p = (token_or_empty tokens p).span
 
--- Holds if the places are indexes of identifiers among the tokens, in ascending order. The first
--- one is at least `least`.
+-- States that the places are token indexes of identifiers, in ascending order, and that each is at
+-- least `least`.
 abbrev pub AreIdentifierIndexes : List Token → ℕ → List ℕ → Type 0
 AreIdentifierIndexes tokens least [] = Unit {0}
 AreIdentifierIndexes tokens least (p ∷ ps) =
@@ -40,32 +41,32 @@ AreIdentifierIndexes tokens least (p ∷ ps) =
     × ((token_or_empty tokens p).kind ≡ token.Identifier)
     × AreIdentifierIndexes tokens (suc p) ps
 
--- returns the cut, in byte offsets, that replaces the token with the index `p` by `new`
+-- Returns the cut, in byte offsets, that replaces the token with the index `p` by `new`.
 abbrev pub cut_of : List Token → List ℕ → ℕ → Cut
 cut_of tokens new p =
     record { from = (span_at tokens p).start; to = (span_at tokens p).end; new = new }
 
--- Returns the text after the token at each of the places is replaced by `new`.
+-- Returns the text in which the token at each of the places is replaced by `new`.
 abbrev pub text_after_replacement : TextWithTokens → List ℕ → List ℕ → List ℕ
 text_after_replacement s places new = pieced s.text 0 (map (cut_of s.tokens new) places)
 
--- Holds if each cut begins at or after the end of the previous cut, and removes at least one byte.
--- The first cut begins at or after `at`.
+-- States that each cut begins at or after the end of the previous cut, and removes at least one
+-- byte. The first cut begins at or after the byte offset `at`.
 abbrev pub AreInOrder : ℕ → List Cut → Type 0
 AreInOrder at [] = Unit {0}
 AreInOrder at (c ∷ cs) = (at ≤ c.from) × (c.from < c.to) × AreInOrder c.to cs
 
--- Holds if the text of each lexeme belongs to its kind, and no lexeme can continue with the byte
--- after it. The byte `byte` follows the last lexeme.
+-- States that the text of each lexeme belongs to its kind, and that no lexeme is continued by the
+-- byte after it. The byte `byte` follows the last lexeme.
 abbrev pub LexemesEndBefore : List Lexeme → ℕ → Type 0
 LexemesEndBefore [] byte = Unit {0}
 LexemesEndBefore (l ∷ lexemes) byte =
     EndsBefore l (slice_index (joined lexemes ++ (byte ∷ [])) 0) × LexemesEndBefore lexemes byte
 
--- Holds if the text `new`, whose words are `ws`, may replace any identifier. If the lexeme before
--- it can't continue with a letter, that lexeme can't continue with the first byte of `new` either.
--- The lexemes of `new` stay separate from one another, and from a following byte that is no letter
--- or digit.
+-- States that the text `new`, whose words are `ws`, may replace any identifier. A lexeme in front
+-- of `new` that can't continue with a letter can't continue with the first byte of `new` either.
+-- The lexemes of `new` stay separate from one another, and from a following byte that isn't a
+-- letter or digit.
 pub record ReplacesName (new : List ℕ) (ws : List Word) : Type 0 where
   pub lexemes : List Lexeme
   pub whole : joined lexemes ≡ new
@@ -77,15 +78,16 @@ pub record ReplacesName (new : List ℕ) (ws : List Word) : Type 0 where
       → continues_lexeme kind (slice_index new 0) ≡ false
   pub apart : (byte : ℕ) → is_ascii_alphanumeric byte ≡ false → LexemesEndBefore lexemes byte
 
--- Returns the range of an edit, and its text in bytes.
+-- Returns an edit as a pair: its range, and its text as a list of bytes.
 abbrev pub parts : Edit → Range × List ℕ
 parts edit = (edit.range, string_bytes edit.text)
 
--- Returns the range and text of the edit that replaces the token with the index `p` by `new`.
+-- Returns the edit, as a pair of its range and text, that replaces the token with the index `p` by
+-- `new`.
 abbrev pub edit_at : counting.Unit → List ℕ → List Token → List ℕ → ℕ → Range × List ℕ
 edit_at unit text tokens new p = (range_of (width_of unit) text (span_at tokens p), new)
 
--- Holds if the text after the edits can be scanned and has these words.
+-- States that the edits, applied all at once, leave a text that can be scanned and has these words.
 pub record LeavesWords
     (unit : counting.Unit) (text : List ℕ) (edits : List Edit) (ws : List Word) : Type 0 where
   pub after : TextWithTokens

@@ -11,8 +11,8 @@ pub fn names_replace_names()
     ensures { (new : List ℕ) → IsIdentifier new → ReplacesName new (name_word new ∷ []) }
 {}
 
-/// Proves that renaming keeps the spelling of trees. Let a tree spell the words of a text. After
-/// both get a new name at the same places, the tree still spells the words.
+/// Proves that renaming keeps the spelling of trees. Let a tree spell the words of a text. If the
+/// tree and the words both get a new name at the same places, the tree still spells the words.
 pub fn renaming_keeps_spelling()
     ensures { RenamingKeepsSpelling }
 {}

@@ -9,10 +9,10 @@ use ob0_scan::{Span, Token};
 use ob0_text::{Range, TextStore};
 use std::alloc::{AllocError, Global};
 
-/// The greatest number of spans that are converted at once. It keeps the buffers small.
+/// The greatest number of spans that are converted at once. This limit keeps the buffers small.
 const SPANS_AT_ONCE: usize = 16_384;
 
-/// Returns the ranges of spans, in the same order. If the spans are in text order, one pass over
+/// Returns the range of each span, in the same order. If the spans are in text order, one pass over
 /// the text finds the ranges of up to `SPANS_AT_ONCE` spans.
 pub fn ranges<T: TextStore>(
     alloc: Global,
@@ -31,7 +31,7 @@ pub fn ranges<T: TextStore>(
     Ok(ranges)
 }
 
-/// Appends the ranges of spans, in the same order.
+/// Appends the range of each span to `ranges`, in the same order.
 fn add_ranges<T: TextStore>(
     alloc: Global,
     store: &T,
@@ -52,7 +52,8 @@ fn add_ranges<T: TextStore>(
     Ok(())
 }
 
-/// Returns the byte offsets of the start and the end of each span, one span after another.
+/// Returns the byte offsets of the start and the end of each span, in one list: two offsets for
+/// each span, in the order of the spans.
 fn bounds(alloc: Global, spans: &[Span]) -> Result<Vec<usize>, AllocError>
     ensures { IfOk result (λ offsets. offsets.items ≡ bounds spans.now) }
 {
@@ -64,7 +65,7 @@ fn bounds(alloc: Global, spans: &[Span]) -> Result<Vec<usize>, AllocError>
     Ok(offsets)
 }
 
-/// Returns the spans of the tokens with the indexes `places`, in the same order.
+/// Returns the span of the token with each of the indexes `places`, in the same order.
 pub(crate) fn spans_of(
     alloc: Global,
     tokens: &[Token],

@@ -17,8 +17,8 @@ use ob0_scan::{MAX_TEXT, Span, Tokens};
 use ob0_text::{Edit, EditRefusal, Range, TextStore};
 use std::alloc::Global;
 
-/// Returns one edit for each place, in text order, which replaces the token there by `new`.
-/// `places` are indexes of identifiers among the tokens, in text order. Fails with `TooLong` if the
+/// Returns one edit for each place, in text order. Each edit replaces the token at its place by
+/// `new`. `places` are token indexes of identifiers, in text order. Fails with `TooLong` if the
 /// resulting text is longer than a text may be. Fails with `Memory` if an allocation fails.
 pub fn replacement_edits<T: TextStore>(
     alloc: Global,
@@ -51,10 +51,11 @@ pub fn replacement_edits<T: TextStore>(
     Ok(edits)
 }
 
-/// Returns an edit that removes a declaration, from the start of the token `first` to the end of
-/// the token `last`. After it come edits that replace the tokens at `places` by `new`, which are
-/// all after `last`. Fails with `TooLong` if the resulting text is longer than a text may be. Fails
-/// with `Memory` if an allocation fails.
+/// Returns the edits that remove a declaration and replace identifiers behind it, in text order.
+/// The first edit removes the text from the start of the token `first` to the end of the token
+/// `last`. Then comes one edit for each place, which replaces the token there by `new`. `places`
+/// are token indexes of identifiers, all greater than `last`, in text order. Fails with `TooLong`
+/// if the resulting text is longer than a text may be. Fails with `Memory` if an allocation fails.
 pub fn removal_edits<T: TextStore>(
     alloc: Global,
     store: &T,
@@ -101,8 +102,8 @@ pub fn removal_edits<T: TextStore>(
     Ok(edits)
 }
 
-/// Appends one edit for each place, which replaces the token there by `new`. Fails only with
-/// `Memory`.
+/// Appends one edit to `edits` for each of the token indexes `places`. The edit replaces the token
+/// with this index by `new`. Fails only with `Memory`.
 fn add_edits<T: TextStore>(
     alloc: Global,
     store: &T,
@@ -140,9 +141,9 @@ pub fn range_of<T: TextStore>(store: &T, span: Span) -> Range
     }
 }
 
-/// Returns true if an edited text is longer than a text may be. The edited text consists of
-/// `counted` bytes, then of the old text from the offset `end`. In the latter part, `new` replaces
-/// the token at each place.
+/// Returns whether an edited text is longer than a text may be. The edited text consists of
+/// `counted` bytes, followed by the old text starting at the byte offset `end`. In this second
+/// part, `new` replaces the token at each place.
 fn is_too_long(tokens: &Tokens, counted: usize, end: usize, places: &[usize], new: &str) -> bool
     requires names { AreIdentifierIndexes tokens.now.tokens 0 places.now }
     requires order { AreInOrder end (map (cut_of tokens.now.tokens new.now) places.now) }

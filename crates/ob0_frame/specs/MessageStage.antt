@@ -1,4 +1,4 @@
--- Defines how much of the message at the beginning of a list of bytes has come.
+-- Defines which part of the message at the beginning of a list of bytes has arrived.
 -- Rule: none; for private contracts: how far a message has come.
 use Rattle.std.specs.Prelude.{ℕ, ◌-◌, ◌<◌, ◌≤◌, List, ◌++◌, length, take, drop}
 use Rattle.ob0_frame.specs.declared.head.MessageStage.{MessageStage}
@@ -6,29 +6,30 @@ use Rattle.ob0_frame.specs.declared.head.MessageStage.TheVariants.{Head, Content
 use Rattle.ob0_frame.specs.Head.{Announces, HasNoEmptyLine, max_head}
 use Rattle.ob0_frame.specs.Frames.{Frames, CannotBeginMessage}
 
--- Holds if the bytes begin with an accepted head that ends at `start`, and the content that it
--- announces ends at `end`. Not all bytes of the content need to have come.
+-- States that the bytes begin with an accepted head that ends at the byte offset `start`, and that
+-- the content announced by the head ends at the byte offset `end`. Not all bytes of the content
+-- need to have arrived.
 pub record IsContentAt (bytes : List ℕ) (start end : ℕ) : Type 0 where
   pub within : start ≤ length bytes
   pub ordered : start ≤ end
   pub after_head : 0 < start
   pub announces : Announces (take start bytes) (end - start)
 
--- Holds if this is the stage of the message at the beginning of the bytes.
+-- States that this is the stage of the message at the beginning of the bytes.
 abbrev pub IsMessageStage : List ℕ → MessageStage → Type 0
 IsMessageStage bytes Head = (length bytes < max_head) × HasNoEmptyLine bytes
 IsMessageStage bytes (Content start end) = IsContentAt bytes start end
 IsMessageStage bytes Bad = CannotBeginMessage bytes
 
--- Holds if the message at the beginning of the bytes, which has this stage, isn't complete. It
--- always holds at the stages `Head` and `Bad`.
+-- States that the message at the beginning of the bytes, which has this stage, isn't complete. At
+-- the stages `Head` and `Bad` this is always true.
 abbrev pub IsUnfinished : List ℕ → MessageStage → Type 0
 IsUnfinished bytes Head = Unit {0}
 IsUnfinished bytes (Content start end) = length bytes < end
 IsUnfinished bytes Bad = Unit {0}
 
--- Holds if the first `taken` bytes are messages with these contents, and the message after them has
--- this stage.
+-- States that the first `taken` bytes are messages with these contents, and that the message after
+-- them has this stage.
 pub record Cuts (bytes : List ℕ) (contents : List (List ℕ)) (taken : ℕ)
     (stage : MessageStage) : Type 0 where
   pub within : taken ≤ length bytes

@@ -1,5 +1,5 @@
 -- Defines the constant at a place, the module after the constant is inlined everywhere, and the
--- refusals.
+-- refusals of this edit.
 -- Rule: docs/PROTOCOL.md, Requests on documents 9, Refusals of edits.
 use Rattle.std.specs.Prelude.{◌≡◌, ◌≢◌, ◌⊎◌, ℕ, Bool, not, ◌&&◌, if◌then◌else◌, List, [], ◌∷◌, Option, Some, None, Result, Ok, Err, Vec, drop, length, map}
 use Rattle.std.specs.List.{All, filter, list_any, position_from, range_with_len, zip}
@@ -33,8 +33,9 @@ use Rattle.ob0_inline.specs.Inlined.{LeavesModule, first_refusal}
 use Rattle.ob0_inline.specs.Uses.{is_predeclared_truth}
 use Rattle.ob0_inline.specs.Values.{value_factor, value_text}
 
--- Holds if `c` is a constant of a CONST section, with its ordinal and value. `first` is the token
--- that declares it, and `last` is the first `;` after that token.
+-- States that `c` is a constant of a CONST section, with its ordinal and value. The token with the
+-- index `c.first` declares the constant, and `c.last` is the index of the first `;` at or after
+-- that token.
 pub record IsConstant (m : ParsedModule) (c : NamedConstant) : Type 0 where
   pub has_value : value_of_constant (named_tree_of m) c.ordinal ≡ Some (scalar_value c.value)
   pub begins : declaration_token (declaring_names (identifiers role.Declaring (tree_of m))) c.ordinal
@@ -42,65 +43,66 @@ pub record IsConstant (m : ParsedModule) (c : NamedConstant) : Type 0 where
   pub ends : position_from (λ t. is_semicolon t.kind) c.first (drop c.first m.source.tokens)
       ≡ Some c.last
 
--- Holds if the byte offset is on a name of this constant: in its declaration, or at a use.
+-- States that the byte offset is on a name of the constant `c`: in its declaration or at a use.
 pub record IsConstantAt (m : ParsedModule) (offset : ℕ) (c : NamedConstant) : Type 0 where
   pub token : ℕ
   pub named : name_on m offset ≡ Some (record { token = token; ordinal = c.ordinal })
   pub is_constant : IsConstant m c
 
--- holds if the byte offset isn't on a name of a constant
+-- States that the byte offset isn't on a name of a constant.
 abbrev pub HasNoConstantAt : ParsedModule → ℕ → Type 0
 HasNoConstantAt m offset =
     (n : named.Named)
     → name_on m offset ≡ Some n
     → value_of_constant (named_tree_of m) n.ordinal ≡ None
 
--- returns the tokens of the occurrences that are bound to the declaration with the ordinal `d`, in
--- text order
+-- Returns the token indexes of the occurrences that are bound to the declaration with the ordinal
+-- `d`, in text order.
 abbrev pub uses_of : ParsedModule → ℕ → List ℕ
 uses_of m d =
     map (λ u. u.0) (filter (λ u. same_label u.1 (declared d))
     (zip (occurrences (tree_of m)) (bindings (named_tree_of m))))
 
--- holds if each use of the declaration with the ordinal `d` is a whole factor: a name without
--- selectors in an expression
+-- States that each use of the declaration with the ordinal `d` is a whole factor: a name without
+-- selectors in an expression.
 abbrev pub UsesAreFactors : ParsedModule → ℕ → Type 0
 UsesAreFactors m d = All (λ l. l ≢ declared d) (non_factor_names (numbered (named_tree_of m)))
 
--- returns the module after the constant is inlined everywhere: with its value in place of all uses,
--- and without its declaration
+-- Returns the tree of the module after the constant is inlined everywhere. The constant's value
+-- replaces all its uses, and its declaration is removed.
 abbrev pub tree_inlined_everywhere : ParsedModule → NamedConstant → Tree Name module_text
 tree_inlined_everywhere m c = inlined_everywhere (named_tree_of m) c.ordinal (value_factor c.value)
 
--- returns the text after the constant is inlined everywhere, in bytes
+-- Returns the text, in bytes, after the constant is inlined everywhere.
 abbrev pub text_after_inlining : ParsedModule → NamedConstant → List ℕ
 text_after_inlining m c = text_after_removal m.source c.first c.last (uses_of m c.ordinal) (value_text c.value)
 
--- Returns true if the occurrence `k` is a use of the constant at which TRUE or FALSE, written for
--- its value, wouldn't mean the predeclared name.
+-- Returns whether the occurrence with the number `k` is a use of the constant at which TRUE or
+-- FALSE, written for the constant's value, wouldn't mean the predeclared name.
 abbrev pub is_shadowed_use : Tree Name module_text → NamedConstant → ℕ → Bool
 is_shadowed_use m c k = same_ordinal (binds m k) c.ordinal && not (is_predeclared_truth m k c.value)
 
--- Returns true if the constant has a use at which TRUE or FALSE, written for its value, wouldn't
--- mean the predeclared name.
+-- Returns whether the constant has a use at which TRUE or FALSE, written for the constant's value,
+-- wouldn't mean the predeclared name.
 abbrev pub any_use_shadowed : Tree Name module_text → NamedConstant → Bool
 any_use_shadowed m c = list_any (is_shadowed_use m c) (range_with_len 0 (length (bindings m)))
 
--- returns true if a comment is between the declaration's name and its `;`
+-- Returns whether a comment lies between the name of the constant in its declaration and the `;` of
+-- that declaration.
 abbrev pub has_comment : ParsedModule → NamedConstant → Bool
 has_comment m c = list_any (is_inside (span_of_tokens m.source.tokens c.first c.last)) m.source.comments
 
--- returns the first of the refusals that apply to inlining a constant everywhere, or None if none
--- applies
+-- Returns the first refusal that applies to inlining the constant everywhere, or None if no refusal
+-- applies.
 abbrev pub refusal_everywhere : ParsedModule → NamedConstant → Option EditRefusal
 refusal_everywhere m c =
     first_refusal (text_after_inlining m c) (tree_inlined_everywhere m c)
     (if any_use_shadowed (named_tree_of m) c then Some Shadowed
     else if has_comment m c then Some CommentInside else None)
 
--- Holds if these edits remove the declaration, from its name to its `;`, and write the value in
--- place of each use. They change no other character. They leave the text of the inlined module,
--- which is well-typed and has the same runs.
+-- States that these edits inline the constant everywhere. They remove its declaration, from its
+-- name to its `;`, write its value in place of each use, and change no other character. The edited
+-- text is the inlined module, which is well-typed and has the same runs as the module before.
 pub record InlinesEverywhere (unit : counting.Unit) (text : List ℕ) (m : ParsedModule)
     (c : NamedConstant) (edits : List Edit) : Type 0 where
   pub everywhere : map parts edits
@@ -110,8 +112,9 @@ pub record InlinesEverywhere (unit : counting.Unit) (text : List ℕ) (m : Parse
   pub well_typed : WellTyped (tree_inlined_everywhere m c)
   pub same_runs : HaveSameRuns (tree_inlined_everywhere m c) (named_tree_of m)
 
--- Holds if the answer is edits that inline the constant everywhere, and no refusal applies. Also
--- holds if it is the first refusal that applies, or `Memory`.
+-- States that the answer to inlining the constant `c` everywhere is right. If the answer is edits,
+-- they inline the constant everywhere, and no refusal applies. Otherwise the answer is the first
+-- refusal that applies, or `Memory`.
 abbrev pub AnswersForConstant : counting.Unit
     → List ℕ
     → ParsedModule
@@ -123,8 +126,9 @@ AnswersForConstant unit text m c (Ok edits) =
 AnswersForConstant unit text m c (Err refusal) =
     (refusal_everywhere m c ≡ Some refusal) ⊎ (refusal ≡ Memory)
 
--- Holds if the answer fits the constant whose name is at the byte offset. If no constant's name is
--- at the offset, holds if the answer is the refusal `NoName`.
+-- States that the answer is right for the constant whose name is at the byte offset
+-- (`AnswersForConstant`). If the offset isn't on the name of a constant, the answer is the refusal
+-- `NoName`.
 abbrev pub AnswersInlineEverywhere : counting.Unit
     → List ℕ
     → ParsedModule

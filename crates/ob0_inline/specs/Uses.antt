@@ -1,5 +1,5 @@
 -- Defines the use of a constant at a place, the module after the constant is inlined there, and the
--- refusals.
+-- refusals of this edit.
 -- Rule: docs/PROTOCOL.md, Requests on documents 9, Refusals of edits.
 use Rattle.std.specs.Prelude.{◌≡◌, ◌⊎◌, ℕ, Bool, true, false, if◌then◌else◌, List, [], ◌∷◌, Option, Some, None, Result, Ok, Err, Vec, map, slice_get}
 use Rattle.std.specs.declared.alloc.Global.{Global}
@@ -27,44 +27,48 @@ use Rattle.ob0_inline.specs.declared.uses.ConstantUse.{ConstantUse}
 use Rattle.ob0_inline.specs.Inlined.{LeavesModule, first_refusal}
 use Rattle.ob0_inline.specs.Values.{value_factor, value_text}
 
--- Holds if the byte offset is on a use of a constant of a CONST section, and `u` is this use. `u`
--- then has the use's token and occurrence, and the constant's ordinal and value.
+-- States that the byte offset is on a use of a constant of a CONST section, and that `u` is this
+-- use. So `u` has the use's token and occurrence, and the constant's ordinal and value.
 pub record IsUseAt (m : ParsedModule) (offset : ℕ) (u : ConstantUse) : Type 0 where
   pub named : name_on m offset ≡ Some (record { token = u.token; ordinal = u.constant })
   pub occurs : slice_get (occurrences (tree_of m)) u.occurrence ≡ Some u.token
   pub has_value : value_of_constant (named_tree_of m) u.constant ≡ Some (scalar_value u.value)
 
--- Holds if `u` is a use of a constant of a CONST section. The occurrence of `u` is at its token,
--- and is bound to the constant with this ordinal and value.
+-- States that `u` is a use of a constant of a CONST section. The occurrence with the number
+-- `u.occurrence` has the token `u.token`, and it is bound to the constant with the ordinal and the
+-- value of `u`.
 pub record IsUse (m : ParsedModule) (u : ConstantUse) : Type 0 where
   pub occurs : slice_get (occurrences (tree_of m)) u.occurrence ≡ Some u.token
   pub bound : binds (named_tree_of m) u.occurrence ≡ Some u.constant
   pub has_value : value_of_constant (named_tree_of m) u.constant ≡ Some (scalar_value u.value)
 
--- returns the ordinal of the predeclared TRUE or FALSE
+-- Returns the ordinal of the predeclared name TRUE or FALSE.
 abbrev pub truth_ordinal : Bool → ℕ
 truth_ordinal true = 2
 truth_ordinal false = 3
 
--- Returns true if TRUE or FALSE, written for a truth value in place of the occurrence, would mean
--- the predeclared name. Returns true for every number.
+-- Returns whether TRUE or FALSE, written for a truth value in place of this occurrence, would mean
+-- the predeclared name. If the value is a number, the result is true.
 abbrev pub is_predeclared_truth : Tree Name module_text → ℕ → Scalar → Bool
 is_predeclared_truth m occurrence (scalar.Number n) = true
 is_predeclared_truth m occurrence (scalar.Truth b) =
     same_ordinal (resolve_at_occurrence m occurrence (truth_text b)) (truth_ordinal b)
 
--- returns the module after the constant is inlined at one use: with its value in place of that use
+-- Returns the tree of the module after the constant is inlined at one use: the constant's value
+-- replaces that use.
 abbrev pub tree_inlined_here : ParsedModule → ConstantUse → Tree Name module_text
 tree_inlined_here m u = inlined (named_tree_of m) (single_occurrence u.occurrence) (value_factor u.value)
 
--- returns the first of the refusals that apply to inlining at a use, or None if none applies
+-- Returns the first refusal that applies to inlining the constant at this use, or None if no
+-- refusal applies.
 abbrev pub refusal_here : ParsedModule → ConstantUse → Option EditRefusal
 refusal_here m u =
     first_refusal (text_after_replacement m.source (u.token ∷ []) (value_text u.value)) (tree_inlined_here m u)
     (if is_predeclared_truth (named_tree_of m) u.occurrence u.value then None else Some Shadowed)
 
--- Holds if these edits write the value in place of the use and change no other character. They
--- leave the text of the inlined module, which is well-typed and has the same runs.
+-- States that these edits write the constant's value in place of the use and change no other
+-- character. The edited text is the inlined module, which is well-typed and has the same runs as
+-- the module before.
 pub record InlinesHere (unit : counting.Unit) (text : List ℕ) (m : ParsedModule) (u : ConstantUse)
     (edits : List Edit) : Type 0 where
   pub here : map parts edits ≡ edit_at unit text m.source.tokens (value_text u.value) u.token ∷ []
@@ -72,8 +76,9 @@ pub record InlinesHere (unit : counting.Unit) (text : List ℕ) (m : ParsedModul
   pub well_typed : WellTyped (tree_inlined_here m u)
   pub same_runs : HaveSameRuns (tree_inlined_here m u) (named_tree_of m)
 
--- Holds if the answer is edits that inline the constant at the use, and no refusal applies. Also
--- holds if it is the first refusal that applies, or `Memory`.
+-- States that the answer to inlining the constant at the use `u` is right. If the answer is edits,
+-- they inline the constant at that use, and no refusal applies. Otherwise the answer is the first
+-- refusal that applies, or `Memory`.
 abbrev pub AnswersForUse : counting.Unit
     → List ℕ
     → ParsedModule
@@ -84,8 +89,8 @@ AnswersForUse unit text m u (Ok edits) =
     (refusal_here m u ≡ None) × InlinesHere unit text m u edits.items
 AnswersForUse unit text m u (Err refusal) = (refusal_here m u ≡ Some refusal) ⊎ (refusal ≡ Memory)
 
--- Holds if the answer fits the use at the byte offset. If no use is at the offset, holds if the
--- answer is the refusal `NoName`.
+-- States that the answer is right for the use at the byte offset (`AnswersForUse`). If the offset
+-- isn't on a use of a constant, the answer is the refusal `NoName`.
 abbrev pub AnswersInlineHere : counting.Unit
     → List ℕ
     → ParsedModule

@@ -1,4 +1,4 @@
-//! Finds the constant at a place, and its declaration.
+//! Finds the constant whose name is at a place in the text, and the tokens of its declaration.
 
 ghost use Rattle.std.specs.Prelude.{◌≡◌, drop, IsSomeAnd, MatchOption, Some};
 ghost use Rattle.std.specs.List.{position_from};
@@ -14,8 +14,9 @@ use ob0_scope::name_at;
 use ob0_scope_table::Resolved;
 use ob0_types::WellTyped;
 
-/// A constant of a CONST section. `ordinal` is the number of its declaration in text order. `first`
-/// is the index of the token that declares its name, and `last` the index of the declaration's `;`.
+/// A constant of a CONST section, with its value. `ordinal` is the number of its declaration in
+/// text order, in which the predeclared names come first. `first` is the index of the token that
+/// declares its name, and `last` is the index of the declaration's `;`.
 #[derive(Clone, Copy)]
 pub struct NamedConstant {
     pub ordinal: usize,
@@ -40,8 +41,8 @@ pub(crate) fn constant_at(module: &WellTyped, offset: usize) -> Option<NamedCons
     }
 }
 
-/// Returns the constant with this ordinal and value, and finds the first and last token of its
-/// declaration. The contract says that the result isn't None.
+/// Returns the constant with this ordinal and value, together with the first and last token of its
+/// declaration. The contract promises that the result isn't None.
 fn named_constant(names: &Resolved, ordinal: usize, value: Scalar) -> Option<NamedConstant>
     requires has_value { value_of_constant (named_tree_of names.now.module_read) ordinal
         ≡ Some (scalar_value value) }
@@ -64,7 +65,7 @@ fn named_constant(names: &Resolved, ordinal: usize, value: Scalar) -> Option<Nam
 }
 
 /// Returns the index of the first `;` at or after the token with the index `first`. Returns None if
-/// no `;` follows.
+/// there is no such `;`.
 fn end_of_declaration(tokens: &[Token], first: usize) -> Option<usize>
     ensures { result ≡ position_from (λ t. is_semicolon t.kind) first (drop first tokens.now) }
 {
@@ -76,7 +77,7 @@ fn end_of_declaration(tokens: &[Token], first: usize) -> Option<usize>
     None
 }
 
-/// Returns true for the symbol `;`.
+/// Returns whether a token of this kind is the symbol `;`.
 fn is_semicolon(kind: TokenKind) -> bool
     ensures { result ≡ is_semicolon kind }
 {

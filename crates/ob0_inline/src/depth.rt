@@ -1,4 +1,4 @@
-//! Checks the nesting of a text after it is edited.
+//! Checks whether an edited text is nested deeper than a module may be.
 
 ghost use Rattle.std.specs.Prelude.{◌≡◌, ◌≤◌, ◌+◌, List, IfOk, IfErr, map, nat_le, nat_lt, ℕ};
 ghost use Rattle.ob0_edits_tokens.specs.Replaced.{LeavesWords};
@@ -16,9 +16,10 @@ use ob0_text::{Edit, EditRefusal, PatchFault, TextStore, patch};
 use ob0_tree::{MAX_NESTING, Module};
 use std::alloc::Global;
 
-/// Returns true if the edited text is nested deeper than a module may be. The contract assumes that
-/// the edits make the module at most one level deeper. So the text is parsed only if the module
-/// already has the greatest depth.
+/// Returns whether the text that results from the edits is nested deeper than a module may be.
+/// `read` is the module before the edits. The contract assumes that the edits make the module at
+/// most one level deeper. So the edited text is parsed only if `read` already has the greatest
+/// depth.
 pub(crate) fn is_too_deep<T: TextStore>(
     alloc: Global,
     store: &T,
@@ -37,8 +38,9 @@ pub(crate) fn is_too_deep<T: TextStore>(
     patched_is_too_deep(alloc, store, edits)
 }
 
-/// Returns true if the edited text is nested deeper than a module may be. The text is parsed to
-/// find out.
+/// Returns whether the text that results from the edits is nested deeper than a module may be. The
+/// edited text is parsed to find out. If the edits overlap or the edited text isn't a module, the
+/// result is true.
 fn patched_is_too_deep<T: TextStore>(
     alloc: Global,
     store: &T,
@@ -62,8 +64,9 @@ fn patched_is_too_deep<T: TextStore>(
     }
 }
 
-/// Returns true if a text can be scanned and parsed as a module. If the text spells a tree, the
-/// result is true exactly if the tree is nested at most as deep as a module may be.
+/// Returns whether the text can be scanned and parsed as a module. If the text's tokens spell the
+/// tree of a module, the result is true exactly if the tree isn't nested deeper than a module may
+/// be.
 fn is_module(alloc: Global, text: &str) -> Result<bool, EditRefusal>
     ensures shallow { (s : TextWithTokens) (t : Tree (List ℕ) module_text) → IsScan s → s.text ≡ text.now
         → terminals_of_text s ≡ spell t
@@ -79,8 +82,8 @@ fn is_module(alloc: Global, text: &str) -> Result<bool, EditRefusal>
     }
 }
 
-/// Returns true if these tokens can be parsed as a module. If they spell a tree, the result is true
-/// exactly if the tree is nested at most as deep as a module may be.
+/// Returns whether these tokens can be parsed as a module. If the tokens spell the tree of a
+/// module, the result is true exactly if the tree isn't nested deeper than a module may be.
 fn is_parsable(alloc: Global, tokens: &Tokens) -> Result<bool, EditRefusal>
     ensures shallow { (t : Tree (List ℕ) module_text)
         → terminals_of_text tokens.now ≡ spell t

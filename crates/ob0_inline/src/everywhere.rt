@@ -1,4 +1,5 @@
-//! Makes the edits that inline a constant at all its uses and remove its declaration, or refuses.
+//! Makes the edits that inline a constant at all its uses and remove its declaration, or returns a
+//! refusal.
 
 ghost use Rattle.std.specs.Prelude.{◌≡◌, ◌⊎◌, ◌<◌, ◌≤◌, ◌∷◌, [], IfOk, IfErr, IsErrOf, length, map};
 ghost use Rattle.std.specs.List.{list_any};
@@ -30,10 +31,10 @@ use ob0_text::{Edit, EditRefusal, Position, TextStore};
 use ob0_types::WellTyped;
 use std::alloc::{AllocError, Global};
 
-/// Returns the edits that write a constant's value in place of all its uses and remove its
-/// declaration, from its name to its `;`. The place must be on one of the constant's names,
-/// otherwise the refusal is `NoName`. The first edit removes the declaration, and the others follow
-/// in text order.
+/// Returns the edits that inline the constant whose name is at `place`. The edits write the
+/// constant's value in place of all its uses, and remove its declaration, from its name to its `;`.
+/// The first edit removes the declaration, and the other edits follow in text order. If `place`
+/// isn't on the name of a constant, the refusal is `NoName`.
 pub fn inline_all<T: TextStore>(
     alloc: Global,
     store: &T,
@@ -51,7 +52,7 @@ pub fn inline_all<T: TextStore>(
 }
 
 /// Returns the edits that write this constant's value in place of all its uses and remove its
-/// declaration, or the refusal.
+/// declaration, or the first refusal that applies.
 fn inline_constant<T: TextStore>(
     alloc: Global,
     store: &T,
@@ -81,9 +82,10 @@ fn inline_constant<T: TextStore>(
     }
 }
 
-/// Returns an edit that removes the constant's declaration. After it comes one edit for each use,
-/// in text order, which writes the value there. If the resulting text is too long or nested too
-/// deep, the refusal is `TooLong` or `TooDeep`.
+/// Returns the edits that inline the constant everywhere. The first edit removes the constant's
+/// declaration. Then comes one edit for each use, in text order, which writes the value in place of
+/// the use. If the edited text is too long, the refusal is `TooLong`. If it is nested too deep, the
+/// refusal is `TooDeep`.
 fn constant_edits<T: TextStore>(
     alloc: Global,
     store: &T,
@@ -127,7 +129,8 @@ fn constant_edits<T: TextStore>(
     Ok(edits)
 }
 
-/// Returns the indexes of the tokens at which a constant is used, in text order.
+/// Returns the token indexes of all uses of the constant with the ordinal `constant`, in text
+/// order.
 fn uses_of(alloc: Global, names: &Resolved, constant: usize) -> Result<Vec<usize>, AllocError>
     ensures { IfOk result (λ uses. uses.items ≡ uses_of names.now.module_read constant) }
 {
@@ -142,7 +145,8 @@ fn uses_of(alloc: Global, names: &Resolved, constant: usize) -> Result<Vec<usize
     Ok(uses)
 }
 
-/// Returns true if a comment is between the name of a constant's declaration and its `;`.
+/// Returns whether a comment lies between the name of the constant in its declaration and the `;`
+/// of that declaration.
 fn has_comment(tokens: &Tokens, constant: NamedConstant) -> bool
     requires inside { constant.last < length tokens.now.tokens }
     requires order { constant.first < constant.last }

@@ -1,4 +1,4 @@
-//! Makes the edit that inlines a constant at one use, or refuses it.
+//! Makes the edit that inlines a constant at one use, or returns a refusal.
 
 ghost use Rattle.std.specs.Prelude.{◌≡◌};
 ghost use Rattle.std.specs.Str.{chars};
@@ -16,8 +16,8 @@ use ob0_text::{Edit, EditRefusal, Position, TextStore};
 use ob0_types::WellTyped;
 use std::alloc::Global;
 
-/// Returns the edit that writes a constant's value in place of the use at a place. If the place
-/// isn't on a use, the refusal is `NoName`.
+/// Returns the edit that writes a constant's value in place of the use at `place`. If `place` isn't
+/// on a use of a constant, the refusal is `NoName`.
 pub fn inline_here<T: TextStore>(
     alloc: Global,
     store: &T,
@@ -34,7 +34,8 @@ pub fn inline_here<T: TextStore>(
     }
 }
 
-/// Returns the edit that writes a constant's value in place of this use, or the refusal.
+/// Returns the edit that writes a constant's value in place of this use, or the first refusal that
+/// applies.
 fn inline_use<T: TextStore>(
     alloc: Global,
     store: &T,

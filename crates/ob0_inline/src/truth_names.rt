@@ -1,4 +1,4 @@
-//! Tests whether TRUE and FALSE, written at a place, would be the predeclared names.
+//! Tests whether TRUE and FALSE, written at a place in the text, would mean the predeclared names.
 
 ghost use Rattle.std.specs.Prelude.{◌≡◌, IfOk, ◌==◌, ◌&&◌, not, length, option_and_then, slice_get};
 ghost use Rattle.std.specs.List.{list_any, range_with_len};
@@ -15,8 +15,9 @@ use ob0_scope::resolve_at_occurrences;
 use ob0_scope_table::{FALSE_ORDINAL, Resolved, TRUE_ORDINAL, same_ordinal};
 use std::alloc::{AllocError, Global};
 
-/// Returns true if TRUE or FALSE, written for a truth value in place of this occurrence, would mean
-/// the predeclared name. Returns true for every number.
+/// Returns whether TRUE or FALSE, written for a truth value in place of this occurrence, would mean
+/// the predeclared name. If the value is a number, the result is true. `occurrence` is the number
+/// of the occurrence in text order, counted from 0.
 pub(crate) fn is_predeclared_truth(
     alloc: Global,
     names: &Resolved,
@@ -33,8 +34,8 @@ pub(crate) fn is_predeclared_truth(
     }
 }
 
-/// Returns true if `name`, written in place of this occurrence, would be bound to the declaration
-/// with this ordinal.
+/// Returns whether `name`, written in place of this occurrence, would be bound to the declaration
+/// with the ordinal `ordinal`.
 fn would_bind_to(
     alloc: Global,
     names: &Resolved,
@@ -49,8 +50,8 @@ fn would_bind_to(
     Ok(has_ordinal_at(&bound, occurrence, ordinal))
 }
 
-/// Returns true if the item of `bound` for this occurrence is this ordinal. Returns false if the
-/// item is None, or if `bound` has no such item.
+/// Returns whether the item of `bound` for this occurrence is `ordinal`. If the item is None, or
+/// `bound` has no such item, the result is false.
 fn has_ordinal_at(bound: &[Option<usize>], occurrence: usize, ordinal: usize) -> bool
     ensures { result
         ≡ same_ordinal (option_and_then (λ found. found) (slice_get bound.now occurrence)) ordinal }
@@ -61,8 +62,8 @@ fn has_ordinal_at(bound: &[Option<usize>], occurrence: usize, ordinal: usize) ->
     }
 }
 
-/// Returns true if the constant has a use at which TRUE or FALSE, written for its value, wouldn't
-/// mean the predeclared name. Returns false for every number.
+/// Returns whether the constant has a use at which TRUE or FALSE, written for the constant's value,
+/// wouldn't mean the predeclared name. If the value is a number, the result is false.
 pub(crate) fn any_use_shadowed(
     alloc: Global,
     names: &Resolved,
@@ -91,8 +92,8 @@ pub(crate) fn any_use_shadowed(
     }
 }
 
-/// Returns true if the constant has a use at which `name`, if written there, wouldn't be bound to
-/// the declaration with this ordinal.
+/// Returns whether the constant has a use at which `name`, if written there, wouldn't be bound to
+/// the declaration with the ordinal `ordinal`. `constant` is the constant's ordinal.
 fn any_use_rebound(
     alloc: Global,
     names: &Resolved,
@@ -112,8 +113,8 @@ fn any_use_rebound(
     Ok(any_use_differs(names, &bound, constant, ordinal))
 }
 
-/// Returns true if the constant has a use whose item in `bound` isn't this ordinal. `bound` has an
-/// item for each occurrence.
+/// Returns whether the constant with the ordinal `constant` has a use whose item in `bound` isn't
+/// `ordinal`. `bound` has an item for each occurrence, in text order.
 fn any_use_differs(
     names: &Resolved,
     bound: &[Option<usize>],
@@ -133,8 +134,8 @@ fn any_use_differs(
     false
 }
 
-/// Returns true if this occurrence is a use of the constant, and its item in `bound` isn't this
-/// ordinal. `bound` has an item for each occurrence.
+/// Returns whether this occurrence is a use of the constant with the ordinal `constant`, and its
+/// item in `bound` isn't `ordinal`. `bound` has an item for each occurrence, in text order.
 fn is_differing_use(
     names: &Resolved,
     bound: &[Option<usize>],

@@ -1,4 +1,4 @@
-//! Finds the use of a constant at a place.
+//! Finds the use of a constant at a place in the text.
 
 ghost use Rattle.std.specs.Prelude.{◌≡◌, ◌==◌, MatchOption, Some};
 ghost use Rattle.std.specs.List.{position_from};
@@ -9,8 +9,10 @@ use ob0_scope::name_at;
 use ob0_scope_table::Resolved;
 use ob0_types::WellTyped;
 
-/// A use of a constant. `token` is the index of its token, and `occurrence` is its number among the
-/// occurrences of the text, from 0. `constant` is the ordinal of the constant.
+/// A use of a constant, with the constant's value. `token` is the index of the use's token.
+/// `occurrence` is the number of the use among all occurrences in the text, counted from 0. An
+/// occurrence is a name that refers to a declaration. `constant` is the ordinal of the constant's
+/// declaration.
 #[derive(Clone, Copy)]
 pub struct ConstantUse {
     pub token: usize,
@@ -44,8 +46,9 @@ pub(crate) fn use_at(module: &WellTyped, offset: usize) -> Option<ConstantUse>
     }
 }
 
-/// Returns the number of the occurrence at this token, counted from 0, or None if the token isn't
-/// an occurrence. A binary search finds it, because the tokens of occurrences ascend.
+/// Returns the number of the occurrence whose token has the index `token`, counted from 0. Returns
+/// None if that token isn't an occurrence. The search is a binary search, because the tokens of
+/// occurrences ascend.
 fn occurrence_at(names: &Resolved, token: usize) -> Option<usize>
     ensures { result ≡ position_from (λ other. other == token) 0 names.now.uses }
 {

@@ -1,4 +1,4 @@
-//! Writes the text of a value.
+//! Defines the text that is written in a module for a value.
 
 ghost use Rattle.std.specs.Prelude.{◌≡◌, IfOk, IsTrue, string_bytes};
 ghost use Rattle.ob0_edits_tokens.specs.Replaced.{ReplacesName};
@@ -11,8 +11,9 @@ ghost use Rattle.ob0_inline.specs.Values.{value_text, value_words};
 use ob0_language_values::Scalar;
 use std::alloc::{AllocError, Global};
 
-/// Returns the text of a value. A negative number is in parentheses. The least number is written as
-/// a difference, because 2147483648 is too large for an integer literal.
+/// Returns the text that is written for a value. A negative number is in parentheses. The least
+/// 32-bit number is written as a difference, because 2147483648 is too large for an integer
+/// literal.
 pub(crate) fn value_text(alloc: Global, value: Scalar) -> Result<String, AllocError>
     ensures text { IfOk result (λ text. string_bytes text ≡ value_text value) }
     ensures can_replace { ReplacesName (value_text value) (value_words value) }
@@ -27,8 +28,8 @@ pub(crate) fn value_text(alloc: Global, value: Scalar) -> Result<String, AllocEr
     }
 }
 
-/// Returns the text of a number, in parentheses if it is negative. The least number is written as a
-/// difference, because 2147483648 is too large for an integer literal.
+/// Returns the text of a number, in parentheses if the number is negative. The least 32-bit number
+/// is written as a difference, because 2147483648 is too large for an integer literal.
 fn number_text(alloc: Global, number: i32) -> Result<String, AllocError>
     ensures { IfOk result (λ text. string_bytes text ≡ number_text number) }
 {
@@ -41,12 +42,12 @@ fn number_text(alloc: Global, number: i32) -> Result<String, AllocError>
     format!(in alloc; "{number}")
 }
 
-/// Does nothing. Its contract states that the text of a 32-bit number may replace any identifier.
+/// Proves that the text of a 32-bit number may replace any identifier. The function has no effect.
 fn number_replaces_name(number: i32)
     ensures { ReplacesName (number_text number) (number_words number) }
 {}
 
-/// Does nothing. Its contract states that a value is a 32-bit number or a truth value.
+/// Proves that a value is a 32-bit number or a truth value. The function has no effect.
 pub(crate) fn value_is_scalar(value: Scalar)
     ensures { IsScalar (scalar_value value) }
 {
@@ -55,7 +56,7 @@ pub(crate) fn value_is_scalar(value: Scalar)
     }
 }
 
-/// Does nothing. Its contract states that the number fits in 32 bits.
+/// Proves that the number fits in 32 bits. The function has no effect.
 fn number_fits(number: i32)
     ensures { IsTrue (fits number) }
 {

@@ -1,4 +1,4 @@
--- States that inlining has an answer for each text.
+-- States that requests to inline a constant have an answer for each text.
 -- Rule: docs/PROTOCOL.md, Requests on documents 9.
 use Rattle.std.specs.Prelude.{ℕ, List}
 use Rattle.ob0_text.specs.declared.position_types.Position.{Position}
@@ -9,16 +9,18 @@ use Rattle.ob0_world_rules.specs.Asks.{inline_here, inline_all}
 use Rattle.ob0_world_rules.specs.Language.{WellTypedText}
 use Rattle.ob0_world_rules.specs.Laws.{HasAnswers}
 
--- states that the code has a parsed module for each well-typed text
+-- States that each well-typed text is read as some parsed module.
 abbrev pub EachIsRead : Type 0
 EachIsRead = (text : List ℕ) → WellTypedText text → (m : ParsedModule) × IsReadAs (utf8 text) m
 
--- States that it can't be, for any text, that a request to inline a constant at a use has no
--- answer. This rests on a parsed module for each well-typed text.
+-- States that a request to inline a constant at a use has an answer for each text and each
+-- position, under one condition. The condition is that each well-typed text is read as some parsed
+-- module. `HasAnswers` is a double negation: it says that an answer can't be missing.
 abbrev pub InliningHereHasAnswers : Type 0
 InliningHereHasAnswers = EachIsRead → (position : Position) → HasAnswers (inline_here position)
 
--- States that it can't be, for any text, that a request to inline a constant everywhere has no
--- answer. This rests on a parsed module for each well-typed text.
+-- States that a request to inline a constant everywhere has an answer for each text and each
+-- position, under one condition. The condition is that each well-typed text is read as some parsed
+-- module. `HasAnswers` is a double negation: it says that an answer can't be missing.
 abbrev pub InliningEverywhereHasAnswers : Type 0
 InliningEverywhereHasAnswers = EachIsRead → (position : Position) → HasAnswers (inline_all position)

@@ -1,4 +1,4 @@
-//! Proves laws that inlining has answers.
+//! Proves that requests to inline a constant have answers.
 
 ghost use Rattle.ob0_inline_answers.specs.InlineAnswers.{InliningEverywhereHasAnswers, InliningHereHasAnswers};
 
@@ -7,7 +7,8 @@ use ob0_language_runs::laws::{
 };
 use ob0_language_types::laws::constant_uses_are_factors;
 
-/// Proves that each request to inline a constant at a use has an answer, if each well-typed text is read as a module.
+/// Proves that each request to inline a constant at a use has an answer, if each well-typed text is
+/// read as a module.
 pub fn inlining_here_has_answers()
     ensures { InliningHereHasAnswers }
 {
@@ -15,7 +16,8 @@ pub fn inlining_here_has_answers()
     inlining_keeps_typing_and_runs();
 }
 
-/// Proves that each request to inline a constant everywhere has an answer, if each well-typed text is read as a module.
+/// Proves that each request to inline a constant everywhere has an answer, if each well-typed text
+/// is read as a module.
 pub fn inlining_everywhere_has_answers()
     ensures { InliningEverywhereHasAnswers }
 {

@@ -1,5 +1,5 @@
--- Laws of renamed fields: a well-typed module remains well-typed and has the same runs, if
--- different fields of a record get different names.
+-- Laws of renamed fields: a well-typed module remains well-typed and has the same runs if different fields of the same
+-- record get different names.
 -- Rule: none; laws of fields under other names.
 use Rattle.std.specs.Prelude.{◌≡◌, ℕ, Some}
 use Rattle.ob0_tree.specs.Tree.{Tree, module_text}
@@ -9,20 +9,20 @@ use Rattle.ob0_language_runs.specs.EditLaws.{HaveSameRuns}
 use Rattle.ob0_language_fields.specs.Fields.{FieldRenaming, rename_fields_in_module}
 use Rattle.ob0_language_fields.specs.Renaming.{IsFreeFieldName, with_renamed_field}
 
--- holds if, in each record, two field names get the same new name exactly if they are the same
+-- states that two fields of the same record get the same new name exactly if their old names are equal
 abbrev pub KeepsFieldsDistinct : FieldRenaming → Type 0
 KeepsFieldsDistinct l = (k : ℕ) (x y : Name) → same_name (l (Some k) x) (l (Some k) y) ≡ same_name x y
 
--- Renaming fields doesn't change whether a module's declarations and statements are well-typed, if
--- different fields of a record get different names.
+-- States that renaming fields doesn't change whether a module's declarations and statements are well-typed. Different
+-- fields of the same record must get different names.
 abbrev pub FieldRenamingKeepsTypeCheck : Type 0
 FieldRenamingKeepsTypeCheck =
     (l : FieldRenaming) (m : Tree Name module_text)
     → KeepsFieldsDistinct l
     → fits_over naming_by_spelling (rename_fields_in_module l m) ≡ fits_over naming_by_spelling m
 
--- A well-typed module remains well-typed and has the same runs after its fields are renamed, if
--- different fields of a record get different names.
+-- States that a well-typed module remains well-typed and has the same runs if its fields are renamed. Different fields
+-- of the same record must get different names.
 abbrev pub FieldRenamingKeepsTypingAndRuns : Type 0
 FieldRenamingKeepsTypingAndRuns =
     (l : FieldRenaming) (m : Tree Name module_text)
@@ -30,7 +30,8 @@ FieldRenamingKeepsTypingAndRuns =
     → WellTyped m
     → WellTyped (rename_fields_in_module l m) × HaveSameRuns (rename_fields_in_module l m) m
 
--- A well-typed module remains well-typed and has the same runs after a field is renamed to a free name.
+-- States that a well-typed module remains well-typed and has the same runs if a field is renamed to a free name. A free
+-- name is a name that no other field of the record has.
 abbrev pub FreeFieldRenamingKeepsTypingAndRuns : Type 0
 FreeFieldRenamingKeepsTypingAndRuns =
     (m : Tree Name module_text) (r : ℕ) (f new : Name)

@@ -2,19 +2,20 @@
 
 ghost use Rattle.ob0_language_field_laws.specs.FieldLaws.{FreeFieldRenamingKeepsTypingAndRuns, FieldRenamingKeepsTypeCheck, FieldRenamingKeepsTypingAndRuns};
 
-/// Proves that renaming fields doesn't change whether a module's declarations and statements are well-typed. Different
-/// fields of a record must get different names.
+/// Proves that renaming fields doesn't change whether a module's declarations and statements are
+/// well-typed. Different fields of the same record must get different names.
 pub fn field_renaming_keeps_type_check()
     ensures { FieldRenamingKeepsTypeCheck }
 {}
 
-/// Proves that a well-typed module remains well-typed and has the same runs after its fields are renamed. Different
-/// fields of a record must get different names.
+/// Proves that a well-typed module remains well-typed and has the same runs if its fields are
+/// renamed. Different fields of the same record must get different names.
 pub fn field_renaming_keeps_typing_and_runs()
     ensures { FieldRenamingKeepsTypingAndRuns }
 {}
 
-/// Proves that a well-typed module remains well-typed and has the same runs after a field is renamed to a free name.
+/// Proves that a well-typed module remains well-typed and has the same runs if a field is renamed
+/// to a free name. A free name is a name that no other field of the record has.
 pub fn free_field_renaming_keeps_typing_and_runs()
     ensures { FreeFieldRenamingKeepsTypingAndRuns }
 {}

@@ -1,5 +1,5 @@
 -- Modules with renamed fields. A field is renamed at its declaration in a record and in each
--- selector that selects it.
+-- selector that selects this field.
 -- Rule: docs/LANGUAGE.md, Scopes 7.
 use Rattle.std.specs.Prelude.{ℕ, suc, ◌+◌, List, [], Some, None, Option, option_and_then, unwrap_or}
 use Rattle.ob0_tree.specs.Tree.{Item, Sort, Tree, adds, array_type, assigns, begins, block, branches, calls, compares, declares, declares_procedure, declares_type, declares_types, declares_variable, declares_variables, designator, else_branch, elsif_branch, end, field, fields, formals, further_fields, further_section, has_body, index, is_module, item, items, maybe, module_text, more, multiplies, named_type, negation, no_fields, no_formals, none, one, parenthesised, procedure, product, record_type, relates, repeat_loop, runs, section, some_arguments, some_fields, some_formals, sum, then_argument, then_fields, then_section, then_statement, type_name, type_names, value_section, variable, variable_section, variables, while_loop, written_type}
@@ -13,12 +13,13 @@ use Rattle.ob0_language_types.specs.WellTyped.{TypeEnvironment, TypeMeanings, Ty
 use Rattle.ob0_language_values.specs.Values.{Shape, array_shape, boolean_shape, integer_shape, record_shape}
 
 -- A function that returns the new name of a field. Its arguments are the ordinal of the field's
--- record and the field's present name. The ordinal is the number of words ARRAY and RECORD before
--- the record, or None if the record is unknown.
+-- record and the field's old name. The ordinal is the number of words ARRAY and RECORD before the
+-- record, or None if the record is unknown.
 abbrev pub FieldRenaming : Type 0
 FieldRenaming = Option ℕ → Name → Name
 
--- returns the ordinal of a record type; None for any other type and for None
+-- returns the ordinal of a record type: the number of words ARRAY and RECORD before its RECORD;
+-- None for any other type and for None
 abbrev pub record_ordinal : Option Shape → Option ℕ
 record_ordinal None = None
 record_ordinal (Some integer_shape) = None
@@ -26,15 +27,16 @@ record_ordinal (Some boolean_shape) = None
 record_ordinal (Some (array_shape k n s)) = None
 record_ordinal (Some (record_shape k fs)) = Some k
 
--- returns the type of a designator with one more selector; `s` is its type without this selector;
--- None if `s` has no such field or element
+-- returns the type of a designator including one more selector; `s` is the type of the designator
+-- before this selector; returns None if `s` has no such field or element
 abbrev pub select_type : {i : Item} → Option Shape → Tree Name (item i) → Option Shape
 select_type s (field x) = option_and_then (λ t. field_type t x) s
 select_type s (index e) = option_and_then (λ t. element_type t integer_shape) s
 select_type s _ = s
 
--- Renames the selected fields in a part of a statement. A field belongs to the record from which it
--- is selected. If the part is a list of selectors, `s` is the type of the designator without them.
+-- Returns a statement or a part of a statement with the selected fields renamed. A field belongs to
+-- the record from which it is selected. If the part is a list of selectors, `s` is the type of the
+-- designator before these selectors.
 abbrev pub rename_fields : {s : Sort} → FieldRenaming → TypeMeanings Name → Option Shape → Tree Name s → Tree Name s
 rename_fields l meaning s (more t ts) =
     more (rename_fields l meaning s t) (rename_fields l meaning (select_type s t) ts)
@@ -77,12 +79,12 @@ rename_fields l meaning s (else_branch a) = else_branch (rename_fields l meaning
 rename_fields l meaning s (begins a) = begins (rename_fields l meaning None a)
 rename_fields l meaning s t = t
 
--- Renames the fields that a written type declares. `k` is the number of words ARRAY and RECORD
--- before the part. `r` is the ordinal of the record to which a group of fields belongs. The length
--- of an array is unchanged, because a constant expression has no selectors.
+-- Renames the fields that a written type or a part of it declares. `k` is the number of words ARRAY
+-- and RECORD before this part. `r` is the ordinal of the record to which a group of fields belongs.
+-- The length of an array is unchanged, because a constant expression has no selectors.
 abbrev mutual
   -- returns a written type with its fields renamed; `k` is the number of words ARRAY and RECORD
-  -- before it
+  -- before the written type
   pub rename_fields_in_type : FieldRenaming → ℕ → Tree Name written_type → Tree Name written_type
   rename_fields_in_type l k (named_type x) = named_type x
   rename_fields_in_type l k (array_type e t) = array_type e (rename_fields_in_type l (suc k) t)
@@ -90,15 +92,15 @@ abbrev mutual
       record_type (rename_fields_in_group l k (suc k) g)
       (rename_fields_in_groups l k (suc k + group_constructor_count g) rest)
 
-  -- renames the fields of a group that belongs to the record `r`, and the fields in their type; `k`
-  -- is the number of words ARRAY and RECORD before that type
+  -- returns a group of fields of the record with ordinal `r`, with its fields and the fields in its
+  -- type renamed; `k` is the number of words ARRAY and RECORD before that type
   pub rename_fields_in_group : FieldRenaming → ℕ → ℕ → Tree Name fields → Tree Name fields
   rename_fields_in_group l r k no_fields = no_fields
   rename_fields_in_group l r k (some_fields ns t) =
       some_fields (map_names (λ x. x) (l (Some r)) ns) (rename_fields_in_type l k t)
 
-  -- renames all fields of further groups that belong to the record `r`; `k` is the number of words
-  -- ARRAY and RECORD before these groups
+  -- returns the groups of the record with ordinal `r` after its first group, with all fields
+  -- renamed; `k` is the number of words ARRAY and RECORD before these groups
   pub rename_fields_in_groups : FieldRenaming
       → ℕ
       → ℕ
@@ -109,8 +111,8 @@ abbrev mutual
       more (then_fields (rename_fields_in_group l r k g))
       (rename_fields_in_groups l r (k + group_constructor_count g) rest)
 
--- returns declarations of types with their fields renamed; `k` is the number of words ARRAY and
--- RECORD before them
+-- returns declarations of types with the fields in these types renamed; `k` is the number of words
+-- ARRAY and RECORD before these declarations
 abbrev pub rename_fields_in_types : FieldRenaming
     → ℕ
     → Tree Name (items type_name)
@@ -119,8 +121,8 @@ rename_fields_in_types l k end = end
 rename_fields_in_types l k (more (declares_type x u) ds) =
     more (declares_type x (rename_fields_in_type l k u)) (rename_fields_in_types l (k + constructor_count u) ds)
 
--- returns a TYPE section with its fields renamed; `k` is the number of words ARRAY and RECORD
--- before it
+-- returns a TYPE section with the fields in its types renamed; `k` is the number of words ARRAY and
+-- RECORD before the section
 abbrev pub rename_fields_in_type_section : FieldRenaming
     → ℕ
     → Tree Name (maybe type_names)
@@ -128,8 +130,8 @@ abbrev pub rename_fields_in_type_section : FieldRenaming
 rename_fields_in_type_section l k none = none
 rename_fields_in_type_section l k (one (declares_types ts)) = one (declares_types (rename_fields_in_types l k ts))
 
--- returns declarations of variables with their fields renamed; `k` is the number of words ARRAY and
--- RECORD before them
+-- returns declarations of variables with the fields in their types renamed; `k` is the number of
+-- words ARRAY and RECORD before these declarations
 abbrev pub rename_fields_in_variables : FieldRenaming
     → ℕ
     → Tree Name (items variable)
@@ -138,8 +140,8 @@ rename_fields_in_variables l k end = end
 rename_fields_in_variables l k (more (declares_variable ns u) gs) =
     more (declares_variable ns (rename_fields_in_type l k u)) (rename_fields_in_variables l (k + constructor_count u) gs)
 
--- returns a VAR section with its fields renamed; `k` is the number of words ARRAY and RECORD before
--- it
+-- returns a VAR section with the fields in its types renamed; `k` is the number of words ARRAY and
+-- RECORD before the section
 abbrev pub rename_fields_in_variable_section : FieldRenaming
     → ℕ
     → Tree Name (maybe variables)
@@ -148,14 +150,14 @@ rename_fields_in_variable_section l k none = none
 rename_fields_in_variable_section l k (one (declares_variables vs)) =
     one (declares_variables (rename_fields_in_variables l k vs))
 
--- returns a section of parameters with its fields renamed; `k` is the number of words ARRAY and
--- RECORD before it
+-- returns a section of parameters with the fields in its type renamed; `k` is the number of words
+-- ARRAY and RECORD before the section
 abbrev pub rename_fields_in_section : FieldRenaming → ℕ → Tree Name section → Tree Name section
 rename_fields_in_section l k (value_section ns u) = value_section ns (rename_fields_in_type l k u)
 rename_fields_in_section l k (variable_section ns u) = variable_section ns (rename_fields_in_type l k u)
 
--- returns further sections of parameters with their fields renamed; `k` is the number of words
--- ARRAY and RECORD before them
+-- returns the sections of parameters after the first section, with the fields in their types
+-- renamed; `k` is the number of words ARRAY and RECORD before these sections
 abbrev pub rename_fields_in_sections : FieldRenaming
     → ℕ
     → Tree Name (items further_section)
@@ -165,8 +167,8 @@ rename_fields_in_sections l k (more (then_section f) fs) =
     more (then_section (rename_fields_in_section l k f))
     (rename_fields_in_sections l (k + constructor_count (section_type f)) fs)
 
--- returns formal parameters with their fields renamed; `k` is the number of words ARRAY and RECORD
--- before them
+-- returns formal parameters with the fields in their types renamed; `k` is the number of words
+-- ARRAY and RECORD before the parameters
 abbrev pub rename_fields_in_formals : FieldRenaming → ℕ → Tree Name (maybe formals) → Tree Name (maybe formals)
 rename_fields_in_formals l k none = none
 rename_fields_in_formals l k (one no_formals) = one no_formals
@@ -174,22 +176,23 @@ rename_fields_in_formals l k (one (some_formals f fs)) =
     one (some_formals (rename_fields_in_section l k f)
     (rename_fields_in_sections l (k + constructor_count (section_type f)) fs))
 
--- Returns the environment with a block's constants, types and variables added, or `env` unchanged
--- if one of these has an error. `k` is the number of words ARRAY and RECORD before the block.
+-- Returns the environment `env` with a block's constants, types and variables added. Returns `env`
+-- unchanged if one of these declarations has an error. `k` is the number of words ARRAY and RECORD
+-- before the block.
 abbrev pub environment_after_variables : TypeEnvironment Name → ℕ → Tree Name block → TypeEnvironment Name
 environment_after_variables env k b =
     unwrap_or (option_and_then (declare_typed naming_by_spelling (constructor_after_types k b) (block_variables b))
     (declare_first naming_by_spelling env k b)) env
 
--- returns the parameters of a procedure, or an empty list if one has an error; `k` is the number of
--- words ARRAY and RECORD before the procedure
+-- returns the parameters of a procedure, or an empty list if a parameter's type has an error; `k`
+-- is the number of words ARRAY and RECORD before the procedure
 abbrev pub parameters_of : TypeEnvironment Name
     → ℕ
     → Tree Name (item procedure)
     → List (TypedParameter Name)
 parameters_of env k p = unwrap_or (typed_parameters naming_by_spelling env k (procedure_formals p)) []
 
--- returns the environment with a procedure's name added; `k` is the number of words ARRAY and
+-- returns the environment `env` with a procedure's name added; `k` is the number of words ARRAY and
 -- RECORD before the procedure
 abbrev pub environment_after_heading : TypeEnvironment Name
     → ℕ
@@ -197,8 +200,8 @@ abbrev pub environment_after_heading : TypeEnvironment Name
     → TypeEnvironment Name
 environment_after_heading env k p = bind_procedure (procedure_name p) (parameters_of env k p) env
 
--- returns the environment with these procedures added; `k` is the number of words ARRAY and RECORD
--- before them
+-- returns the environment `env` with the names of these procedures added; `k` is the number of
+-- words ARRAY and RECORD before the procedures
 abbrev pub environment_after_procedures : TypeEnvironment Name
     → ℕ
     → Tree Name (items procedure)
@@ -207,10 +210,11 @@ environment_after_procedures env k end = env
 environment_after_procedures env k (more p rest) =
     environment_after_procedures (environment_after_heading env k p) (k + procedure_constructor_count p) rest
 
--- Returns a block with its fields renamed. `k` is the number of words ARRAY and RECORD before the
--- part. Constants have no fields.
+-- Returns a block, its procedures or one procedure, with all fields renamed. `k` is the number of
+-- words ARRAY and RECORD before this part. Constants have no fields.
 abbrev mutual
-  -- returns a block with the fields of its types, variables, procedures and statements renamed
+  -- returns a block with the fields in its types, variables, procedures and statements renamed;
+  -- `env` is the environment around the block
   pub rename_fields_in_block : FieldRenaming → TypeEnvironment Name → ℕ → Tree Name block → Tree Name block
   rename_fields_in_block l env k (has_body (declares cs ts vs ps) statements) =
       has_body
@@ -223,7 +227,7 @@ abbrev mutual
       (environment_after_variables env k (has_body (declares cs ts vs ps) statements))
       (constructor_after_variables k (has_body (declares cs ts vs ps) statements)) ps)) None statements)
 
-  -- returns procedures with their fields renamed; each procedure is visible to the later ones
+  -- returns procedures with their fields renamed; each procedure is visible in the later procedures
   pub rename_fields_in_procedures : FieldRenaming
       → TypeEnvironment Name
       → ℕ
@@ -235,8 +239,8 @@ abbrev mutual
       p)
       (rename_fields_in_procedures l (environment_after_heading env k p) (k + procedure_constructor_count p) rest)
 
-  -- returns a procedure with its fields renamed; `env` is the environment of its block,
-  -- which has the procedure and its parameters
+  -- returns a procedure with its fields renamed; `env` is the environment around the procedure's
+  -- block and already binds the procedure's name and parameters
   pub rename_fields_in_procedure : FieldRenaming
       → TypeEnvironment Name
       → ℕ
@@ -246,6 +250,6 @@ abbrev mutual
       declares_procedure x (rename_fields_in_formals l k fs)
       (rename_fields_in_block l env (constructor_after_formals k (declares_procedure x fs b closing)) b) closing
 
--- returns a module with its fields renamed
+-- returns a module with its fields renamed by the function `l`
 abbrev pub rename_fields_in_module : FieldRenaming → Tree Name module_text → Tree Name module_text
 rename_fields_in_module l (is_module x b closing) = is_module x (rename_fields_in_block l (outermost naming_by_spelling) 0 b) closing

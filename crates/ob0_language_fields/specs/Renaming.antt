@@ -12,12 +12,14 @@ use Rattle.ob0_language_types.specs.Declarations.{constructor_after_formals, con
 use Rattle.ob0_language_types.specs.Typing.{constructor_count, group_constructor_count}
 use Rattle.ob0_language_fields.specs.Fields.{FieldRenaming, rename_fields_in_module}
 
--- returns the renaming that changes only the field `f` of the record `r`, to the name `new`
+-- returns the renaming that gives the name `new` to the field `f` of the record with ordinal `r` and changes no other
+-- field; a record's ordinal is the number of words ARRAY and RECORD before the record
 abbrev pub single_field_renaming : ℕ → Name → Name → FieldRenaming
 single_field_renaming r f new owner x = if same_ordinal owner r && same_name x f then new else x
 
--- returns the module in which the field `f` of the record `r` becomes `new`, both at its declaration and in each
--- selector that selects it
+-- Returns the module in which the field `f` of the record with ordinal `r` is renamed to `new`. The field is renamed at
+-- its declaration and in each selector that selects the field. A record's ordinal is the number of words ARRAY and
+-- RECORD before the record in the text.
 abbrev pub with_renamed_field : Tree Name module_text → ℕ → Name → Name → Tree Name module_text
 with_renamed_field m r f new = rename_fields_in_module (single_field_renaming r f new) m
 
@@ -26,10 +28,9 @@ pub record RecordFields : Type 0 where
   pub ordinal : ℕ
   pub declared : List Name
 
--- Returns the records in a written type. `k` is the number of words ARRAY and RECORD before the
--- part.
+-- Returns the records in a written type or a part of it. `k` is the number of words ARRAY and RECORD before this part.
 abbrev mutual
-  -- returns the records in a written type; an outer record comes before the records within it
+  -- returns the records in a written type, in the order of their words RECORD in the text
   pub records_in_type : ℕ → Tree Name written_type → List RecordFields
   records_in_type k (named_type x) = []
   records_in_type k (array_type e t) = records_in_type (suc k) t
@@ -42,7 +43,7 @@ abbrev mutual
   records_in_group k no_fields = []
   records_in_group k (some_fields ns t) = records_in_type k t
 
-  -- returns the records in the types of further groups of fields
+  -- returns the records in the types of a record's groups after its first group
   pub records_in_groups : ℕ → Tree Name (items further_fields) → List RecordFields
   records_in_groups k end = []
   records_in_groups k (more (then_fields g) rest) =
@@ -69,8 +70,8 @@ records_in_sections k end = []
 records_in_sections k (more (then_section f) fs) =
     records_in_type k (section_type f) ++ records_in_sections (k + constructor_count (section_type f)) fs
 
--- Returns the records of a block or of its procedures. `k` is the number of words ARRAY and RECORD
--- before the part.
+-- Returns the records in a block or in its procedures, in text order. `k` is the number of words ARRAY and RECORD
+-- before this part.
 abbrev mutual
   -- returns the records in the types, the variables and the procedures of a block
   pub records_in_block : ℕ → Tree Name block → List RecordFields
@@ -80,7 +81,7 @@ abbrev mutual
       (section_variables vs)
       ++ records_in_procedures (constructor_after_variables k (has_body (declares cs ts vs ps) statements)) ps)
 
-  -- returns the records of procedures, in text order
+  -- returns the records in procedures, in text order
   pub records_in_procedures : ℕ → Tree Name (items procedure) → List RecordFields
   records_in_procedures k end = []
   records_in_procedures k (more p rest) =
@@ -92,19 +93,21 @@ abbrev mutual
       records_in_sections k (formal_sections fs)
       ++ records_in_block (constructor_after_formals k (declares_procedure x fs b closing)) b
 
--- returns the records of a module, in text order
+-- returns all records of a module, in the order of their words RECORD in the text
 abbrev pub records : Tree Name module_text → List RecordFields
 records m = records_in_block 0 (module_block m)
 
--- returns true if the name `new` is in the list of a record's fields, as a field other than `f`
+-- returns whether the list `xs` of a record's fields has a field named `new` other than the field `f`
 abbrev pub another_field_has_name : List Name → Name → Name → Bool
 another_field_has_name xs f new = list_any (λ x. same_name x new && not (same_name x f)) xs
 
--- returns true if a field of the record `r` other than `f` has the new name
+-- returns whether a field other than `f` in the record with ordinal `r` has the name `new`; a record's ordinal is the
+-- number of words ARRAY and RECORD before the record
 abbrev pub is_duplicate_field : Tree Name module_text → ℕ → Name → Name → Bool
 is_duplicate_field m r f new =
     list_any (λ t. (t.ordinal == r) && another_field_has_name t.declared f new) (records m)
 
--- holds if a new name for the field `f` of the record `r` is free: no other field of that record has it
+-- states that the name `new` is free for the field `f` of the record with ordinal `r`: no other field of this record
+-- has the name
 abbrev pub IsFreeFieldName : Tree Name module_text → ℕ → Name → Name → Type 0
 IsFreeFieldName m r f new = is_duplicate_field m r f new ≡ false

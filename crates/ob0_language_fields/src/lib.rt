@@ -1,2 +1,3 @@
-//! Defines the fields of a module's records and modules with renamed fields. Has lemmas about both.
+//! Defines the fields of a module's records, and the module that results from renaming fields.
+//! Proves lemmas about both.
 #![tactic(auto)]

@@ -1,4 +1,4 @@
--- Inlining a constant: a factor replaces its uses, and its declaration may be removed.
+-- Inlining a constant: a factor replaces uses of the constant, and the constant's declaration may be removed.
 -- Rule: docs/PROTOCOL.md, Requests on documents 9.
 use Rattle.std.specs.Prelude.{ℕ, suc, ◌+◌, Bool, length, if◌then◌else◌, ◌==◌}
 use Rattle.ob0_tree.specs.Tree.{Sort, Tree, adds, array_type, assigns, begins, block, branches, calls, compares, constant, constants, declares, declares_constant, declares_constants, declares_procedure, declares_type, declares_types, declares_variable, declares_variables, designator, else_branch, elsif_branch, empty, end, factor, field, has_body, index, integer, is_module, item, items, listed, maybe, module_text, more, multiplies, named_type, negation, no_arguments, no_fields, no_formals, none, occurrences, one, parenthesised, procedure, product, record_type, relates, repeat_loop, runs, some_arguments, some_fields, some_formals, sum, then_argument, then_fields, then_name, then_section, then_statement, value_section, variable_section, while_loop}
@@ -7,13 +7,13 @@ use Rattle.ob0_language_names.specs.Occurrences.{binds}
 use Rattle.ob0_language_names.specs.Parts.{formal_names, formal_sections}
 use Rattle.ob0_language_names.specs.Scopes.{ordinal_after_names, ordinal_after_procedure, first_procedure_ordinal, predeclared_count, same_ordinal}
 
--- a set of occurrences, which a factor replaces: a function that returns true for the number of
--- each of them; occurrences are counted from 0 in text order
+-- a set of occurrences: a function that returns true for the number of each occurrence in the set; occurrences are
+-- numbered from 0 in text order
 abbrev pub OccurrenceSet : Type 0
 OccurrenceSet = ℕ → Bool
 
--- Returns the tree in which the factor `v` replaces each occurrence in the set `uses` that is a
--- whole factor. `k` is the number of the tree's first occurrence.
+-- Returns the tree in which the factor `v` replaces each occurrence in the set `uses` that is a whole factor. `k` is
+-- the number of the tree's first occurrence in its module.
 abbrev pub inline_in : {s : Sort} → OccurrenceSet → Tree Name factor → ℕ → Tree Name s → Tree Name s
 inline_in uses v k none = none
 inline_in uses v k (one t) = one (inline_in uses v k t)
@@ -107,12 +107,13 @@ inline_in uses v k (is_module name b closing) = is_module name (inline_in uses v
 abbrev pub inlined : Tree Name module_text → OccurrenceSet → Tree Name factor → Tree Name module_text
 inlined m uses v = inline_in uses v 0 m
 
--- returns a list of constants without the constant with ordinal `d`; `k` is the ordinal of the first one
+-- returns a list of constants without the constant with ordinal `d`; `k` is the ordinal of the first constant in the
+-- list
 abbrev pub constants_without : ℕ → ℕ → Tree Name (items constant) → Tree Name (items constant)
 constants_without d k end = end
 constants_without d k (more c cs) = if k == d then cs else more c (constants_without d (suc k) cs)
 
--- returns a CONST section without the constant with ordinal `d`; `k` is the ordinal of its first constant
+-- returns a CONST section without the constant with ordinal `d`; `k` is the ordinal of the section's first constant
 abbrev pub section_without : ℕ → ℕ → Tree Name (maybe constants) → Tree Name (maybe constants)
 section_without d k none = none
 section_without d k (one (declares_constants cs)) = one (declares_constants (constants_without d k cs))
@@ -131,25 +132,26 @@ abbrev mutual
   procedures_without d k (more p rest) =
       more (procedure_without d (suc k) p) (procedures_without d (ordinal_after_procedure (suc k) p) rest)
 
-  -- returns a procedure without the constant with ordinal `d`; the procedure itself has ordinal
-  -- `k - 1`, and its first parameter `k`
+  -- returns a procedure without the constant with ordinal `d`; the procedure itself has ordinal `k - 1`, and its first
+  -- parameter has ordinal `k`
   pub procedure_without : ℕ → ℕ → Tree Name (item procedure) → Tree Name (item procedure)
   procedure_without d k (declares_procedure x fs b closing) =
       declares_procedure x fs
       (block_without d (ordinal_after_names k (formal_names (formal_sections fs))) b) closing
 
--- returns a module without the constant with ordinal `d`
+-- returns a module without the declaration of the constant with ordinal `d`
 abbrev pub module_without : ℕ → Tree Name module_text → Tree Name module_text
 module_without d (is_module x b closing) = is_module x (block_without d predeclared_count b) closing
 
--- returns the set that contains only the occurrence with this number
+-- returns the set that contains only one occurrence, given by its number
 abbrev pub single_occurrence : ℕ → OccurrenceSet
 single_occurrence occurrence k = k == occurrence
 
--- returns the set of the occurrences that are bound to the declaration `d`
+-- returns the set of the occurrences that are bound to the declaration with ordinal `d`
 abbrev pub occurrences_bound_to : Tree Name module_text → ℕ → OccurrenceSet
 occurrences_bound_to m d k = same_ordinal (binds m k) d
 
--- returns the module in which the factor `v` replaces all uses of the constant `d`, and which doesn't declare `d`
+-- returns the module in which the factor `v` replaces all uses of the constant with ordinal `d`, and in which the
+-- constant's declaration is removed
 abbrev pub inlined_everywhere : Tree Name module_text → ℕ → Tree Name factor → Tree Name module_text
 inlined_everywhere m d v = module_without d (inlined m (occurrences_bound_to m d) v)

@@ -1,4 +1,4 @@
--- Laws of names.
+-- The law that renaming to a free name changes no binding.
 -- Rule: none; laws of names.
 use Rattle.std.specs.Prelude.{◌≡◌, ℕ}
 use Rattle.ob0_tree.specs.Tree.{Tree, module_text}
@@ -6,7 +6,8 @@ use Rattle.ob0_language_names.specs.Names.{Name}
 use Rattle.ob0_language_names.specs.Occurrences.{Free}
 use Rattle.ob0_language_names.specs.Scopes.{numbered, renamed}
 
--- If a new name is free, the renamed module has the same numbered tree as the original module.
+-- States that renaming a declaration to a free name doesn't change the module's numbered tree. This
+-- tree has the ordinal of its declaration in place of each bound name.
 abbrev pub FreeRenamingKeepsNumbering : Type 0
 FreeRenamingKeepsNumbering =
     (m : Tree Name module_text) (d : ℕ) (new : Name)

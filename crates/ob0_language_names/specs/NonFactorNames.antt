@@ -4,7 +4,7 @@
 use Rattle.std.specs.Prelude.{List, [], ◌++◌, ◌∷◌}
 use Rattle.ob0_tree.specs.Tree.{Sort, Tree, adds, array_type, assigns, begins, branches, calls, compares, declares, declares_constant, declares_constants, declares_procedure, declares_type, declares_types, declares_variable, declares_variables, designator, else_branch, elsif_branch, empty, end, field, has_body, index, integer, is_module, listed, more, multiplies, named_type, negation, no_arguments, no_fields, no_formals, none, one, parenthesised, product, record_type, relates, repeat_loop, runs, some_arguments, some_fields, some_formals, sum, then_argument, then_fields, then_name, then_section, then_statement, value_section, variable_section, while_loop}
 
--- returns the looked-up names of a tree, except each name that is a whole factor
+-- returns the looked-up names of a tree in text order, except the names that are whole factors
 abbrev pub non_factor_names : {N : Type 0} {s : Sort} → Tree N s → List N
 non_factor_names none = []
 non_factor_names (one t) = non_factor_names t

@@ -1,4 +1,5 @@
--- The declaration to which another name would be bound if it replaced an occurrence.
+-- The declaration to which a name would be bound if the name replaced an occurrence of another
+-- name.
 -- Rule: docs/PROTOCOL.md, Refusals of edits (Shadowed).
 use Rattle.std.specs.Prelude.{List, Option, map, option_and_then, slice_get, ℕ}
 use Rattle.ob0_tree.specs.Tree.{Tree, module_text, occurrences}
@@ -6,19 +7,20 @@ use Rattle.ob0_language_names.specs.Names.{Name, Naming, predeclared_name, same_
 use Rattle.ob0_language_names.specs.Occurrences.{label_ordinal}
 use Rattle.ob0_language_names.specs.Scopes.{label_from_ordinal, relabel_module}
 
--- the interpretation of names in which each looked-up name counts as `y`
+-- the interpretation of names in which each looked-up name is treated as the name `y`
 abbrev pub lookup_naming : Name → Naming Name
 lookup_naming y = record { same = λ x. same_name y; written = λ x. x; predeclared = predeclared_name }
 
--- returns the ordinal of the declaration to which `y` would be bound if it replaced this
--- occurrence; None if nothing would bind it
+-- Returns the ordinal of the declaration to which the name `y` would be bound if `y` replaced this
+-- occurrence. Occurrences are numbered from 0 in text order. Returns None if `y` would be unbound
+-- or there is no such occurrence.
 abbrev pub resolve_at_occurrence : Tree Name module_text → ℕ → Name → Option ℕ
 resolve_at_occurrence m occurrence y =
     option_and_then label_ordinal
     (slice_get (occurrences (relabel_module (lookup_naming y) (label_from_ordinal (lookup_naming y)) m)) occurrence)
 
--- returns, for each occurrence in text order, the ordinal to which `y` would be bound if it
--- replaced the occurrence; None if nothing would bind it
+-- returns, for each occurrence in text order, the ordinal of the declaration to which the name `y`
+-- would be bound if `y` replaced this occurrence; None if `y` would be unbound
 abbrev pub resolve_at_occurrences : Tree Name module_text → Name → List (Option ℕ)
 resolve_at_occurrences m y =
     map label_ordinal (occurrences (relabel_module (lookup_naming y) (label_from_ordinal (lookup_naming y)) m))

@@ -7,32 +7,33 @@ use Rattle.ob0_language_names.specs.Parts.{formal_names, formal_sections, module
 use Rattle.ob0_language_names.specs.Scopes.{Scope, ordinal_after_names, ordinal_after_procedure, body_scope, declare_names, first_procedure_ordinal, numbered, predeclared_count, renamed}
 use Rattle.std.specs.List.{list_any}
 
--- returns the label of each occurrence, in text order: the ordinal of its declaration, or the name
--- if nothing binds it
+-- returns the label of each occurrence, in text order: the ordinal of the declaration that the occurrence is bound to,
+-- or the name as written if the occurrence is unbound
 abbrev pub bindings : Tree Name module_text → List Label
 bindings m = occurrences (numbered m)
 
--- returns the ordinal in a label, or None if it has none
+-- returns the ordinal in a label, or None if the label is a name
 abbrev pub label_ordinal : Label → Option ℕ
 label_ordinal (declared k) = Some k
 label_ordinal (as_written x) = None
 
--- Returns the ordinal of the declaration that an occurrence is bound to. Occurrences are counted
--- from 0 in text order. Returns None if nothing binds it or there is no such occurrence.
+-- Returns the ordinal of the declaration that an occurrence is bound to. Occurrences are numbered from 0 in text order.
+-- A declaration's ordinal is its number in text order, after the predeclared names 0 to 6. Returns None if the
+-- occurrence is unbound or doesn't exist.
 abbrev pub binds : Tree Name module_text → ℕ → Option ℕ
 binds m occurrence = option_and_then label_ordinal (slice_get (bindings m) occurrence)
 
--- Returns the declarations of each block, as names with their ordinals. A procedure's parameters
--- and locals are one block.
+-- Returns the declarations of each block, as names with their ordinals. A procedure's parameters and locals count as
+-- one block.
 abbrev mutual
-  -- Returns the declarations of a block, then the declarations of the blocks within it. The block's first declaration
-  -- has ordinal `k`. `own` are the declarations of its procedure's parameters.
+  -- Returns a list with the declarations of a block, then the declarations of each block within it. The block's first
+  -- declaration has ordinal `k`. If this is a procedure's block, `own` has the declarations of the parameters.
   pub blocks_in : {N : Type 0} → ℕ → Scope N → Tree N block → List (Scope N)
   blocks_in k own (has_body (declares cs ts vs ps) statements) =
       body_scope k (has_body (declares cs ts vs ps) statements) own
       ∷ blocks_in_procedures (first_procedure_ordinal k (has_body (declares cs ts vs ps) statements)) ps
 
-  -- returns the declarations of each block in these procedures, the first of which has ordinal `k`
+  -- returns the declarations of each block in a list of procedures, the first of which has ordinal `k`
   pub blocks_in_procedures : {N : Type 0} → ℕ → Tree N (items procedure) → List (Scope N)
   blocks_in_procedures k end = []
   blocks_in_procedures k (more p rest) =
@@ -45,46 +46,46 @@ abbrev mutual
       blocks_in (ordinal_after_names k (formal_names (formal_sections fs)))
       (declare_names k (formal_names (formal_sections fs)) []) b
 
--- returns true if a declaration of the block has the ordinal `d`
+-- returns whether one of the declarations `own` of a block has the ordinal `d`
 abbrev pub declares_ordinal : Scope Name → ℕ → Bool
 declares_ordinal own d = list_any (λ b. b.1 == d) own
 
--- returns true if a declaration of the block other than `d` has the name `new`
+-- returns whether one of the declarations `own` of a block has the name `new` and an ordinal other than `d`
 abbrev pub another_has_name : Scope Name → ℕ → Name → Bool
 another_has_name own d new = list_any (λ b. same_name b.0 new && not (b.1 == d)) own
 
--- returns true if a declaration other than `d`, in the block that declares `d`, has the name `new`
+-- returns whether the block that declares the ordinal `d` has another declaration with the name `new`
 abbrev pub is_duplicate : Tree Name module_text → ℕ → Name → Bool
 is_duplicate m d new =
     list_any (λ own. declares_ordinal own d && another_has_name own d new)
     (blocks_in predeclared_count [] (module_block m))
 
--- Holds if the name `new` is free for the declaration with ordinal `d`. No other declaration of its
--- block has this name, and after the renaming each occurrence has the same binding as before.
+-- States that the name `new` is free for the declaration with ordinal `d`. No other declaration in the block that
+-- declares `d` has this name, and renaming `d` to `new` doesn't change the binding of any occurrence.
 abbrev pub Free : Tree Name module_text → ℕ → Name → Type 0
 Free m d new = (is_duplicate m d new ≡ false) × (bindings (renamed m d new) ≡ bindings m)
 
--- returns true if two labels are the same ordinal, or the same spelling of an unbound name
+-- returns whether two labels are the same ordinal, or the same spelling of an unbound name
 abbrev pub same_binding : Label → Label → Bool
 same_binding (as_written x) (as_written y) = same_name x y
 same_binding a b = same_label a b
 
--- returns the first position at which two lists of labels differ; None if they agree up to the end
+-- returns the first index, counted from 0, at which two lists of labels differ; None if the lists agree up to the end
 -- of the shorter list
 abbrev pub first_difference : List Label → List Label → Option ℕ
 first_difference (a ∷ as₁) (b ∷ bs) =
     if same_binding a b then option_map suc (first_difference as₁ bs) else Some 0
 first_difference _ _ = None
 
--- a conflict of a new name: with another declaration of the block, or at the occurrence with this
--- number, whose binding would change
+-- A conflict of a new name. `at_declaration`: the block has another declaration with this name. `at_occurrence`: the
+-- binding of the occurrence with this number would change.
 pub data NameConflict : Type 0 where
   at_declaration : NameConflict
   at_occurrence : ℕ → NameConflict
 
--- Returns the first conflict of a new name. It is at the declaring identifier if the block already has the name.
--- Otherwise it is at the first occurrence, in text order, whose binding would change. Returns None if there is no
--- conflict.
+-- Returns the first conflict of the new name `new` for the declaration with ordinal `d`. The conflict is at the
+-- declaration if its block already has the name. Otherwise the conflict is at the first occurrence, in text order,
+-- whose binding would change. Returns None if there is no conflict.
 abbrev pub first_name_conflict : Tree Name module_text → ℕ → Name → Option NameConflict
 first_name_conflict m d new =
     if is_duplicate m d new

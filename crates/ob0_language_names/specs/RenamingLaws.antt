@@ -8,8 +8,8 @@ use Rattle.ob0_language_names.specs.Occurrences.{Free, first_name_conflict}
 use Rattle.ob0_language_names.specs.Scopes.{renamed}
 use Rattle.ob0_language_names.specs.DeclaredOnce.{declared_once}
 
--- If `declared_once` holds for a module, it still holds after a declaration is renamed to a free
--- name: no name is declared twice, and the closing names are right.
+-- States that renaming a declaration to a free name keeps `declared_once` true: no name is declared
+-- twice in a block or record, and the closing names are right.
 abbrev pub FreeRenamingKeepsDeclaredOnce : Type 0
 FreeRenamingKeepsDeclaredOnce =
     (m : Tree Name module_text) (d : ℕ) (new : Name)
@@ -17,7 +17,7 @@ FreeRenamingKeepsDeclaredOnce =
     → IsTrue (declared_once m)
     → IsTrue (declared_once (renamed m d new))
 
--- A new name has no conflict exactly if it is free.
+-- States that a new name for a declaration has no conflict exactly if it is free.
 abbrev pub FreeMeansNoConflict : Type 0
 FreeMeansNoConflict =
     (m : Tree Name module_text) (d : ℕ) (new : Name) → first_name_conflict m d new ≡ None ↔ Free m d new

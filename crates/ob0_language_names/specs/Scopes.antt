@@ -6,25 +6,25 @@ use Rattle.ob0_language_names.specs.Mapping.{map_names}
 use Rattle.ob0_language_names.specs.Names.{Label, Name, Naming, naming_by_spelling, as_written, declared}
 use Rattle.ob0_language_names.specs.Parts.{block_constants, block_procedures, block_types, block_variables, constant_names, formal_names, formal_sections, declared_type_names, names_in_list, procedure_name, section_constants, section_names, section_types, section_variables, variable_names}
 
--- the bindings that are visible at a place, each a name with its declaration's ordinal, newest first, the predeclared
--- names last
+-- The bindings that are visible at a place in the text: names with the ordinals of their declarations. The newest
+-- binding comes first, and the predeclared names come last.
 abbrev pub Scope : Type 0 → Type 0
 Scope N = List (N × ℕ)
 
--- returns the ordinal of the declaration that a name is bound to, which is the first with this name
--- in the scope; None if there is none
+-- returns the ordinal of the declaration that the name `x` is bound to: the first declaration with this name in the
+-- scope; None if the scope doesn't have this name
 abbrev pub ordinal_of : {N : Type 0} → Naming N → Scope N → N → Option ℕ
 ordinal_of naming [] x = None
 ordinal_of naming (b ∷ scope) x =
     elim (naming.same x b.0) [ true ↦ Some b.1 | false ↦ ordinal_of naming scope x ]
 
--- Returns the scope with the names of a list added. Their ordinals count up from `k`. Declarations
--- are numbered in text order, the predeclared names from 0 to 6.
+-- Returns the scope with the names of a list added. The first name gets the ordinal `k`, the second `k + 1`, and so on.
+-- The declarations of a module are numbered in text order, after the predeclared names, which have the ordinals 0 to 6.
 abbrev pub declare_names : {N : Type 0} → ℕ → List N → Scope N → Scope N
 declare_names k [] scope = scope
 declare_names k (x ∷ xs) scope = declare_names (suc k) xs ((x, k) ∷ scope)
 
--- the number of predeclared names; the ordinals of declarations begin with this number
+-- the number of predeclared names; it is also the ordinal of a module's first declaration
 abbrev pub predeclared_count : ℕ
 predeclared_count = 7
 
@@ -33,7 +33,7 @@ abbrev pub predeclared_scope : {N : Type 0} → Naming N → Scope N
 predeclared_scope naming =
     declare_names 0 (map naming.predeclared (0 ∷ 1 ∷ 2 ∷ 3 ∷ 4 ∷ 5 ∷ 6 ∷ [])) []
 
--- returns the first ordinal after a list of names whose first one has ordinal `k`
+-- returns the first ordinal after a list of names, the first of which has ordinal `k`
 abbrev pub ordinal_after_names : {N : Type 0} → ℕ → List N → ℕ
 ordinal_after_names k [] = k
 ordinal_after_names k (x ∷ xs) = ordinal_after_names (suc k) xs
@@ -58,17 +58,17 @@ abbrev mutual
   ordinal_after_procedure k (declares_procedure x fs b closing) =
       ordinal_after_block (ordinal_after_names k (formal_names (formal_sections fs))) b
 
--- A function that returns the label for a name in a relabelled tree. Its arguments are the ordinal of the name's
--- declaration (None if nothing binds the name) and the name.
+-- A function that returns the label that replaces a name. Its arguments are the ordinal of the name's declaration, or
+-- None if the name is unbound, and the name itself.
 abbrev pub Labelling : Type 0 → Type 0 → Type 0
 Labelling N M = Option ℕ → N → M
 
--- returns the label of a looked-up name, given the scope at its place
+-- returns the label of the looked-up name `x`; `scope` is the scope at the name's place in the text
 abbrev pub label_of : {N M : Type 0} → Naming N → Labelling N M → Scope N → N → M
 label_of naming label scope x = label (ordinal_of naming scope x) x
 
--- Replaces the names by labels in a tree that has no declarations. Names are looked up in `scope`,
--- except the names of fields, which get the labels of unbound names.
+-- Returns a tree without declarations, with labels instead of names. Names are looked up in `scope`, except the names
+-- of fields, which get the labels of unbound names.
 abbrev pub relabel_uses : {N M : Type 0} {s : Sort}
     → Naming N
     → Labelling N M
@@ -77,13 +77,13 @@ abbrev pub relabel_uses : {N M : Type 0} {s : Sort}
     → Tree M s
 relabel_uses naming label scope = map_names (label_of naming label scope) (label None)
 
--- returns the labels of names that are declared with ordinals from `k` upwards
+-- returns the labels of a list of declared names; their ordinals count up from `k`
 abbrev pub label_names : {N M : Type 0} → Labelling N M → ℕ → List N → List M
 label_names label k [] = []
 label_names label k (x ∷ xs) = label (Some k) x ∷ label_names label (suc k) xs
 
--- replaces the names of a list after the first one by their labels; their ordinals count up from
--- `k`
+-- returns the part of a list of declared names after the first one, with labels instead of names; the ordinals of these
+-- names count up from `k`
 abbrev pub relabel_further_names : {N M : Type 0}
     → Labelling N M
     → ℕ
@@ -93,13 +93,13 @@ relabel_further_names label k end = end
 relabel_further_names label k (more (then_name x) rest) =
     more (then_name (label (Some k) x)) (relabel_further_names label (suc k) rest)
 
--- replaces the names of a list of declared names by their labels; their ordinals count up from `k`
+-- returns a list of declared names, with labels instead of names; the ordinals of these names count up from `k`
 abbrev pub relabel_names : {N M : Type 0} → Labelling N M → ℕ → Tree N names → Tree M names
 relabel_names label k (listed x rest) =
     listed (label (Some k) x) (relabel_further_names label (suc k) rest)
 
--- returns constants with labels instead of names; their ordinals count up from `k`, and each is
--- visible after its right side
+-- returns declarations of constants with labels instead of names; the constants' ordinals count up from `k`, and each
+-- constant is visible only after its own declaration
 abbrev pub relabel_constants : {N M : Type 0}
     → Naming N
     → Labelling N M
@@ -112,8 +112,8 @@ relabel_constants naming label scope k (more (declares_constant x e) cs) =
     more (declares_constant (label (Some k) x) (relabel_uses naming label scope e))
     (relabel_constants naming label ((x, k) ∷ scope) (suc k) cs)
 
--- returns types with labels instead of names; their ordinals count up from `k`, and each is visible
--- after its right side
+-- returns declarations of types with labels instead of names; the types' ordinals count up from `k`, and each type is
+-- visible only after its own declaration
 abbrev pub relabel_types : {N M : Type 0}
     → Naming N
     → Labelling N M
@@ -126,8 +126,8 @@ relabel_types naming label scope k (more (declares_type x t) ds) =
     more (declares_type (label (Some k) x) (relabel_uses naming label scope t))
     (relabel_types naming label ((x, k) ∷ scope) (suc k) ds)
 
--- returns variables with labels instead of names; their ordinals count up from `k`, and each is
--- visible after its type
+-- returns declarations of variables with labels instead of names; the variables' ordinals count up from `k`, and each
+-- variable is visible only after its own declaration
 abbrev pub relabel_variables : {N M : Type 0}
     → Naming N
     → Labelling N M
@@ -141,7 +141,7 @@ relabel_variables naming label scope k (more (declares_variable ns t) gs) =
     (relabel_variables naming label (declare_names k (names_in_list ns) scope)
     (ordinal_after_names k (names_in_list ns)) gs)
 
--- returns a section of parameters with labels instead of names; their ordinals count up from `k`
+-- returns a section of parameters with labels instead of names; the parameters' ordinals count up from `k`
 abbrev pub relabel_section : {N M : Type 0}
     → Naming N
     → Labelling N M
@@ -154,8 +154,8 @@ relabel_section naming label scope k (value_section ns t) =
 relabel_section naming label scope k (variable_section ns t) =
     variable_section (relabel_names label k ns) (relabel_uses naming label scope t)
 
--- returns further sections of parameters with labels instead of names; ordinals count up from `k`,
--- and a parameter is visible after its section's type
+-- returns the sections of parameters after the first section, with labels instead of names; the parameters' ordinals
+-- count up from `k`, and each parameter is visible only after its own section
 abbrev pub relabel_sections : {N M : Type 0}
     → Naming N
     → Labelling N M
@@ -169,7 +169,7 @@ relabel_sections naming label scope k (more (then_section s) fs) =
     (relabel_sections naming label (declare_names k (section_names s) scope)
     (ordinal_after_names k (section_names s)) fs)
 
--- returns formal parameters with labels instead of names; their ordinals count up from `k`
+-- returns formal parameters with labels instead of names; the parameters' ordinals count up from `k`
 abbrev pub relabel_formals : {N M : Type 0}
     → Naming N
     → Labelling N M
@@ -222,21 +222,24 @@ relabel_variable_section naming label scope k none = none
 relabel_variable_section naming label scope k (one (declares_variables vs)) =
     one (declares_variables (relabel_variables naming label scope k vs))
 
--- returns the scope with a block's procedures added; `k` is the ordinal of the first one
+-- returns the scope with a block's procedures added; `k` is the ordinal of the first procedure
 abbrev pub declare_procedure_names : {N : Type 0} → ℕ → Tree N (items procedure) → Scope N → Scope N
 declare_procedure_names k end scope = scope
 declare_procedure_names k (more p rest) scope =
     declare_procedure_names (ordinal_after_procedure (suc k) p) rest ((procedure_name p, k) ∷ scope)
 
--- returns the ordinal of a block's first type; `k` is the ordinal of its first declaration
+-- returns the ordinal of a block's first type, or the next ordinal if it has none; `k` is the ordinal of the block's
+-- first declaration
 abbrev pub first_type_ordinal : {N : Type 0} → ℕ → Tree N block → ℕ
 first_type_ordinal k b = ordinal_after_names k (constant_names (block_constants b))
 
--- returns the ordinal of a block's first variable; `k` is the ordinal of its first declaration
+-- returns the ordinal of a block's first variable, or the next ordinal if it has none; `k` is the ordinal of the
+-- block's first declaration
 abbrev pub first_variable_ordinal : {N : Type 0} → ℕ → Tree N block → ℕ
 first_variable_ordinal k b = ordinal_after_names (first_type_ordinal k b) (declared_type_names (block_types b))
 
--- returns the ordinal of a block's first procedure; `k` is the ordinal of its first declaration
+-- returns the ordinal of a block's first procedure, or the next ordinal if it has none; `k` is the ordinal of the
+-- block's first declaration
 abbrev pub first_procedure_ordinal : {N : Type 0} → ℕ → Tree N block → ℕ
 first_procedure_ordinal k b = ordinal_after_names (first_variable_ordinal k b) (variable_names (block_variables b))
 
@@ -264,8 +267,8 @@ abbrev pub body_scope : {N : Type 0} → ℕ → Tree N block → Scope N → Sc
 body_scope k b scope =
     declare_procedure_names (first_procedure_ordinal k b) (block_procedures b) (procedures_scope k b scope)
 
--- Returns a block, its procedures or one procedure with labels instead of names. `scope` is the
--- scope around them.
+-- Returns a block, its procedures or one procedure, with labels instead of names. `scope` is the scope at the start of
+-- this part of the text.
 abbrev mutual
   -- returns a block with labels instead of names; its first declaration has ordinal `k`
   pub relabel_block : {N M : Type 0}
@@ -290,8 +293,8 @@ abbrev mutual
       (relabel_uses naming label (body_scope k (has_body (declares cs ts vs ps) statements) scope)
       statements)
 
-  -- returns procedures with labels instead of names; the first one has ordinal `k`, and each is
-  -- visible to the later ones
+  -- returns procedures with labels instead of names; the first procedure has ordinal `k`, and each procedure is visible
+  -- in the later procedures
   pub relabel_procedures : {N M : Type 0}
       → Naming N
       → Labelling N M
@@ -305,8 +308,8 @@ abbrev mutual
       (relabel_procedures naming label ((procedure_name p, k) ∷ scope) (ordinal_after_procedure (suc k) p)
       rest)
 
-  -- returns a procedure with labels instead of names; it has ordinal `k`, is visible after its
-  -- heading, and its closing name has the same label as its name
+  -- Returns a procedure with labels instead of names. The procedure has ordinal `k` and is visible in its own block.
+  -- The closing name gets a label with the same ordinal as the procedure's name.
   pub relabel_procedure : {N M : Type 0}
       → Naming N
       → Labelling N M
@@ -321,7 +324,8 @@ abbrev mutual
       (ordinal_after_names (suc k) (formal_names (formal_sections fs))) b)
       (label (Some k) closing)
 
--- returns a module with labels instead of names; the name of the module is in no scope
+-- returns a module with labels instead of names; the name of the module gets the label of an unbound name, because it
+-- is in no scope
 abbrev pub relabel_module : {N M : Type 0}
     → Naming N
     → Labelling N M
@@ -331,22 +335,24 @@ relabel_module naming label (is_module x b closing) =
     is_module (label None x) (relabel_block naming label (predeclared_scope naming) predeclared_count b)
     (label None closing)
 
--- returns the ordinal of a name's declaration as a label, or the name's spelling if no declaration
--- binds it
+-- returns the label for a name in a numbered tree: the ordinal of its declaration, or the name as written if it is
+-- unbound
 abbrev pub label_from_ordinal : {N : Type 0} → Naming N → Labelling N Label
 label_from_ordinal naming None x = as_written (naming.written x)
 label_from_ordinal naming (Some k) x = declared k
 
--- returns the numbered tree of a module
+-- Returns the numbered tree of a module. Each name is replaced by the ordinal of its declaration, or kept as written if
+-- the name is unbound. A declaration's ordinal is its number in text order, after the predeclared names 0 to 6.
 abbrev pub numbered : Tree Name module_text → Tree Label module_text
 numbered = relabel_module naming_by_spelling (label_from_ordinal naming_by_spelling)
 
--- returns true if an optional ordinal is `k`
+-- returns whether an optional ordinal is `k`; false for None
 abbrev pub same_ordinal : Option ℕ → ℕ → Bool
 same_ordinal None k = false
 same_ordinal (Some j) k = j == k
 
--- Returns the module in which the declaration with ordinal `d` is renamed to `new`. Each name that
--- is bound to it is also renamed, as is the closing name of a procedure.
+-- Returns the module in which the declaration with ordinal `d` is renamed to `new`. A declaration's ordinal is its
+-- number in text order, after the predeclared names 0 to 6. Each name that is bound to this declaration is also
+-- renamed. If the declaration is a procedure, its closing name is also renamed.
 abbrev pub renamed : Tree Name module_text → ℕ → Name → Tree Name module_text
 renamed m d new = relabel_module naming_by_spelling (λ ordinal x. if same_ordinal ordinal d then new else x) m

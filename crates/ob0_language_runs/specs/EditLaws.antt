@@ -11,11 +11,12 @@ use Rattle.ob0_language_types.specs.EditLaws.{AreUsesOf, IsConstantWritten, Mean
 use Rattle.ob0_language_types.specs.WellTyped.{WellTyped}
 use Rattle.ob0_language_runs.specs.Runs.{run}
 
--- holds if two modules have the same run for every input and all bounds on calls and turns
+-- states that two modules have the same run for every input and all bounds on calls and loop iterations
 abbrev pub HaveSameRuns : Tree Name module_text → Tree Name module_text → Type 0
 HaveSameRuns a b = (input : List ℤ) (c t : ℕ) → run a input c t ≡ run b input c t
 
--- A well-typed module remains well-typed and has the same runs after a declaration is renamed to a free name.
+-- States that a well-typed module remains well-typed and has the same runs if a declaration is renamed to a free name.
+-- A free name causes no name conflict.
 abbrev pub FreeRenamingKeepsTypingAndRuns : Type 0
 FreeRenamingKeepsTypingAndRuns =
     (m : Tree Name module_text) (d : ℕ) (new : Name)
@@ -23,8 +24,9 @@ FreeRenamingKeepsTypingAndRuns =
     → WellTyped m
     → WellTyped (renamed m d new) × HaveSameRuns (renamed m d new) m
 
--- A well-typed module remains well-typed and has the same runs if uses of a constant are replaced by its literal. The
--- literal must have the constant's value at each of these uses.
+-- States that a well-typed module remains well-typed and has the same runs if uses of a constant are replaced by the
+-- constant's literal. If the literal is TRUE or FALSE, this word must mean the predeclared constant at each of these
+-- uses.
 abbrev pub InliningKeepsTypingAndRuns : Type 0
 InliningKeepsTypingAndRuns =
     (m : Tree Name module_text) (d : ℕ) (w : Value) (v : Tree Name factor) (uses : OccurrenceSet)
@@ -33,8 +35,8 @@ InliningKeepsTypingAndRuns =
     → WellTyped m
     → WellTyped (inlined m uses v) × HaveSameRuns (inlined m uses v) m
 
--- A well-typed module remains well-typed and has the same runs without the declaration of a constant that no occurrence
--- is bound to.
+-- States that a well-typed module remains well-typed and has the same runs if the declaration of an unused constant is
+-- removed. A constant is unused if no occurrence of a name is bound to it.
 abbrev pub RemovingUnusedKeepsTypingAndRuns : Type 0
 RemovingUnusedKeepsTypingAndRuns =
     (m : Tree Name module_text) (d : ℕ) (w : Value) (v : Tree Name factor)
@@ -43,8 +45,9 @@ RemovingUnusedKeepsTypingAndRuns =
     → WellTyped m
     → WellTyped (module_without d m) × HaveSameRuns (module_without d m) m
 
--- A well-typed module remains well-typed and has the same runs after a constant is inlined everywhere. Its literal then
--- replaces all its uses, and its declaration is removed. The literal must have the constant's value at each use.
+-- States that a well-typed module remains well-typed and has the same runs if a constant is inlined everywhere. The
+-- constant's literal replaces all its uses, and the declaration is removed. If the literal is TRUE or FALSE, this word
+-- must mean the predeclared constant at each use.
 abbrev pub InliningEverywhereKeepsTypingAndRuns : Type 0
 InliningEverywhereKeepsTypingAndRuns =
     (m : Tree Name module_text) (d : ℕ) (w : Value) (v : Tree Name factor)

@@ -1,5 +1,4 @@
--- The values, places and meanings of names in a run that agree with the types that the checker
--- gives them.
+-- States which values, places and meanings of names in a run agree with the types that the checker gives them.
 -- Rule: docs/LANGUAGE.md, Runs 11.
 use Rattle.std.specs.Prelude.{◌≡◌, true, List, [], ◌∷◌, map, if◌then◌else◌, nat_lt, slice_get, Some, None, Option, option_and_then}
 use Rattle.ob0_language_names.specs.Names.{Naming}
@@ -10,10 +9,10 @@ use Rattle.ob0_language_types.specs.WellTyped.{Mode, Signature, TypeEnvironment,
 use Rattle.ob0_language_values.specs.Values.{FieldShapes, Members, Place, Shape, Step, Store, Value, Values, array_shape, at_field, at_index, boolean_shape, count_values, elements, integer_shape, members, next_field_shape, next_member, next_value, no_field_shape, no_member, no_value, number, record_shape, truth}
 use Rattle.ob0_language_runs.specs.Runs.{Activation, Argument, ProcedureText, statement_object, place_argument, value_argument}
 
--- Holds if a value has a type, including the types of its parts.
+-- States that a value has a type, including the types of the value's parts.
 abbrev mutual
-  -- Holds if a value has this type. An array has the length of its type, and a record comes from the RECORD of its
-  -- type. The parts of the value have the types of the type's parts.
+  -- States that a value has this type. The value of an array has the type's length, and the value of a record comes
+  -- from the type's RECORD. The parts of the value have the types of the type's parts.
   pub HasShape : Value → Shape → Type 0
   HasShape (number n) integer_shape = Unit {0}
   HasShape (truth b) boolean_shape = Unit {0}
@@ -21,42 +20,41 @@ abbrev mutual
   HasShape (members j ms) (record_shape k fs) = (j ≡ k) × HaveShapes ms fs
   HasShape _ _ = ⊥
 
-  -- holds if all elements of an array have this type
+  -- states that all elements of an array have this type
   pub EachHasShape : Values → Shape → Type 0
   EachHasShape no_value s = Unit {0}
   EachHasShape (next_value v rest) s = HasShape v s × EachHasShape rest s
 
-  -- holds if the members of a record have the names and the types of the fields, one by one
+  -- states that the members of a record have the names and types of the fields, in the same order
   pub HaveShapes : Members → FieldShapes → Type 0
   HaveShapes no_member no_field_shape = Unit {0}
   HaveShapes (next_member x v rest) (next_field_shape y s others) =
       (x ≡ y) × HasShape v s × HaveShapes rest others
   HaveShapes _ _ = ⊥
 
--- returns the type of the part that one step selects; None if there is no such part, for example if an index isn't
--- below the length
+-- returns the type of the element or field that one step selects from the type; None if there is no such element or
+-- field, for example because an index isn't below the array's length
 abbrev pub part_shape : Shape → Step → Option Shape
 part_shape (array_shape k n s) (at_index i) = if nat_lt i n then Some s else None
 part_shape (record_shape k fs) (at_field x) = shape_of_field fs x
 part_shape _ _ = None
 
--- returns the type of the part that a path selects; None if there is no such part
+-- returns the type of the part that a path selects from the type; None if there is no such part
 abbrev pub shape_at_path : List Step → Shape → Option Shape
 shape_at_path [] s = Some s
 shape_at_path (step ∷ path) s = option_and_then (shape_at_path path) (part_shape s step)
 
--- the types of a store's variables, by their indexes; the proofs extend this list as a run adds
--- variables
+-- the types of a store's variables, in the order of the store; the proofs extend this list when a run adds variables
 abbrev pub StoreTyping : Type 0
 StoreTyping = List Shape
 
--- holds if the store has as many variables as the list has types, and each has a value of its type
+-- states that the store has as many values as the list has types, and each value has the type at the same index
 abbrev pub StoreFits : StoreTyping → Store → Type 0
 StoreFits [] [] = Unit {0}
 StoreFits (s ∷ ss) (v ∷ vs) = HasShape v s × StoreFits ss vs
 StoreFits _ _ = ⊥
 
--- holds if the part of a variable that a place denotes has this type
+-- states that the part of a variable that a place denotes has this type, given the types of the store's variables
 abbrev pub PlaceFits : StoreTyping → Place → Shape → Type 0
 PlaceFits typing p s = option_and_then (shape_at_path p.path) (slice_get typing p.variable) ≡ Some s
 
@@ -64,9 +62,9 @@ PlaceFits typing p s = option_and_then (shape_at_path p.path) (slice_get typing 
 abbrev pub signature_modes : Signature → List Mode
 signature_modes = map (λ f. f.mode)
 
--- Holds if a name's object in a run agrees with its object in the checked module, or the name has
--- no object in either. Types, constants and standard procedures must be equal. The place of a
--- variable must have the variable's type, and a procedure the parameter modes of its signature.
+-- States that a name's object in a run agrees with the name's object in the checked module. The name may also have no
+-- object in either. Types, constants and standard procedures must be equal. The place of a variable must have the
+-- variable's type. The modes of a procedure's parameters must be the modes in its signature.
 abbrev pub ObjectFits : StoreTyping
     → Option (Object Shape Signature)
     → Option (Object Place (List Mode))
@@ -80,8 +78,8 @@ ObjectFits typing (Some (a_procedure signature)) (Some (a_procedure modes)) =
 ObjectFits typing (Some (a_standard p)) (Some (a_standard q)) = p ≡ q
 ObjectFits typing _ _ = ⊥
 
--- holds if each name's object in a run agrees with its object in the checked module, and fields are
--- spelled alike in both
+-- States that each name's object in a run agrees with the name's object in the checked module. Also states that each
+-- name has the same spelling in both.
 abbrev pub MeaningsFit : {N : Type 0}
     → StoreTyping
     → TypeMeanings N
@@ -91,8 +89,8 @@ MeaningsFit {N} typing checked active =
     ((x : N) → ObjectFits typing (checked.object_for x) (active.object_for x))
     × ((x : N) → checked.written x ≡ active.written x)
 
--- holds if the arguments of a call have the modes and types of the called procedure's parameters,
--- one by one
+-- states that there are as many arguments as parameters of the called procedure, and each argument has the mode and
+-- type of its parameter
 abbrev pub ArgumentsFit : StoreTyping → Signature → List Argument → Type 0
 ArgumentsFit typing [] [] = Unit {0}
 ArgumentsFit typing (f ∷ fs) (place_argument p ∷ args) =
@@ -101,9 +99,9 @@ ArgumentsFit typing (f ∷ fs) (value_argument v ∷ args) =
     (f.mode ≡ by_value) × HasShape v f.shape × ArgumentsFit typing fs args
 ArgumentsFit typing _ _ = ⊥
 
--- Holds if a name's object in an activation agrees with its object in the checked environment.
--- `checked` has the older bindings of that environment. A procedure must also be well-typed, given
--- these older bindings.
+-- States that the object of the name `x` in an activation agrees with the object of `x` in the checked environment.
+-- `checked` has the bindings of that environment that are older than the binding of `x`. A procedure must also be
+-- well-typed, given these older bindings.
 abbrev pub BindingFits : {N : Type 0}
     → Naming N
     → StoreTyping
@@ -121,7 +119,8 @@ BindingFits {N} naming typing checked x (a_procedure signature) (a_procedure cod
     ≡ true)
 BindingFits naming typing checked x o r = ObjectFits typing (Some o) (statement_object (Some r))
 
--- holds if the environment of a run agrees with the checked environment, binding by binding
+-- states that the environment of a run agrees with the checked environment: both bind the same names in the same order,
+-- to objects that agree
 abbrev pub EnvironmentsFit : {N : Type 0}
     → Naming N
     → StoreTyping

@@ -8,14 +8,16 @@ use Rattle.ob0_language_types.specs.Environments.{environment_from_binding}
 use Rattle.ob0_language_values.specs.Values.{CallBound}
 use Rattle.ob0_language_runs.specs.Runs.{Activation, CallFunction, Progress, Run, activate, run_by, running, stopped}
 
--- returns a running state with only the first `n` variables of its store; an ended run is unchanged
+-- returns the run with only the first `n` variables in its store; a run that has ended is left
+-- unchanged
 abbrev pub drop_variables : ℕ → Progress → Progress
 drop_variables n (running s) = running record s { store = take n s.store }
 drop_variables n (stopped e out) = stopped e out
 
--- Performs the call of the name `x`. `c` is how many calls may still be opened within each other;
--- if it is 0, the run ends with CallBound. After the call returns, the store has as many variables
--- as before the call.
+-- Performs the call of the procedure `x`. The first number is how many calls may still be opened
+-- within each other. If it is 0, the run ends with CallBound. The second number bounds the
+-- iterations of each loop. After the call returns, the store has as many variables as before the
+-- call.
 unfoldable pub call_freeing : {N : Type 0} → Naming N → ℕ → ℕ → Activation N → CallFunction N
 unfolding activate
 call_freeing naming zero t env x args s = stopped CallBound s.output
@@ -23,8 +25,8 @@ call_freeing naming (suc c) t env x args s =
     drop_variables (length s.store)
     (activate naming (call_freeing naming c t) t (environment_from_binding naming env x) args s)
 
--- returns the run of a module in which each call drops its variables when it returns; `c` bounds
--- the open calls, and `t` the iterations of each loop
+-- returns the result of running a module if each call drops its variables when it returns; `c`
+-- bounds the number of open calls, and `t` bounds the iterations of each loop
 unfoldable pub run_freeing : {N : Type 0} → Naming N → Tree N module_text → List ℤ → ℕ → ℕ → Run
 unfolding run_by call_freeing
 run_freeing naming m input c t = run_by naming (call_freeing naming c t) t m input

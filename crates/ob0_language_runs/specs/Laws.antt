@@ -13,13 +13,13 @@ use Rattle.ob0_language_types.specs.WellTyped.{Mode, WellTyped}
 use Rattle.ob0_language_runs.specs.Freed.{run_freeing}
 use Rattle.ob0_language_runs.specs.Runs.{CallFunction, State, execute, run, run_numbered, run_over}
 
--- A module has the same run as its numbered tree.
+-- States that a module and its numbered tree have the same run for every input and all bounds.
 abbrev pub NumberingKeepsRuns : Type 0
 NumberingKeepsRuns =
     (m : Tree Name module_text) (input : List ℤ) (c t : ℕ)
     → run m input c t ≡ run_numbered (numbered m) input c t
 
--- Two modules with the same numbered tree have the same runs.
+-- States that two modules with the same numbered tree have the same run for every input and all bounds.
 abbrev pub NumberedTreeDecidesRuns : Type 0
 NumberedTreeDecidesRuns =
     (a b : Tree Name module_text)
@@ -27,7 +27,8 @@ NumberedTreeDecidesRuns =
     → (input : List ℤ) (c t : ℕ)
     → run a input c t ≡ run b input c t
 
--- A module has the same runs after a declaration is renamed to a free name.
+-- States that a module has the same runs if a declaration is renamed to a free name. A free name causes no name
+-- conflict.
 abbrev pub FreeRenamingKeepsRuns : Type 0
 FreeRenamingKeepsRuns =
     (m : Tree Name module_text) (d : ℕ) (new : Name)
@@ -35,7 +36,7 @@ FreeRenamingKeepsRuns =
     → (input : List ℤ) (c t : ℕ)
     → run (renamed m d new) input c t ≡ run m input c t
 
--- The run in which each call drops its variables when it returns equals the run that keeps them.
+-- States that dropping each call's variables from the store when the call returns doesn't change the result of a run.
 -- The names of the tree may be spellings or labels.
 abbrev pub FreeingKeepsRuns : Type 0
 FreeingKeepsRuns =
@@ -44,7 +45,7 @@ FreeingKeepsRuns =
     × ((naming : Naming Label) (m : Tree Label module_text) (input : List ℤ) (c t : ℕ)
     → run_freeing naming m input c t ≡ run_over naming m input c t)
 
--- No run of a well-typed module gets stuck.
+-- States that no run of a well-typed module gets stuck: each step of the run has a meaning.
 abbrev pub NeverStuck : Type 0
 NeverStuck =
     (m : Tree Name module_text)
@@ -52,8 +53,8 @@ NeverStuck =
     → (input : List ℤ) (c t : ℕ)
     → (run m input c t).ending ≢ Stuck
 
--- Replacing uses of a constant by a factor that has the constant's value in every store leaves the execution of a
--- statement unchanged.
+-- States that replacing uses of a constant by a factor leaves the execution of a statement unchanged. The factor must
+-- have the constant's value in every store. `k` is the number of the statement's first occurrence.
 abbrev pub InliningKeepsExecution : Type 0
 InliningKeepsExecution =
     (meaning : Meanings Name Place (List Mode)) (enter : CallFunction Name) (t : ℕ) (uses : OccurrenceSet)

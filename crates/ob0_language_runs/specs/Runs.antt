@@ -1,5 +1,6 @@
 -- Big-step semantics of runs: the meaning of statements, calls and whole modules. A run depends on an environment, a
--- store and the remaining input. It also depends on two bounds: `c` on open calls, and `t` on the iterations of a loop.
+-- store and the remaining input. It also depends on two bounds: `c` on the number of open calls, and `t` on the
+-- iterations of each loop.
 -- Rule: docs/LANGUAGE.md, Runs 1 to 10.
 use Rattle.std.specs.Prelude.{ℕ, zero, suc, ◌+◌, ◌-◌, true, false, List, [], ◌∷◌, ◌++◌, map, length, ℤ, Some, None, Option, option_map, option_and_then}
 use Rattle.ob0_tree.specs.Tree.{Tree, assigns, begins, block, body, branches, calls, declares_variable, else_branch, else_part, elsif_branch, elsif_part, empty, end, expression, further_section, further_statement, item, items, maybe, module_text, more, none, one, procedure, repeat_loop, runs, sequence, statement, then_section, then_statement, variable, while_loop}
@@ -24,23 +25,23 @@ pub record State : Type 0 where
   pub input : List ℤ
   pub output : List PrintedItem
 
--- a run that continues with a state, or has ended with the output before its end
+-- the progress of a run: it continues with a state, or it has stopped with an end and the output before this end
 pub data Progress : Type 0 where
   running : State → Progress
   stopped : End → List PrintedItem → Progress
 
--- an argument: for a VAR parameter the place, fixed at the call, otherwise a copy of the value
+-- an argument: a place for a VAR parameter, determined when the call begins; otherwise a copy of a value
 pub data Argument : Type 0 where
   place_argument : Place → Argument
   value_argument : Value → Argument
 
--- passes the result of an evaluation to `next`; if the evaluation ended the run, returns this end
+-- continues a run by applying `next` to the result of an evaluation; if the evaluation ends the run, returns this end
 -- with the output of the state `s`
 abbrev pub use_result : {A : Type 0} → State → Outcome A → (A → Progress) → Progress
 use_result s (gives a) next = next a
 use_result s (ends e) next = stopped e s.output
 
--- continues a run with the function `next`; an ended run is unchanged
+-- continues a run with the function `next`; a run that has ended is left unchanged
 abbrev pub continue_with : Progress → (State → Progress) → Progress
 continue_with (running s) next = next s
 continue_with (stopped e out) next = stopped e out
@@ -61,13 +62,13 @@ abbrev pub store_at : State → Place → Value → Progress
 store_at s p v =
     use_result s (or_stuck (write_place s.store p v)) (λ store. running record s { store = store })
 
--- reads the next number of the input into a place, or ends the run with InputEnd if there is none
+-- stores the next number of the input at a place; the list has the remaining input; ends the run with InputEnd if this
+-- list is empty
 abbrev pub read_number : State → Place → List ℤ → Progress
 read_number s p [] = stopped InputEnd s.output
 read_number s p (n ∷ rest) = store_at record s { input = rest } p (number n)
 
--- returns the modes in which the arguments of a call are passed; Stuck for a name that isn't a
--- procedure's
+-- returns the modes in which the arguments of a call are passed; Stuck if the called object isn't a procedure
 abbrev pub modes_of : Option (Object Place (List Mode)) → Outcome (List Mode)
 modes_of (Some (a_procedure modes)) = gives modes
 modes_of (Some (a_standard reads)) = gives (by_place ∷ [])
@@ -75,7 +76,7 @@ modes_of (Some (a_standard writes)) = gives (by_value ∷ [])
 modes_of (Some (a_standard writes_line)) = gives []
 modes_of _ = ends Stuck
 
--- evaluates an argument: the place for a VAR parameter, otherwise a copy of the value (rule 6)
+-- evaluates an argument: to its place for a VAR parameter, otherwise to a copy of its value (rule 6)
 unfoldable pub evaluate_argument : {N P : Type 0}
     → Meanings N Place P
     → Store
@@ -91,7 +92,7 @@ evaluate_argument meaning store by_place e = do
   p ← designate meaning store d.0 d.1
   gives (place_argument p)
 
--- evaluates the arguments of a call from left to right
+-- evaluates the arguments of a call from left to right; Stuck if there are more or fewer arguments than modes
 unfoldable pub evaluate_arguments : {N P : Type 0}
     → Meanings N Place P
     → Store
@@ -106,8 +107,9 @@ evaluate_arguments meaning store (m ∷ ms) (e ∷ es) = do
   gives (a ∷ rest)
 evaluate_arguments meaning store _ _ = ends Stuck
 
--- Performs a call with evaluated arguments. `enter` performs the call of a declared procedure; a
--- standard procedure is performed directly, so it doesn't count for the bound on calls.
+-- Performs a call with evaluated arguments. `enter` performs the call of a declared procedure. A standard procedure is
+-- performed here, so it doesn't count towards the bound on calls. Ends the run with Stuck if the object isn't a
+-- procedure or the arguments don't fit a standard procedure.
 abbrev pub perform_call : Option (Object Place (List Mode))
     → (List Argument → State → Progress)
     → List Argument
@@ -120,8 +122,9 @@ perform_call (Some (a_standard writes)) enter (value_argument (number n) ∷ [])
 perform_call (Some (a_standard writes_line)) enter [] s = running (append_output s line_out)
 perform_call _ enter args s = stopped Stuck s.output
 
--- Executes WHILE with its condition and statements. If the condition is FALSE, the statement ends.
--- If it is TRUE, one more iteration is made, or the run ends with TurnBound if `t` is 0.
+-- Executes a WHILE statement. The first argument is how many iterations may still be made. If the condition is FALSE,
+-- the statement ends. If the condition is TRUE, one more iteration is made. If no iteration may be made then, the run
+-- ends with TurnBound.
 abbrev pub execute_while : ℕ → (State → Outcome Value) → (State → Progress) → State → Progress
 execute_while zero condition statements s =
     use_result s (condition s) (λ v. choose s v (λ s'. stopped TurnBound s'.output) running)
@@ -129,13 +132,13 @@ execute_while (suc t) condition statements s =
     use_result s (condition s) (λ v. choose s v
     (λ s'. continue_with (statements s') (execute_while t condition statements)) running)
 
--- a function that performs the call of a name with arguments in a state
+-- a function that performs the call of a procedure, given by its name, with these arguments in a state
 abbrev pub CallFunction : Type 0 → Type 0
 CallFunction N = N → List Argument → State → Progress
 
--- Executes REPEAT: makes an iteration and then evaluates its condition. If the condition is TRUE,
--- the statement ends. If it is FALSE, one more iteration is made, or the run ends with TurnBound if
--- `t` is 0. So `t` bounds the number of iterations after the first one.
+-- Executes a REPEAT statement: makes an iteration and then evaluates the condition. The first argument is how many
+-- iterations may be made after this one. If the condition is TRUE, the statement ends. If the condition is FALSE, one
+-- more iteration is made. If no iteration may be made then, the run ends with TurnBound.
 abbrev pub execute_repeat : ℕ → (State → Outcome Value) → (State → Progress) → State → Progress
 execute_repeat zero condition turn s =
     continue_with (turn s) (λ s'. use_result s' (condition s')
@@ -144,12 +147,12 @@ execute_repeat (suc t) condition turn s =
     continue_with (turn s)
     (λ s'. use_result s' (condition s') (λ v. choose s' v running (execute_repeat t condition turn)))
 
--- Executes a statement. An assignment determines the place first, then evaluates its right side,
--- and then stores a copy of the value.
+-- Executes a statement. An assignment first determines the place on its left side, then evaluates its right side, and
+-- then stores a copy of the value.
 unfoldable mutual
   unfolding evaluate designate evaluate_arguments
 
-  -- executes one statement; `enter` performs calls of procedures, and `t` bounds the iterations of each loop
+  -- executes one statement; `enter` performs calls of declared procedures, and `t` bounds the iterations of each loop
   pub execute : {N : Type 0}
       → Meanings N Place (List Mode)
       → CallFunction N
@@ -175,7 +178,7 @@ unfoldable mutual
       execute_repeat (t - 1) (λ s'. evaluate meaning s'.store e)
       (execute_all meaning enter t statements) s
 
-  -- executes a sequence of statements
+  -- executes a sequence of statements in text order; stops if a statement ends the run
   pub execute_all : {N : Type 0}
       → Meanings N Place (List Mode)
       → CallFunction N
@@ -186,7 +189,7 @@ unfoldable mutual
   execute_all meaning enter t (runs a rest) s =
       continue_with (execute meaning enter t a s) (execute_further meaning enter t rest)
 
-  -- executes the statements after the first one
+  -- executes the statements of a sequence after the first one
   pub execute_further : {N : Type 0}
       → Meanings N Place (List Mode)
       → CallFunction N
@@ -198,7 +201,8 @@ unfoldable mutual
   execute_further meaning enter t (more (then_statement a) rest) s =
       continue_with (execute meaning enter t a s) (execute_further meaning enter t rest)
 
-  -- executes the first ELSIF part whose condition is TRUE, or `otherwise` if there is none
+  -- executes the statements of the first ELSIF part whose condition is TRUE; if no condition is TRUE, continues with
+  -- `otherwise`
   pub execute_elsifs : {N : Type 0}
       → Meanings N Place (List Mode)
       → CallFunction N
@@ -212,7 +216,7 @@ unfoldable mutual
       use_result s (evaluate meaning s.store e) (λ v. choose s v
       (execute_all meaning enter t statements) (execute_elsifs meaning enter t rest otherwise))
 
-  -- executes the statements of the ELSE part; without one, nothing happens
+  -- executes the statements of the ELSE part; does nothing if there is no ELSE part
   pub execute_else : {N : Type 0}
       → Meanings N Place (List Mode)
       → CallFunction N
@@ -229,7 +233,8 @@ pub record ProcedureText (N : Type 0) : Type 0 where
   pub first_constructor : ℕ
   pub text : Tree N (item procedure)
 
--- the bindings of names in an activation
+-- the bindings of names in an activation: an environment that has the place of each variable and the text of each
+-- procedure
 abbrev pub Activation : Type 0 → Type 0
 Activation N = Environment N Place (ProcedureText N)
 
@@ -238,8 +243,8 @@ pub record Frame (N : Type 0) : Type 0 where
   pub env : Activation N
   pub store : Store
 
--- Adds a new variable for each name at the end of the store, all with the value `v`, and binds the
--- names to them.
+-- Returns the frame with one more variable for each name. The variables are added at the end of the store, all with the
+-- value `v`, and each name is bound to its variable.
 abbrev pub allocate : {N : Type 0} → List N → Value → Frame N → Frame N
 allocate [] v f = f
 allocate (x ∷ xs) v f =
@@ -249,8 +254,8 @@ allocate (x ∷ xs) v f =
       store = f.store ++ v ∷ [];
     }
 
--- Adds new variables, with 0 or FALSE in each of their parts (rule 1). `k` is the number of words
--- ARRAY and RECORD before them. Returns None if a type has an error.
+-- Returns the frame with declared variables added. Each part of a variable is 0 or FALSE (rule 1). `k` is the number of
+-- words ARRAY and RECORD before these declarations. Returns None if a type has an error.
 unfoldable pub declare_variables : {N : Type 0}
     → Naming N
     → ℕ
@@ -264,8 +269,8 @@ declare_variables naming k (more (declares_variable ns u) gs) f =
     (allocate (names_in_list ns) (initial s) f))
     (denoted (meanings naming f.env) k u)
 
--- returns the environment with procedures added, each with the number of words ARRAY and RECORD
--- before it; `k` of them are before the first procedure
+-- returns the environment with procedures added, each with the number of words ARRAY and RECORD before it; `k` is this
+-- number for the first procedure
 abbrev pub declare_procedures : {N : Type 0}
     → ℕ
     → Tree N (items procedure)
@@ -276,13 +281,13 @@ declare_procedures k (more p rest) env =
     declare_procedures (k + procedure_constructor_count p) rest
     ((procedure_name p, a_procedure record { first_constructor = k; text = p }) ∷ env)
 
--- adds the procedures of a block to the environment of a frame; `k` is the number of words ARRAY
--- and RECORD before the procedures
+-- returns the frame with the procedures of a block added to its environment; `k` is the number of words ARRAY and
+-- RECORD before the procedures
 abbrev pub declare_procedures_in_frame : {N : Type 0} → ℕ → Tree N (items procedure) → Frame N → Frame N
 declare_procedures_in_frame k ps f = record { env = declare_procedures k ps f.env; store = f.store }
 
--- Adds a block's constants and types, then its variables, then its procedures to a frame. `k` is
--- the number of words ARRAY and RECORD before the block. Returns None if one of them has an error.
+-- Returns the frame with a block's constants, types, variables and procedures added, in this order. `k` is the number
+-- of words ARRAY and RECORD before the block. Returns None if a constant, type or variable has an error.
 unfoldable pub declare_block : {N : Type 0}
     → Naming N
     → ℕ
@@ -296,27 +301,27 @@ declare_block naming k b f =
     record { env = env; store = f.store }))
     (declare_first naming f.env k b)
 
--- Binds a parameter to its argument: a VAR parameter to the place, any other to a new variable that has the value.
--- Returns None if the argument has the wrong form.
+-- Returns the frame with a parameter bound to its argument. A VAR parameter is bound to the argument's place. Any other
+-- parameter is bound to a separate variable with the argument's value. Returns None if the argument has the wrong form.
 abbrev pub bind_parameter : {N : Type 0} → Mode → N → Argument → Frame N → Option (Frame N)
 bind_parameter by_place x (place_argument p) f =
     Some record { env = (x, a_variable p) ∷ f.env; store = f.store }
 bind_parameter by_value x (value_argument v) f = Some (allocate (x ∷ []) v f)
 bind_parameter _ x _ f = None
 
--- a formal parameter: its mode and its name
+-- a formal parameter of a procedure: its mode and its name
 pub record Parameter (N : Type 0) : Type 0 where
   pub mode : Mode
   pub name : N
 
--- returns the formal parameters of a heading
+-- returns the formal parameters of a procedure heading, in text order
 abbrev pub parameters : {N : Type 0} → Tree N (items further_section) → List (Parameter N)
 parameters end = []
 parameters (more (then_section f) fs) =
     map (λ x. record { mode = section_mode f; name = x }) (section_names f) ++ parameters fs
 
--- binds all parameters of a call to its arguments; None if there are more or fewer arguments than
--- parameters, or an argument has the wrong form
+-- returns the frame with all parameters of a procedure bound to the arguments of a call; None if there are more or
+-- fewer arguments than parameters, or an argument has the wrong form
 abbrev pub bind_parameters : {N : Type 0}
     → List (Parameter N)
     → List Argument
@@ -327,14 +332,14 @@ bind_parameters (p ∷ ps) (a ∷ args) f =
     option_and_then (bind_parameters ps args) (bind_parameter p.mode p.name a f)
 bind_parameters _ _ f = None
 
--- returns the modes of a procedure's parameters
+-- returns the modes of a procedure's parameters, in text order
 abbrev pub formal_modes : {N : Type 0} → Tree N (items further_section) → List Mode
 formal_modes end = []
 formal_modes (more (then_section f) fs) =
     map (λ x. section_mode f) (section_names f) ++ formal_modes fs
 
--- returns a name's object as statements see it: a procedure is reduced to the modes of its
--- parameters; anything else is unchanged
+-- returns a name's object with only the data that statements need: a procedure keeps only the modes of its parameters,
+-- and any other object is unchanged
 abbrev pub statement_object : {N : Type 0}
     → Option (Object Place (ProcedureText N))
     → Option (Object Place (List Mode))
@@ -354,7 +359,7 @@ statement_meanings naming env =
     record
     { object_for = λ x. statement_object ((meanings naming env).object_for x); written = naming.written }
 
--- executes the statements of a body; without a body, nothing happens
+-- executes the statements of a body; does nothing if there is no body
 unfoldable pub execute_body : {N : Type 0}
     → Naming N
     → Activation N
@@ -368,7 +373,7 @@ execute_body naming env enter t none s = running s
 execute_body naming env enter t (one (begins statements)) s =
     execute_all (statement_meanings naming env) enter t statements s
 
--- continues a run with a frame and the frame's store; ends the run with Stuck if there is no frame
+-- continues a run with `next` in a frame, with the frame's store; ends the run with Stuck if there is no frame
 abbrev pub continue_in_frame : {N : Type 0}
     → State
     → Option (Frame N)
@@ -377,9 +382,9 @@ abbrev pub continue_in_frame : {N : Type 0}
 continue_in_frame s None next = stopped Stuck s.output
 continue_in_frame s (Some f) next = next f record s { store = f.store }
 
--- Executes the procedure in the first binding of an environment. Binds its parameters, adds its own
--- declarations and executes its body, which also sees this environment. Ends the run with Stuck if
--- the binding isn't a procedure, the arguments don't match or a declaration has an error.
+-- Executes the procedure in the first binding of an environment. Binds the parameters, adds the procedure's own
+-- declarations and executes its body. The body also sees this environment. Ends the run with Stuck if the binding isn't
+-- a procedure, the arguments don't match, or a declaration has an error.
 unfoldable pub activate : {N : Type 0}
     → Naming N
     → (Activation N → CallFunction N)
@@ -398,28 +403,28 @@ activate naming enter t ((x, a_procedure code) ∷ rest) args s =
     (λ f. execute_body naming f.env (enter f.env) t (block_statements (procedure_block code.text)))
 activate naming enter t _ args s = stopped Stuck s.output
 
--- Performs the call of the name `x`. `c` is how many calls may still be opened within each other;
--- if it is 0, the run ends with CallBound. The store keeps the call's variables after the call
--- returns.
+-- Performs the call of the procedure `x`. The first number is how many calls may still be opened within each other. If
+-- it is 0, the run ends with CallBound. The second number bounds the iterations of each loop. The store keeps the
+-- call's variables after the call returns.
 unfoldable pub call : {N : Type 0} → Naming N → ℕ → ℕ → Activation N → CallFunction N
 unfolding activate
 call naming zero t env x args s = stopped CallBound s.output
 call naming (suc c) t env x args s =
     activate naming (call naming c t) t (environment_from_binding naming env x) args s
 
--- the result of a run: its output and its end
+-- the result of a run: its output and the way in which it ends
 pub record Run : Type 0 where
   pub output : List PrintedItem
   pub ending : End
 
--- returns the result of a run, given the progress after the module's body: it ends with Done if the
--- end of the body was reached
+-- returns the result of a run, given its progress after the module's body; a run that reaches the end of the body ends
+-- with Done
 abbrev pub run_result : Progress → Run
 run_result (running s) = record { output = s.output; ending = Done }
 run_result (stopped e out) = record { output = out; ending = e }
 
--- returns the result of running a tree; `enter` performs calls, and `t` bounds the iterations of
--- each loop
+-- returns the result of running a module's tree with this input; `enter` performs calls in an environment, and `t`
+-- bounds the iterations of each loop
 unfoldable pub run_by : {N : Type 0}
     → Naming N
     → (Activation N → CallFunction N)
@@ -434,20 +439,20 @@ run_by naming enter t m input =
     (declare_block naming 0 (module_block m) record { env = outermost naming; store = [] })
     (λ f. execute_body naming f.env (enter f.env) t (block_statements (module_block m))))
 
--- returns the result of running a tree with names of any kind; `c` bounds the open calls, and `t`
--- the iterations of each loop
+-- returns the result of running a module's tree whose names are interpreted by `naming`; `c` bounds the number of open
+-- calls, and `t` bounds the iterations of each loop
 unfoldable pub run_over : {N : Type 0} → Naming N → Tree N module_text → List ℤ → ℕ → ℕ → Run
 unfolding run_by call
 run_over naming m input c t = run_by naming (call naming c t) t m input
 
--- returns the result of running a module with this input; the first bound is on open calls, the
--- second on the iterations of each loop
+-- returns the result of running a module with this input; the first number bounds the open calls, and the second number
+-- bounds the iterations of each loop
 unfoldable pub run : Tree Name module_text → List ℤ → ℕ → ℕ → Run
 unfolding run_over
 run = run_over naming_by_spelling
 
--- returns the result of running a numbered tree with this input; the first bound is on open calls,
--- the second on the iterations of each loop
+-- returns the result of running a numbered tree with this input; the first number bounds the open calls, and the second
+-- number bounds the iterations of each loop
 unfoldable pub run_numbered : Tree Label module_text → List ℤ → ℕ → ℕ → Run
 unfolding run_over
 run_numbered = run_over naming_by_label

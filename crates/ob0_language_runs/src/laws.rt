@@ -1,66 +1,72 @@
 //! The laws of runs and edits. Each function does nothing; its contract is the law.
 //!
-//! In the definition `run`, the store keeps every variable until the run ends. `run_freeing`
-//! (`specs/Freed`) drops a call's variables when the call returns; `freeing_keeps_runs` states that
-//! both have the same result. `specs/Fitting` defines when a value, a store, a place or an
-//! environment fits the types of a checked module. These facts hold throughout a run, so no run
-//! gets stuck.
+//! In the definition `run`, the store keeps every variable until the run ends. In `run_freeing`
+//! (`specs/Freed`), a call's variables are dropped when the call returns. `freeing_keeps_runs`
+//! states that both runs have the same result. `specs/Fitting` defines when a value, a store, a
+//! place or an environment fits the types of a checked module. Throughout a run all of them fit, so
+//! no run of a well-typed module gets stuck.
 
 ghost use Rattle.ob0_language_runs.specs.Laws.{NumberingKeepsRuns, NumberedTreeDecidesRuns, FreeRenamingKeepsRuns, FreeingKeepsRuns, NeverStuck, InliningKeepsExecution};
 ghost use Rattle.ob0_language_runs.specs.EditLaws.{FreeRenamingKeepsTypingAndRuns, InliningKeepsTypingAndRuns, RemovingUnusedKeepsTypingAndRuns, InliningEverywhereKeepsTypingAndRuns};
 
-/// Proves that a module and its numbered tree have the same run for every input and all bounds.
+/// Proves that a module and its numbered tree have the same run for every input and all bounds on
+/// calls and loop iterations.
 pub fn numbering_keeps_runs()
     ensures { NumberingKeepsRuns }
 {}
 
-/// Proves that two modules with the same numbered tree have the same runs.
+/// Proves that two modules with the same numbered tree have the same runs: the same result for
+/// every input and all bounds.
 pub fn numbered_tree_decides_runs()
     ensures { NumberedTreeDecidesRuns }
 {}
 
-/// Proves that a module has the same runs after a declaration is renamed to a free name.
+/// Proves that a module has the same runs if a declaration is renamed to a free name. A free name
+/// causes no name conflict.
 pub fn free_renaming_keeps_runs()
     ensures { FreeRenamingKeepsRuns }
 {}
 
-/// Proves that dropping a call's variables when the call returns changes no run.
+/// Proves that dropping each call's variables from the store when the call returns doesn't change
+/// the result of a run.
 pub fn freeing_keeps_runs()
     ensures { FreeingKeepsRuns }
 {}
 
-/// Proves that no run of a well-typed module gets stuck.
+/// Proves that no run of a well-typed module gets stuck: each step of the run has a meaning.
 pub fn never_stuck()
     ensures { NeverStuck }
 {}
 
-/// Proves that replacing uses of a constant by a factor with the constant's value leaves the execution of a statement
-/// unchanged.
+/// Proves that replacing uses of a constant by a factor with the constant's value leaves the
+/// execution of a statement unchanged.
 pub fn inlining_keeps_execution()
     ensures { InliningKeepsExecution }
 {}
 
-/// Proves that a well-typed module remains well-typed and has the same runs after a declaration is renamed to a free
-/// name.
+/// Proves that a well-typed module remains well-typed and has the same runs if a declaration is
+/// renamed to a free name. A free name causes no name conflict.
 pub fn free_renaming_keeps_typing_and_runs()
     ensures { FreeRenamingKeepsTypingAndRuns }
 {}
 
-/// Proves that a well-typed module remains well-typed and has the same runs if uses of a constant are replaced by its
-/// literal. The literal must have the constant's value at each of these uses.
+/// Proves that a well-typed module remains well-typed and has the same runs if uses of a constant
+/// are replaced by the constant's literal. If the literal is TRUE or FALSE, this word must mean the
+/// predeclared constant at each of these uses.
 pub fn inlining_keeps_typing_and_runs()
     ensures { InliningKeepsTypingAndRuns }
 {}
 
-/// Proves that a well-typed module remains well-typed and has the same runs without the declaration of a constant that
-/// no occurrence is bound to.
+/// Proves that a well-typed module remains well-typed and has the same runs if the declaration of
+/// an unused constant is removed. A constant is unused if no occurrence of a name is bound to it.
 pub fn removing_unused_keeps_typing_and_runs()
     ensures { RemovingUnusedKeepsTypingAndRuns }
 {}
 
-/// Proves that a well-typed module remains well-typed and has the same runs after a constant is inlined everywhere. Its
-/// literal then replaces all its uses, and its declaration is removed. The literal must have the constant's value at
-/// each use.
+/// Proves that a well-typed module remains well-typed and has the same runs if a constant is
+/// inlined everywhere. The constant's literal replaces all its uses, and the declaration is
+/// removed. If the literal is TRUE or FALSE, this word must mean the predeclared constant at each
+/// use.
 pub fn inlining_everywhere_keeps_typing_and_runs()
     ensures { InliningEverywhereKeepsTypingAndRuns }
 {}

@@ -1,5 +1,5 @@
--- The bindings that all declarations of a module make, newest first. Each is made in the environment in which its
--- declaration is checked.
+-- The bindings that all declarations of a module make, newest first. Each binding is made in the environment in which
+-- its declaration is checked.
 -- Rule: docs/LANGUAGE.md, Scopes 2 to 4.
 use Rattle.std.specs.Prelude.{ℕ, ◌+◌, ◌-◌, List, [], ◌++◌, length, take, Some, None, Option}
 use Rattle.ob0_tree.specs.Tree.{Tree, block, declares, declares_procedure, end, has_body, item, items, module_text, more, procedure}
@@ -13,12 +13,12 @@ use Rattle.ob0_language_types.specs.Expressions.{Object, a_variable}
 use Rattle.ob0_language_types.specs.WellTyped.{Signature, TypeEnvironment, bind_typed_parameters, bind_procedure, typed_parameters}
 use Rattle.ob0_language_values.specs.Values.{Shape}
 
--- Returns the bindings of `now` that were added after `before`. They are the first ones in `now`,
+-- Returns the bindings that were added to the list `before` to get the list `now`. They are the first items of `now`,
 -- because the newest binding comes first.
 abbrev pub bindings_since : {A : Type 0} → List A → List A → List A
 bindings_since before now = take (length now - length before) now
 
--- returns the list that a function makes from an optional value; empty for None
+-- returns the list that the function `list` makes from an optional value; an empty list if the value is None
 abbrev pub list_if_some : {A B : Type 0} → Option A → (A → List B) → List B
 list_if_some None list = []
 list_if_some (Some a) list = list a
@@ -27,8 +27,8 @@ list_if_some (Some a) list = list a
 unfoldable mutual
   unfolding declare_procedure typed_parameters
 
-  -- returns the bindings of a block, newest first; empty if a constant, type or variable has an
-  -- error; `k` is the number of words ARRAY and RECORD before the block
+  -- returns the bindings of a block, newest first; an empty list if a constant, type or variable has an error; `k` is
+  -- the number of words ARRAY and RECORD before the block
   pub block_bindings : {N : Type 0}
       → Naming N
       → TypeEnvironment N
@@ -41,8 +41,8 @@ unfoldable mutual
       (constructor_after_variables k (has_body (declares cs ts vs ps) statements)) ps
       ++ bindings_since env inner)
 
-  -- returns the bindings of procedures, from the last procedure to the first; `k` is the number of
-  -- words ARRAY and RECORD before the procedures
+  -- Returns the bindings of a list of procedures, from the last procedure to the first. Leaves out the first procedure
+  -- that isn't well-typed and all later procedures. `k` is the number of words ARRAY and RECORD before the procedures.
   pub procedures_bindings : {N : Type 0}
       → Naming N
       → TypeEnvironment N
@@ -55,9 +55,9 @@ unfoldable mutual
       (k + procedure_constructor_count p) rest
       ++ procedure_bindings naming env k p)
 
-  -- Returns the bindings of a procedure: first its block's bindings, then its parameters, then its
-  -- name. Returns an empty list if a parameter's type has an error. `k` is the number of words
-  -- ARRAY and RECORD before the procedure.
+  -- Returns the bindings of a procedure: first the bindings of its block, then of its parameters, then of its name.
+  -- Returns an empty list if a parameter's type has an error. `k` is the number of words ARRAY and RECORD before the
+  -- procedure.
   pub procedure_bindings : {N : Type 0}
       → Naming N
       → TypeEnvironment N
@@ -70,17 +70,18 @@ unfoldable mutual
       (k + formals_constructor_count (formal_sections fs)) b
       ++ bind_typed_parameters ps (bind_procedure x ps []))
 
--- returns the bindings of a whole module, newest first, and after them the predeclared names
+-- returns the bindings of a whole module, newest first, followed by the bindings of the predeclared names
 abbrev pub module_bindings : {N : Type 0} → Naming N → Tree N module_text → TypeEnvironment N
 module_bindings naming m =
     block_bindings naming (outermost naming) 0 (module_block m) ++ outermost naming
 
--- returns the object in the newest binding of the label with ordinal `k`; None if nothing binds it
+-- returns the object in the newest binding of the ordinal `k`; None if no binding is for `k`
 abbrev pub bound_object : TypeEnvironment Label → ℕ → Option (Object Shape Signature)
 bound_object bindings k = newest_object (environment_from_binding naming_by_label bindings (declared k))
 
--- Returns the object of the declaration with ordinal `k`. Looks for it in the bindings of the
--- numbered tree, in which ordinals replace names. Returns None if nothing binds `k`.
+-- Returns the object of the declaration with ordinal `k`. A declaration's ordinal is its number in text order, after
+-- the predeclared names 0 to 6. Looks for `k` in the bindings of the numbered tree, in which ordinals replace names.
+-- Returns None if no binding is for `k`.
 abbrev pub declared_object : Tree Name module_text → ℕ → Option (Object Shape Signature)
 declared_object m k = bound_object (module_bindings naming_by_label (numbered m)) k
 

@@ -18,7 +18,8 @@ pub record BodyAt (N : Type 0) : Type 0 where
   pub environment : TypeEnvironment N
   pub statements : Tree N (maybe body)
 
--- Returns the bodies of a block. The body of a block comes after the bodies of its procedures.
+-- Returns the bodies of a block. The body of a block comes in the list after the bodies of its
+-- procedures.
 unfoldable mutual
   unfolding typed_parameters
 
@@ -36,8 +37,9 @@ unfoldable mutual
       (λ inner. procedures_bodies naming inner
       (constructor_after_variables k (has_body (declares cs ts vs ps) statements)) statements ps)
 
-  -- returns the bodies of procedures in text order, then the body `statements` of their block; `k`
-  -- is the number of words ARRAY and RECORD before the procedures
+  -- Returns the bodies of a list of procedures in text order, then the body `statements` of the
+  -- block that contains them. If a parameter's type has an error, the result ends before the bodies
+  -- of this procedure. `k` is the number of words ARRAY and RECORD before the procedures.
   pub procedures_bodies : {N : Type 0}
       → Naming N
       → TypeEnvironment N
@@ -53,8 +55,8 @@ unfoldable mutual
       ++ procedures_bodies naming (bind_procedure (procedure_name p) ps env)
       (k + procedure_constructor_count p) statements rest)
 
-  -- returns the bodies of a procedure's block; `env` has the procedure's name and parameters; `k`
-  -- is the number of words ARRAY and RECORD before the procedure
+  -- returns the bodies of a procedure's block; `env` already binds the procedure's name and
+  -- parameters; `k` is the number of words ARRAY and RECORD before the procedure
   pub procedure_bodies : {N : Type 0}
       → Naming N
       → TypeEnvironment N
@@ -64,16 +66,17 @@ unfoldable mutual
   procedure_bodies naming env k (declares_procedure x fs b closing) =
       block_bodies naming env (k + formals_constructor_count (formal_sections fs)) b
 
--- returns the bodies of a module, each with its environment
+-- returns the bodies of a module, each with the environment in which its statements are checked
 abbrev pub module_bodies : {N : Type 0} → Naming N → Tree N module_text → List (BodyAt N)
 module_bodies naming m = block_bodies naming (outermost naming) 0 (module_block m)
 
--- Holds if `Q` holds for these environments of a block: after its variables, at the start of each
--- procedure's block, and after its procedures. The same must hold within each procedure.
+-- States that `Q` holds for these environments of a block: after its variables, at the start of
+-- each procedure's block, and after its procedures. The same must hold within each procedure.
 abbrev mutual
-  -- Holds for a block if `Q` holds for the environment after its constants, types and variables,
-  -- and `ProceduresHave` holds in it. Also holds if a constant, type or variable has an error. `k`
-  -- is the number of words ARRAY and RECORD before the block.
+  -- States that `Q` holds for the environment after a block's constants, types and variables, and
+  -- that `ProceduresHave` holds for the block's procedures in this environment. States nothing if a
+  -- constant, type or variable has an error. `k` is the number of words ARRAY and RECORD before the
+  -- block.
   pub BlockHas : (TypeEnvironment Label → Type 0)
       → TypeEnvironment Label
       → ℕ
@@ -85,8 +88,9 @@ abbrev mutual
       → Q inner
       × ProceduresHave Q inner (constructor_after_variables k (has_body (declares cs ts vs ps) statements)) ps
 
-  -- Holds for procedures if `Q` holds for the environment of each procedure's block, for the
-  -- environments within it, and for the environment after all procedures. `k` is the number of
+  -- States that `Q` holds for the environment of each procedure's block, for the environments
+  -- within that block, and for the environment after all procedures. If a parameter's type has an
+  -- error, states nothing about this procedure and the environments after it. `k` is the number of
   -- words ARRAY and RECORD before the procedures.
   pub ProceduresHave : (TypeEnvironment Label → Type 0)
       → TypeEnvironment Label
@@ -101,7 +105,7 @@ abbrev mutual
       × ProcedureHas Q (bind_typed_parameters ps (bind_procedure (procedure_name p) ps env)) k p
       × ProceduresHave Q (bind_procedure (procedure_name p) ps env) (k + procedure_constructor_count p) rest
 
-  -- holds for a procedure if `BlockHas` holds for its block; `k` is the number of words ARRAY and
+  -- states that `BlockHas` holds for a procedure's block; `k` is the number of words ARRAY and
   -- RECORD before the procedure
   pub ProcedureHas : (TypeEnvironment Label → Type 0)
       → TypeEnvironment Label
@@ -111,8 +115,9 @@ abbrev mutual
   ProcedureHas Q env k (declares_procedure x fs b closing) =
       BlockHas Q env (k + formals_constructor_count (formal_sections fs)) b
 
--- In a well-typed module, if a body's environment binds an ordinal to an object, the declaration
--- with this ordinal makes this object.
+-- States that an environment and a declaration agree on the object of an ordinal. If the
+-- environment of a body in a well-typed module binds an ordinal to an object, the declaration with
+-- this ordinal makes the same object.
 abbrev pub BindingsMatchDeclarations : Type 0
 BindingsMatchDeclarations =
     (m : Tree Name module_text) → WellTyped m

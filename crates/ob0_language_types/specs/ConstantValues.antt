@@ -1,5 +1,5 @@
 -- The values of a module's constants, computed in environments that have only the values of
--- constants. Other names count only because they can hide a constant's name.
+-- constants. Other names matter only because they can hide a constant's name.
 -- Rule: docs/LANGUAGE.md, Types 6, 7.
 use Rattle.std.specs.Prelude.{None, Option, Some, if◌then◌else◌, map, nat_lt, option_and_then, suc, ℕ, ◌++◌, ◌==◌, ◌∷◌}
 use Rattle.ob0_tree.specs.Tree.{Tree, block, constant, declares, declares_constant, declares_procedure, end, has_body, item, items, module_text, more, procedure}
@@ -13,15 +13,16 @@ use Rattle.ob0_language_types.specs.Expressions.{Object, a_constant, a_procedure
 use Rattle.ob0_language_types.specs.Typing.{constant_value, ◌>>=◌}
 use Rattle.ob0_language_types.specs.WellTyped.{bind_names}
 
--- environments that have the values of constants, and no facts about other names
+-- environments that have the values of constants, and nothing about the other names except that
+-- they are bound
 abbrev pub ConstantEnvironment : Type 0
 ConstantEnvironment = Environment Name (Unit {0}) (Unit {0})
 
--- an object that stands for any object that isn't a constant
+-- an object in place of any object that isn't a constant
 abbrev pub non_constant : Object (Unit {0}) (Unit {0})
 non_constant = a_variable tt
 
--- keeps a constant with its value; any other object becomes `non_constant`
+-- returns a constant with the same value for a constant, and `non_constant` for any other object
 abbrev pub keep_constant : {V P : Type 0} → Object V P → Object (Unit {0}) (Unit {0})
 keep_constant (a_constant v) = a_constant v
 keep_constant (a_type s) = non_constant
@@ -34,9 +35,9 @@ abbrev pub predeclared_constants : ConstantEnvironment
 predeclared_constants =
     map (λ b. (b.0, keep_constant b.1)) (outermost {V = Unit {0}} {P = Unit {0}} naming_by_spelling)
 
--- Returns the value of the constant with ordinal `d` in a list of constants; the first one has
--- ordinal `k`. Returns None if `d` isn't in the list, or if this constant or one before it has no
--- value.
+-- Returns the value of the constant with ordinal `d` in a list of constant declarations. The first
+-- declaration in the list has ordinal `k`. Returns None if the list doesn't declare `d`, or if this
+-- constant or an earlier one in the list has no value.
 unfoldable pub value_among : ConstantEnvironment → ℕ → ℕ → Tree Name (items constant) → Option Value
 unfolding constant_value
 value_among known d k end = None
@@ -45,13 +46,13 @@ value_among known d k (more (declares_constant x e) cs) = do
   if k == d then Some v else value_among ((x, a_constant v) ∷ known) d (suc k) cs
 
 -- Returns the value of the constant with ordinal `d`. Returns None if no CONST section declares
--- `d`. Also returns None if this constant, an earlier one of its section or one of an enclosing
--- block has no value.
+-- `d`. Also returns None if this constant, an earlier constant in its section or a constant of an
+-- enclosing block has no value.
 unfoldable mutual
   unfolding value_among declare_constants
 
   -- returns the value of the constant with ordinal `d` in a block whose first declaration has
-  -- ordinal `k`; None if it isn't declared there or can't be computed
+  -- ordinal `k`; None if the block doesn't declare this constant or its value can't be computed
   pub value_in_block : ConstantEnvironment → ℕ → ℕ → Tree Name block → Option Value
   value_in_block known d k (has_body (declares cs ts vs ps) statements) =
       if nat_lt d (first_type_ordinal k (has_body (declares cs ts vs ps) statements))
@@ -62,8 +63,9 @@ unfoldable mutual
       inner) d (first_procedure_ordinal k (has_body (declares cs ts vs ps) statements)) ps)
       (declare_constants naming_by_spelling known (section_constants cs))
 
-  -- returns the value of the constant with ordinal `d` in one of these procedures, the first of
-  -- which has ordinal `k`; None if it isn't declared there or can't be computed
+  -- returns the value of the constant with ordinal `d` in a list of procedures, the first of which
+  -- has ordinal `k`; None if no procedure in the list declares this constant or its value can't be
+  -- computed
   pub value_in_procedures : ConstantEnvironment → ℕ → ℕ → Tree Name (items procedure) → Option Value
   value_in_procedures known d k end = None
   value_in_procedures known d k (more p rest) =
@@ -72,17 +74,18 @@ unfoldable mutual
       else value_in_procedures ((procedure_name p, non_constant) ∷ known) d
       (ordinal_after_procedure (suc k) p) rest
 
-  -- Returns the value of the constant with ordinal `d` in a procedure's block, or None if it isn't
-  -- declared there or can't be computed. The first parameter has ordinal `k`; parameters aren't
-  -- constants.
+  -- Returns the value of the constant with ordinal `d` in a procedure's block. Returns None if the
+  -- block doesn't declare this constant or its value can't be computed. The procedure's first
+  -- parameter has ordinal `k`. Parameters aren't constants.
   pub value_in_procedure : ConstantEnvironment → ℕ → ℕ → Tree Name (item procedure) → Option Value
   value_in_procedure known d k (declares_procedure x fs b closing) =
       if nat_lt d (ordinal_after_names k (formal_names (formal_sections fs))) then None
       else value_in_block (bind_names (formal_names (formal_sections fs)) non_constant known) d
       (ordinal_after_names k (formal_names (formal_sections fs))) b
 
--- Returns the value of the constant with ordinal `d`. Returns None if no CONST section declares
--- `d`. Also returns None if this constant, an earlier one of its section or one of an enclosing
+-- Returns the value of the constant with ordinal `d`. A declaration's ordinal is its number in text
+-- order, after the predeclared names 0 to 6. Returns None if no CONST section declares `d`. Also
+-- returns None if this constant, an earlier constant in its section or a constant of an enclosing
 -- block has no value.
 unfoldable pub value_of_constant : Tree Name module_text → ℕ → Option Value
 unfolding value_in_block

@@ -9,8 +9,9 @@ use Rattle.ob0_language_types.specs.Environments.{Environment, meanings}
 use Rattle.ob0_language_types.specs.Expressions.{a_constant, a_type}
 use Rattle.ob0_language_types.specs.Typing.{constant_value, constructor_count, denoted, ◌>>=◌}
 
--- Returns the environment with constants added, each visible after its right side. Returns None if
--- a right side isn't a constant expression with a value.
+-- Returns the environment `env` with constants added. A constant is visible only after its own
+-- declaration. Returns None if the right side of a declaration isn't a constant expression with a
+-- value.
 unfoldable pub declare_constants : {N V P : Type 0}
     → Naming N
     → Environment N V P
@@ -22,8 +23,9 @@ declare_constants naming env (more (declares_constant x e) cs) = do
   v ← constant_value (meanings naming env) e
   declare_constants naming ((x, a_constant v) ∷ env) cs
 
--- Returns the environment with types added, each visible after its right side. `k` is the number of
--- words ARRAY and RECORD before them. Returns None if a right side denotes no type.
+-- Returns the environment `env` with types added. A type is visible only after its own declaration.
+-- `k` is the number of words ARRAY and RECORD before these declarations. Returns None if the right
+-- side of a declaration denotes no type.
 unfoldable pub declare_types : {N V P : Type 0}
     → Naming N
     → Environment N V P
@@ -36,8 +38,9 @@ declare_types naming env k (more (declares_type x u) ds) = do
   s ← denoted (meanings naming env) k u
   declare_types naming ((x, a_type s) ∷ env) (k + constructor_count u) ds
 
--- Returns the environment with a block's constants and then its types added. `k` is the number of
--- words ARRAY and RECORD before the block. Returns None if one of them has an error.
+-- Returns the environment `env` with a block's constants and then its types added. `k` is the
+-- number of words ARRAY and RECORD before the block. Returns None if one of these declarations has
+-- an error.
 unfoldable pub declare_first : {N V P : Type 0}
     → Naming N
     → Environment N V P
@@ -60,7 +63,7 @@ variables_constructor_count end = 0
 variables_constructor_count (more (declares_variable ns u) gs) =
     constructor_count u + variables_constructor_count gs
 
--- returns the number of words ARRAY and RECORD in formal parameters
+-- returns the number of words ARRAY and RECORD in the types of formal parameters
 abbrev pub formals_constructor_count : {N : Type 0} → Tree N (items further_section) → ℕ
 formals_constructor_count end = 0
 formals_constructor_count (more (then_section f) fs) =
@@ -84,17 +87,17 @@ abbrev mutual
   procedure_constructor_count (declares_procedure x fs b closing) =
       formals_constructor_count (formal_sections fs) + block_constructor_count b
 
--- returns the number of words ARRAY and RECORD before a block's variables; `k` of them are before
--- the block
+-- returns the number of words ARRAY and RECORD before a block's variables; `k` of these words are
+-- before the block
 abbrev pub constructor_after_types : {N : Type 0} → ℕ → Tree N block → ℕ
 constructor_after_types k b = k + types_constructor_count (block_types b)
 
--- returns the number of words ARRAY and RECORD before a block's procedures; `k` of them are before
--- the block
+-- returns the number of words ARRAY and RECORD before a block's procedures; `k` of these words are
+-- before the block
 abbrev pub constructor_after_variables : {N : Type 0} → ℕ → Tree N block → ℕ
 constructor_after_variables k b = constructor_after_types k b + variables_constructor_count (block_variables b)
 
--- returns the number of words ARRAY and RECORD before a procedure's block; `k` of them are before
--- the procedure
+-- returns the number of words ARRAY and RECORD before a procedure's block; `k` of these words are
+-- before the procedure
 abbrev pub constructor_after_formals : {N : Type 0} → ℕ → Tree N (item procedure) → ℕ
 constructor_after_formals k p = k + formals_constructor_count (procedure_formals p)

@@ -1,4 +1,4 @@
--- The environments after declarations.
+-- The environments after the declarations of a procedure and of a block.
 -- Rule: none; for contracts of inlining and renaming.
 use Rattle.std.specs.Prelude.{ℕ, if◌then◌else◌, Some, None, Option}
 use Rattle.ob0_tree.specs.Tree.{Tree, block, item, procedure}
@@ -8,8 +8,8 @@ use Rattle.ob0_language_types.specs.Declarations.{constructor_after_types, decla
 use Rattle.ob0_language_types.specs.Typing.{◌>>=◌}
 use Rattle.ob0_language_types.specs.WellTyped.{TypeEnvironment, bind_typed_parameters, declare_typed, bind_procedure, procedure_fits, typed_parameters}
 
--- Returns the environment with a procedure's name added, or None if the procedure isn't well-typed.
--- `k` is the number of words ARRAY and RECORD before the procedure.
+-- Returns the environment `env` with the procedure's name added. Returns None if the procedure
+-- isn't well-typed. `k` is the number of words ARRAY and RECORD before the procedure.
 unfoldable pub declare_procedure : {N : Type 0}
     → Naming N
     → TypeEnvironment N
@@ -23,8 +23,9 @@ declare_procedure naming env k p = do
       then Some (bind_procedure (procedure_name p) ps env)
       else None
 
--- Returns the environment with a block's constants, types and variables added, or None if one of
--- them has an error. `k` is the number of words ARRAY and RECORD before the block.
+-- Returns the environment `env` with a block's constants, types and variables added. Returns None
+-- if one of these declarations has an error. `k` is the number of words ARRAY and RECORD before the
+-- block.
 abbrev pub declare_block : {N : Type 0}
     → Naming N
     → TypeEnvironment N

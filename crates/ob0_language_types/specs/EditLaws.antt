@@ -13,7 +13,8 @@ use Rattle.ob0_language_types.specs.ConstantValues.{value_of_constant}
 use Rattle.ob0_language_types.specs.WellTyped.{WellTyped}
 use Rattle.ob0_language_types.specs.Written.{value_literal}
 
--- A well-typed module remains well-typed if a declaration is renamed to a free name.
+-- States that a well-typed module remains well-typed if a declaration is renamed to a free name. A free name causes no
+-- name conflict.
 abbrev pub FreeRenamingKeepsWellTyped : Type 0
 FreeRenamingKeepsWellTyped =
     (m : Tree Name module_text) (d : ℕ) (new : Name)
@@ -21,42 +22,43 @@ FreeRenamingKeepsWellTyped =
     → WellTyped m
     → WellTyped (renamed m d new)
 
--- holds if a value is a 32-bit number or a truth value
+-- states that a value is a 32-bit number or a truth value
 abbrev pub IsScalar : Value → Type 0
 IsScalar (number n) = IsTrue (fits n)
 IsScalar (truth b) = Unit {0}
 IsScalar (elements vs) = ⊥
 IsScalar (members k ms) = ⊥
 
--- Holds if the word for a truth value, TRUE or FALSE, would be bound to the predeclared constant if
--- it replaced this occurrence. Holds for every other value.
+-- States that a truth value's word, TRUE or FALSE, would be bound to the predeclared constant in place of this
+-- occurrence. States nothing for any other value.
 abbrev pub MeansPredeclaredTruth : Tree Name module_text → ℕ → Value → Type 0
 MeansPredeclaredTruth m occurrence (truth true) = resolve_at_occurrence m occurrence (codes "TRUE") ≡ Some 2
 MeansPredeclaredTruth m occurrence (truth false) = resolve_at_occurrence m occurrence (codes "FALSE") ≡ Some 3
 MeansPredeclaredTruth m occurrence _ = Unit {0}
 
--- holds if `d` is the ordinal of a constant in a CONST section, `w` is its value, and the factor
--- `v` writes this value
+-- States that a CONST section declares a constant with ordinal `d`. Its value is `w`, and the factor `v` is the literal
+-- for this value.
 pub record IsConstantWritten
     (m : Tree Name module_text) (d : ℕ) (w : Value) (v : Tree Name factor) : Type 0 where
   pub value : value_of_constant m d ≡ Some w
   pub scalar : IsScalar w
   pub literal : value_literal w ≡ Some v
 
--- Holds if each occurrence in `uses` is bound to the constant `d`. If `w` is a truth value, the
--- word TRUE or FALSE must mean the predeclared constant in place of each of these occurrences.
+-- States that each occurrence in `uses` is bound to the constant with ordinal `d`. If the constant's value `w` is TRUE
+-- or FALSE, this word must mean the predeclared constant in place of each of these occurrences.
 pub record AreUsesOf (m : Tree Name module_text) (d : ℕ) (w : Value) (uses : OccurrenceSet) : Type 0 where
   pub bound : (k : ℕ) → uses k ≡ true → binds m k ≡ Some d
   pub seen : (k : ℕ) → uses k ≡ true → MeansPredeclaredTruth m k w
 
--- A well-typed module remains well-typed if uses of a constant are replaced by its literal. If the literal is TRUE or
--- FALSE, this word must mean the predeclared constant at each of these uses.
+-- States that a well-typed module remains well-typed if uses of a constant are replaced by the constant's literal. If
+-- the literal is TRUE or FALSE, this word must mean the predeclared constant at each of these uses.
 abbrev pub InliningKeepsWellTyped : Type 0
 InliningKeepsWellTyped =
     (m : Tree Name module_text) (d : ℕ) (w : Value) (v : Tree Name factor) (uses : OccurrenceSet)
     → IsConstantWritten m d w v → AreUsesOf m d w uses → WellTyped m → WellTyped (inlined m uses v)
 
--- A well-typed module remains well-typed without the declaration of a constant that no occurrence is bound to.
+-- States that a well-typed module remains well-typed if the declaration of an unused constant is removed. A constant is
+-- unused if no occurrence of a name is bound to it.
 abbrev pub RemovingUnusedKeepsWellTyped : Type 0
 RemovingUnusedKeepsWellTyped =
     (m : Tree Name module_text) (d : ℕ) (w : Value) (v : Tree Name factor)
@@ -65,8 +67,9 @@ RemovingUnusedKeepsWellTyped =
     → WellTyped m
     → WellTyped (module_without d m)
 
--- A well-typed module remains well-typed if all uses of a constant are replaced by its literal and its declaration is
--- removed. The literal must have the constant's value at each use.
+-- States that a well-typed module remains well-typed if all uses of a constant are replaced by the constant's literal
+-- and the declaration is removed. If the literal is TRUE or FALSE, this word must mean the predeclared constant at each
+-- use.
 abbrev pub InliningEverywhereKeepsWellTyped : Type 0
 InliningEverywhereKeepsWellTyped =
     (m : Tree Name module_text) (d : ℕ) (w : Value) (v : Tree Name factor)
@@ -75,8 +78,8 @@ InliningEverywhereKeepsWellTyped =
     → WellTyped m
     → WellTyped (inlined_everywhere m d v)
 
--- In a well-typed module each use of a constant is a whole factor. It isn't the name of a type, a
--- called procedure or the target of an assignment, and it has no selectors.
+-- States that each use of a constant in a well-typed module is a whole factor, without selectors. In particular, a use
+-- of a constant isn't the name of a type, a called procedure or the target of an assignment.
 abbrev pub ConstantUsesAreFactors : Type 0
 ConstantUsesAreFactors =
     (m : Tree Name module_text) (d : ℕ) (w : Value) (v : Tree Name factor)

@@ -9,20 +9,20 @@ use Rattle.ob0_language_values.specs.Values.{boolean_shape, integer_shape, truth
 abbrev pub Environment : Type 0 → Type 0 → Type 0 → Type 0
 Environment N V P = List (N × Object V P)
 
--- returns the rest of an environment that begins with the newest binding of a name; empty if
--- nothing binds the name
+-- returns the part of an environment that begins with the newest binding of the name `x`; an empty list if no binding
+-- is for `x`
 abbrev pub environment_from_binding : {N V P : Type 0} → Naming N → Environment N V P → N → Environment N V P
 environment_from_binding naming [] x = []
 environment_from_binding naming (b ∷ env) x =
     elim (naming.same x b.0) [ true ↦ b ∷ env | false ↦ environment_from_binding naming env x ]
 
--- returns the object of the first binding, which is the newest one; None if the environment is
--- empty
+-- returns the object of the first binding, which is the newest binding; None if the environment is empty
 abbrev pub newest_object : {N V P : Type 0} → Environment N V P → Option (Object V P)
 newest_object [] = None
 newest_object (b ∷ env) = Some b.1
 
--- returns the meanings of names in an environment: each name means the object of its first binding
+-- returns the meanings of names in an environment: each name means the object of its newest binding, and a name without
+-- a binding means nothing
 abbrev pub meanings : {N V P : Type 0} → Naming N → Environment N V P → Meanings N V P
 meanings naming env =
     record { object_for = λ x. newest_object (environment_from_binding naming env x); written = naming.written }

@@ -1,16 +1,17 @@
--- The value of an expression, given the meanings of its names and a store. Evaluation doesn't change the store.
+-- The value of an expression, given the meanings of its names and a store with the values of variables. Evaluation
+-- doesn't change the store.
 -- Rule: docs/LANGUAGE.md, Runs 2 to 4.
 use Rattle.std.specs.Prelude.{true, false, List, [], ◌∷◌, ◌++◌, pos, negsuc, if◌then◌else◌, nat_lt, Some, Option}
 use Rattle.ob0_tree.specs.Tree.{Tree, addend, adds, compares, designator, end, expression, factor, field, index, integer, items, more, multiplier, multiplies, negation, none, one, parenthesised, product, relates, selector, simple, sum, term}
 use Rattle.ob0_language_names.specs.Names.{Name}
 use Rattle.ob0_language_values.specs.Values.{Index, Outcome, Place, Shape, Step, Store, Stuck, Value, add, add_short_circuits, at_field, at_index, value_at_path, count_values, elements, ends, gives, multiply, multiply_short_circuits, negate, number, or_stuck, part, read_place, relate, apply_sign, ◌>>=◌}
 
--- the standard procedures
+-- the standard procedures: Read, Write and WriteLn
 pub data StandardProcedure : Type 0 where
   reads writes writes_line : StandardProcedure
 
--- the object that a name means; `V` is the type of the facts about a variable, and `P` the type of
--- the facts about a procedure
+-- the object that a name means; `V` is the type of the data about a variable, and `P` is the type of the data about a
+-- procedure
 pub data Object (V P : Type 0) : Type 0 where
   a_type : Shape → Object V P
   a_constant : Value → Object V P
@@ -18,13 +19,14 @@ pub data Object (V P : Type 0) : Type 0 where
   a_procedure : P → Object V P
   a_standard : StandardProcedure → Object V P
 
--- the meanings of names at a place (None for an unbound name), and the spelling of fields
+-- the meanings of names at a place in the text: the object that each name means, None for an unbound name, and the
+-- spelling of each name, which is used to look up fields
 pub record Meanings (N V P : Type 0) : Type 0 where
   pub object_for : N → Option (Object V P)
   pub written : N → Name
 
--- Returns the step to the element of an array at an index. An index below 0 or not below the length
--- ends the run with Index. Returns Stuck if the operands aren't an array and a number.
+-- Returns the step from an array to its element at an index. An index below 0 or not below the array's length ends the
+-- run with Index. Returns Stuck if the operands aren't an array and a number.
 abbrev pub element_step : Value → Value → Outcome Step
 element_step (elements vs) (number (pos i)) =
     if nat_lt i (count_values vs) then gives (at_index i) else ends Index
@@ -42,9 +44,9 @@ object_value store (Some (a_constant v)) = gives v
 object_value store (Some (a_variable p)) = or_stuck (read_place store p)
 object_value store _ = ends Stuck
 
--- Evaluates an expression from left to right: returns its value, or the end of the run.
+-- Evaluates an expression from left to right: returns its value, or the reason why the run ends.
 unfoldable mutual
-  -- evaluates an expression: one simple expression, or a relation between two
+  -- evaluates an expression: one simple expression, or a relation between two simple expressions
   pub evaluate : {N P : Type 0} → Meanings N Place P → Store → Tree N expression → Outcome Value
   evaluate meaning store (compares a none) = evaluate_simple meaning store a
   evaluate meaning store (compares a (one (relates r b))) = do
@@ -59,8 +61,8 @@ unfoldable mutual
     y ← apply_sign s x
     evaluate_addends meaning store y rest
 
-  -- evaluates further terms after an operand with the value `x`, from left to right; if the left
-  -- operand settles an OR, its right operand isn't evaluated
+  -- evaluates the terms that follow an operand with the value `x`, from left to right; if the left operand of an OR is
+  -- TRUE, the right operand isn't evaluated
   pub evaluate_addends : {N P : Type 0}
       → Meanings N Place P
       → Store
@@ -79,8 +81,8 @@ unfoldable mutual
     x ← evaluate_factor meaning store f
     evaluate_multipliers meaning store x rest
 
-  -- evaluates further factors after an operand with the value `x`, from left to right; if the left
-  -- operand settles an `&`, its right operand isn't evaluated
+  -- evaluates the factors that follow an operand with the value `x`, from left to right; if the left operand of an `&`
+  -- is FALSE, the right operand isn't evaluated
   pub evaluate_multipliers : {N P : Type 0}
       → Meanings N Place P
       → Store
@@ -103,8 +105,8 @@ unfoldable mutual
   evaluate_factor meaning store (parenthesised e) = evaluate meaning store e
   evaluate_factor meaning store (negation f) = evaluate_factor meaning store f >>= negate
 
-  -- returns the path of these selectors in the value `v`; each index is evaluated and checked
-  -- against the length of its array
+  -- returns the path that selectors describe in the value `v`; evaluates each index and checks it against the length of
+  -- its array; returns Stuck if a selector doesn't fit the value
   pub follow : {N P : Type 0}
       → Meanings N Place P
       → Store
@@ -123,7 +125,8 @@ unfoldable mutual
     steps ← follow meaning store w rest
     gives (s ∷ steps)
 
--- returns the place of a designator: its variable's place, extended by the path of its selectors
+-- returns the place of a designator: the place of the variable `x`, extended by the path of the selectors; Stuck if `x`
+-- isn't a variable
 unfoldable pub designate : {N P : Type 0}
     → Meanings N Place P
     → Store

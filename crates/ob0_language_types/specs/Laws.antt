@@ -11,13 +11,14 @@ use Rattle.ob0_language_values.specs.Values.{Place, Store, Value, gives}
 use Rattle.ob0_language_names.specs.DeclaredOnce.{declared_once}
 use Rattle.ob0_language_types.specs.WellTyped.{Mode, TypeMeanings, WellTyped, fits_over}
 
--- The type check by names accepts a module exactly if the check by ordinals accepts its numbered tree.
+-- States that the type check by names accepts a module exactly if the type check by ordinals accepts the module's
+-- numbered tree.
 abbrev pub NumberingKeepsTypeCheck : Type 0
 NumberingKeepsTypeCheck =
     (m : Tree Name module_text) → fits_over naming_by_spelling m ≡ fits_over naming_by_label (numbered m)
 
--- Two modules with the same numbered tree are both well-typed or neither is. Both must declare no
--- name twice in a block or record, and have the right closing names.
+-- States that two modules with the same numbered tree are both well-typed or neither is. Both modules must declare no
+-- name twice in a block or record, and each closing name must equal the name of its module or procedure.
 abbrev pub NumberedTreeDecidesTyping : Type 0
 NumberedTreeDecidesTyping =
     (a b : Tree Name module_text)
@@ -26,7 +27,8 @@ NumberedTreeDecidesTyping =
     → IsTrue (declared_once b)
     → WellTyped a ↔ WellTyped b
 
--- A constant expression has the same value in a run as in the checker, if the names mean the same constants in both.
+-- States that a constant expression has the same value in a run as in the checker. Each name that means a constant in
+-- the checker must mean the same constant in the run.
 abbrev pub ConstantValuesAgree : Type 0
 ConstantValuesAgree =
     (checked : TypeMeanings Name) (active : Meanings Name Place (List Mode)) (store : Store)
@@ -37,13 +39,14 @@ ConstantValuesAgree =
     → constant_of (active.object_for x) ≡ Some w)
     → constant_value checked e ≡ Some v → evaluate active store e ≡ gives v
 
--- holds if `P` holds for each name in the list whose occurrence number is in `uses`; the first name
--- has number `k`
+-- States that `P` holds for each listed name whose occurrence number is in `uses`. The names are consecutive
+-- occurrences, and the first one has number `k`.
 abbrev pub EachUseHas : OccurrenceSet → (Name → Type 0) → ℕ → List Name → Type 0
 EachUseHas uses P k [] = Unit {0}
 EachUseHas uses P k (x ∷ xs) = (uses k ≡ true → P x) × EachUseHas uses P (suc k) xs
 
--- Replacing uses of a constant by a factor with the constant's value leaves an expression's evaluation unchanged.
+-- States that replacing uses of a constant by a factor with the constant's value leaves an expression's evaluation
+-- unchanged. `k` is the number of the expression's first occurrence.
 abbrev pub InliningKeepsEvaluation : Type 0
 InliningKeepsEvaluation =
     (meaning : Meanings Name Place (List Mode)) (store : Store) (uses : OccurrenceSet) (v : Tree Name factor)
@@ -52,7 +55,8 @@ InliningKeepsEvaluation =
     → EachUseHas uses (λ x. meaning.object_for x ≡ Some (a_constant w)) k (occurrences e)
     → evaluate meaning store (inline_in uses v k e) ≡ evaluate meaning store e
 
--- Replacing uses of a constant by a factor with the constant's type leaves an expression's type unchanged.
+-- States that replacing uses of a constant by a factor with the constant's type leaves an expression's type unchanged.
+-- `k` is the number of the expression's first occurrence.
 abbrev pub InliningKeepsTypes : Type 0
 InliningKeepsTypes =
     (checked : TypeMeanings Name) (uses : OccurrenceSet) (v : Tree Name factor) (w : Value) (k : ℕ)

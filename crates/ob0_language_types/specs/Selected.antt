@@ -1,11 +1,11 @@
--- The selectors of a designator, and operations with two optional operands.
+-- The selectors of a designator, and the results of operations with two optional operands.
 -- Rule: none; for contracts: steps of chains.
 use Rattle.std.specs.Prelude.{ℕ, Option, option_and_then}
 use Rattle.ob0_tree.specs.Tree.{Tree, items, selector}
 use Rattle.ob0_tree.specs.View.{items_of, selector_of}
 use Rattle.ob0_tree.specs.declared.tree.Designator.{Designator, out-Designator}
 
--- returns the selectors of a designator
+-- returns the selectors of a designator of the code, as a tree of the definitions
 abbrev pub selectors_in : Designator → Tree ℕ (items selector)
 selectors_in d = items_of selector_of (out-Designator d).selectors.items
 

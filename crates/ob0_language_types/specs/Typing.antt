@@ -16,23 +16,24 @@ use Rattle.ob0_language_names.specs.Parts.{names_in_list}
 use Rattle.ob0_language_types.specs.Expressions.{Meanings, Object, a_constant, a_type, a_variable, evaluate}
 use Rattle.ob0_language_values.specs.Values.{FieldShapes, Outcome, Shape, Value, array_shape, boolean_shape, ends, gives, integer_shape, next_field_shape, no_field_shape, number, record_shape, truth}
 
--- applies a function to an optional value; None if there is no value or the function returns None
+-- applies the function on the right to the optional value on the left; None if there is no value or the function
+-- returns None
 infixl 20 ◌>>=◌
 -- applies the function `next` to an optional value; None if there is no value or the function
 -- returns None
 abbrev pub ◌>>=◌ : {A B : Type 0} → Option A → (A → Option B) → Option B
 ◌>>=◌ o next = option_and_then next o
 
--- returns the type of a sum, a difference or an OR of operands with these types; None unless both
--- are INTEGER, or BOOLEAN for OR
+-- returns the type of a sum, a difference or an OR whose operands have these types; None unless both operands are
+-- INTEGER, or both BOOLEAN for OR
 abbrev pub addition_type : AddOperator → Shape → Shape → Option Shape
 addition_type add_operator.Add integer_shape integer_shape = Some integer_shape
 addition_type add_operator.Subtract integer_shape integer_shape = Some integer_shape
 addition_type add_operator.Or boolean_shape boolean_shape = Some boolean_shape
 addition_type _ _ _ = None
 
--- returns the type of a `*`, DIV, MOD or `&` of operands with these types; None unless both are
--- INTEGER, or BOOLEAN for `&`
+-- returns the type of a `*`, DIV, MOD or `&` whose operands have these types; None unless both operands are INTEGER, or
+-- both BOOLEAN for `&`
 abbrev pub multiplication_type : MultiplyOperator → Shape → Shape → Option Shape
 multiplication_type multiply_operator.Multiply integer_shape integer_shape = Some integer_shape
 multiplication_type multiply_operator.Divide integer_shape integer_shape = Some integer_shape
@@ -40,9 +41,8 @@ multiplication_type multiply_operator.Modulo integer_shape integer_shape = Some 
 multiplication_type multiply_operator.And boolean_shape boolean_shape = Some boolean_shape
 multiplication_type _ _ _ = None
 
--- Returns the type of a relation of operands with these types, which is BOOLEAN. `=` and `#`
--- compare two INTEGER or two BOOLEAN, the other relations two INTEGER. Returns None for other
--- operands.
+-- Returns the type BOOLEAN if a relation may compare operands with these types, otherwise None. `=` and `#` compare two
+-- INTEGER or two BOOLEAN operands. The other relations compare two INTEGER operands.
 abbrev pub relation_type : Relation → Shape → Shape → Option Shape
 relation_type r integer_shape integer_shape = Some boolean_shape
 relation_type relation.Equal boolean_shape boolean_shape = Some boolean_shape
@@ -74,27 +74,27 @@ object_type (Some (a_variable s)) = Some s
 object_type (Some (a_constant v)) = value_type v
 object_type _ = None
 
--- returns the element type, given the type of the array and the type of the index; None unless
--- these are an array type and INTEGER
+-- returns the type of an array's elements, given the type of the array and the type of the index; None unless the first
+-- is an array type and the second is INTEGER
 abbrev pub element_type : Shape → Shape → Option Shape
 element_type (array_shape k n s) integer_shape = Some s
 element_type _ _ = None
 
--- returns the type of the first field with this name; None if there is no such field
+-- returns the type of the first field with the name `x` in a list of fields; None if there is no such field
 abbrev pub shape_of_field : FieldShapes → Name → Option Shape
 shape_of_field no_field_shape x = None
 shape_of_field (next_field_shape y s rest) x =
     if same_name x y then Some s else shape_of_field rest x
 
--- returns the type of a record's field; None if there is no record or no such field
+-- returns the type of the field `x` of a record type; None if the type isn't a record type or has no such field
 abbrev pub field_type : Shape → Name → Option Shape
 field_type (record_shape k fs) x = shape_of_field fs x
 field_type _ x = None
 
 -- Returns the type of an expression, or None if it has an error.
 unfoldable mutual
-  -- returns the type of an expression: of one simple expression, or of a relation between two; None
-  -- if it has an error
+  -- returns the type of an expression: one simple expression, or a relation between two simple expressions; None if the
+  -- expression has an error
   pub type_of : {N P : Type 0} → Meanings N Shape P → Tree N expression → Option Shape
   type_of meaning (compares a none) = type_of_simple meaning a
   type_of meaning (compares a (one (relates r b))) = do
@@ -102,16 +102,16 @@ unfoldable mutual
     y ← type_of_simple meaning b
     relation_type r x y
 
-  -- returns the type of a simple expression: its first term with its sign, then the further terms;
-  -- None if it has an error
+  -- returns the type of a simple expression: its first term with its sign, then the further terms; None if the
+  -- expression has an error
   pub type_of_simple : {N P : Type 0} → Meanings N Shape P → Tree N simple → Option Shape
   type_of_simple meaning (sum s t rest) = do
     x ← type_of_term meaning t
     y ← sign_type s x
     type_of_addends meaning y rest
 
-  -- returns the type of a simple expression, given the type `x` of its first operand and its
-  -- further terms; None if an operand has an error or the wrong type
+  -- returns the type of a simple expression, given the type `x` of its first operand and the terms that follow; None if
+  -- a term has an error or an operand has the wrong type
   pub type_of_addends : {N P : Type 0}
       → Meanings N Shape P
       → Shape
@@ -123,14 +123,14 @@ unfoldable mutual
     z ← addition_type o x y
     type_of_addends meaning z rest
 
-  -- returns the type of a term: its first factor, then the further factors; None if it has an error
+  -- returns the type of a term: its first factor, then the further factors; None if the term has an error
   pub type_of_term : {N P : Type 0} → Meanings N Shape P → Tree N term → Option Shape
   type_of_term meaning (product f rest) = do
     x ← type_of_factor meaning f
     type_of_multipliers meaning x rest
 
-  -- returns the type of a term, given the type `x` of its first factor and its further factors;
-  -- None if a factor has an error or the wrong type
+  -- returns the type of a term, given the type `x` of its first factor and the factors that follow; None if a factor
+  -- has an error or the wrong type
   pub type_of_multipliers : {N P : Type 0}
       → Meanings N Shape P
       → Shape
@@ -142,8 +142,8 @@ unfoldable mutual
     z ← multiplication_type o x y
     type_of_multipliers meaning z rest
 
-  -- returns the type of a factor: a designator, an integer, an expression in parentheses or a
-  -- negation; None if it has an error
+  -- returns the type of a factor: a designator, an integer, an expression in parentheses or a negation; None if the
+  -- factor has an error
   pub type_of_factor : {N P : Type 0} → Meanings N Shape P → Tree N factor → Option Shape
   type_of_factor meaning (designator x path) = do
     s ← object_type (meaning.object_for x)
@@ -152,8 +152,8 @@ unfoldable mutual
   type_of_factor meaning (parenthesised e) = type_of meaning e
   type_of_factor meaning (negation f) = type_of_factor meaning f >>= negation_type
 
-  -- returns the type of the part that selectors select from a value of type `s`; None if there is
-  -- no such part or an index isn't INTEGER
+  -- returns the type of the element or field that selectors select from a value of type `s`; None if there is no such
+  -- element or field, or an index isn't INTEGER
   pub type_at : {N P : Type 0} → Meanings N Shape P → Shape → Tree N (items selector) → Option Shape
   type_at meaning s end = Some s
   type_at meaning s (more (field x) rest) = do
@@ -169,7 +169,7 @@ abbrev pub constant_of : {V P : Type 0} → Option (Object V P) → Option Value
 constant_of (Some (a_constant v)) = Some v
 constant_of _ = None
 
--- returns the meanings of names in constant expressions, in which only constants have a meaning
+-- returns the meanings of names in constant expressions: constants keep their meaning, and any other name means nothing
 -- (rule 6)
 abbrev pub constant_meanings : {N V P W Q : Type 0} → Meanings N V P → Meanings N W Q
 constant_meanings meaning =
@@ -179,13 +179,13 @@ constant_meanings meaning =
       written = meaning.written;
     }
 
--- returns the value that an evaluation gives, or None if it ends the run
+-- returns the value that an evaluation gives; None if the evaluation ends the run
 abbrev pub outcome_value : Outcome Value → Option Value
 outcome_value (gives v) = Some v
 outcome_value (ends e) = None
 
--- Returns the value of a constant expression. The expression must have a type, and its evaluation, in which only
--- constants have meanings, must not end with a fault. Otherwise returns None.
+-- Returns the value of a constant expression. The names of constants are the only names with a meaning in it. Returns
+-- None if the expression has no type or its evaluation ends with a fault.
 unfoldable pub constant_value : {N V P : Type 0} → Meanings N V P → Tree N expression → Option Value
 unfolding type_of evaluate
 constant_value meaning e = do
@@ -200,16 +200,16 @@ max_scalars = 65536
 abbrev pub max_depth : ℕ
 max_depth = 100
 
--- returns the length of an array, given the value of its length expression; None if this isn't a
--- number from 1 to 65,536
+-- returns the length of an array, given the value of its length expression; None if this value isn't a number from 1 to
+-- 65,536
 abbrev pub array_length : Value → Option ℕ
 array_length (number (pos (suc n))) = if nat_lt n max_scalars then Some (suc n) else None
 array_length _ = None
 
 -- Returns the number of scalars in a type. An empty record counts as one.
 abbrev mutual
-  -- returns the number of scalars in a type; an array has the scalars of all its elements, a record the scalars of its
-  -- fields, at least one
+  -- returns the number of scalars in a type; an array has the scalars of all its elements, and a record has the scalars
+  -- of all its fields but at least one
   pub scalars : Shape → ℕ
   scalars integer_shape = 1
   scalars boolean_shape = 1
@@ -224,20 +224,21 @@ abbrev mutual
 -- Returns the depth to which arrays and records are nested in a type. Arrays and records that named types denote also
 -- count.
 abbrev mutual
-  -- returns the depth of a type; an array or a record is one level deeper than its deepest part
+  -- returns the depth of a type; an array is one level deeper than its elements, and a record is one level deeper than
+  -- its deepest field
   pub depth : Shape → ℕ
   depth integer_shape = 0
   depth boolean_shape = 0
   depth (array_shape k n s) = suc (depth s)
   depth (record_shape k fs) = suc (field_depth fs)
 
-  -- returns the depth of the deepest of several fields
+  -- returns the depth of the deepest of several fields; 0 if there are no fields
   pub field_depth : FieldShapes → ℕ
   field_depth no_field_shape = 0
   field_depth (next_field_shape x s rest) = max (depth s) (field_depth rest)
 
--- returns the type if it has at most 65,536 scalars and its arrays and records are nested at most
--- 100 deep, otherwise None
+-- returns the type `s` if it has at most 65,536 scalars and its arrays and records are nested at most 100 deep,
+-- otherwise None
 abbrev pub check_limits : Shape → Option Shape
 check_limits s =
     if nat_le (scalars s) max_scalars && nat_le (depth s) max_depth then Some s else None
@@ -250,12 +251,13 @@ abbrev mutual
   constructor_count (array_type e t) = suc (constructor_count t)
   constructor_count (record_type g rest) = suc (group_constructor_count g + groups_constructor_count rest)
 
-  -- returns the number of words ARRAY and RECORD in a group of fields, whose type is written once for all its names
+  -- returns the number of words ARRAY and RECORD in a group of fields, such as `x, y: T`, whose type is written once
+  -- for all its names
   pub group_constructor_count : {N : Type 0} → Tree N fields → ℕ
   group_constructor_count no_fields = 0
   group_constructor_count (some_fields ns t) = constructor_count t
 
-  -- returns the number of words ARRAY and RECORD in further groups of fields
+  -- returns the number of words ARRAY and RECORD in the groups of fields after the first group
   pub groups_constructor_count : {N : Type 0} → Tree N (items further_fields) → ℕ
   groups_constructor_count end = 0
   groups_constructor_count (more (then_fields g) rest) = group_constructor_count g + groups_constructor_count rest
@@ -265,18 +267,18 @@ abbrev pub type_of_name : {V P : Type 0} → Option (Object V P) → Option Shap
 type_of_name (Some (a_type s)) = Some s
 type_of_name _ = None
 
--- returns these names as fields of type `s`, followed by the fields `rest`
+-- returns a list of fields: these names as fields of type `s`, followed by the fields `rest`
 abbrev pub prepend_fields : List Name → Shape → FieldShapes → FieldShapes
 prepend_fields [] s rest = rest
 prepend_fields (x ∷ xs) s rest = next_field_shape x s (prepend_fields xs s rest)
 
--- Returns the type that a written type denotes, or None if it has an error. Each word ARRAY and
--- RECORD in a module makes a new type. These types are numbered from 0 in text order.
+-- Returns the type that a written type denotes. Returns None if the written type has an error. Each word ARRAY and
+-- RECORD in a module makes a separate type. These types are numbered from 0 in text order.
 unfoldable mutual
   unfolding constant_value
 
-  -- Returns the type that a written type denotes: a name's type, or an array or a record within the
-  -- limits. Returns None if it has an error. `k` is the number of words ARRAY and RECORD before it.
+  -- Returns the type that a written type denotes: a name's type, or an array or a record within the limits. Returns
+  -- None if the written type has an error. `k` is the number of words ARRAY and RECORD before the written type.
   pub denoted : {N V P : Type 0} → Meanings N V P → ℕ → Tree N written_type → Option Shape
   denoted meaning k (named_type x) = type_of_name (meaning.object_for x)
   denoted meaning k (array_type e t) = do
@@ -302,7 +304,7 @@ unfoldable mutual
     s ← denoted meaning k t
     Some (prepend_fields (map meaning.written (names_in_list ns)) s later)
 
-  -- Returns the fields of further groups, in text order. Returns None if a group's type has an
+  -- Returns the fields of the groups after a record's first group, in text order. Returns None if a group's type has an
   -- error. `k` is the number of words ARRAY and RECORD before these groups.
   pub denoted_groups : {N V P : Type 0}
       → Meanings N V P
@@ -319,8 +321,8 @@ abbrev pub lone_designator : {N : Type 0} → Tree N expression → Option (N ×
 lone_designator (compares (sum None (product (designator x path) end) end) none) = Some (x, path)
 lone_designator _ = None
 
--- returns the type that a type's name means, or the type of a variable, parameter or constant; None
--- for any other object
+-- returns the type that belongs to an object: the type itself if the object is a type, or the type of a variable,
+-- parameter or constant; None for any other object
 abbrev pub type_of_declaration : {P : Type 0} → Option (Object Shape P) → Option Shape
 type_of_declaration (Some (a_type s)) = Some s
 type_of_declaration (Some (a_variable s)) = Some s

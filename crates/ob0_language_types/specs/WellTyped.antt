@@ -12,10 +12,10 @@ use Rattle.ob0_language_types.specs.Expressions.{Meanings, Object, a_procedure, 
 use Rattle.ob0_language_types.specs.Typing.{constructor_count, denoted, lone_designator, type_at, type_of, ◌>>=◌}
 use Rattle.ob0_language_values.specs.Values.{FieldShapes, Shape, array_shape, boolean_shape, integer_shape, next_field_shape, no_field_shape, record_shape}
 
--- Returns true if two types are equal.
+-- Returns whether two types are equal.
 abbrev mutual
-  -- returns true if both are the same scalar type, or both come from the same ARRAY or RECORD of the text and have
-  -- equal parts
+  -- returns whether two types are equal: both are the same scalar type, or both come from the same ARRAY or RECORD of
+  -- the text and their parts are equal
   pub same_shape : Shape → Shape → Bool
   same_shape integer_shape integer_shape = true
   same_shape boolean_shape boolean_shape = true
@@ -23,18 +23,18 @@ abbrev mutual
   same_shape (record_shape k fs) (record_shape j gs) = (k == j) && same_fields fs gs
   same_shape _ _ = false
 
-  -- returns true if two lists of fields have the same names and types, in the same order
+  -- returns whether two lists of fields have the same names and types, in the same order
   pub same_fields : FieldShapes → FieldShapes → Bool
   same_fields no_field_shape no_field_shape = true
   same_fields (next_field_shape x s rest) (next_field_shape y t others) =
       same_name x y && (same_shape s t && same_fields rest others)
   same_fields _ _ = false
 
--- the mode in which an argument is passed: by its place for a VAR parameter, otherwise by its value
+-- the way in which an argument is passed: by its place for a VAR parameter, otherwise by its value
 pub data Mode : Type 0 where
   by_value by_place : Mode
 
--- returns the mode of a section of parameters: by place if it begins with VAR
+-- returns the mode of a section of parameters: by place if the section begins with VAR, otherwise by value
 abbrev pub section_mode : {N : Type 0} → Tree N section → Mode
 section_mode (value_section ns t) = by_value
 section_mode (variable_section ns t) = by_place
@@ -48,7 +48,7 @@ pub record FormalParameter : Type 0 where
 abbrev pub Signature : Type 0
 Signature = List FormalParameter
 
--- the meanings of names for the checker: a variable means its type, a procedure its signature
+-- the meanings of names in the checker, which knows the type of each variable and the signature of each procedure
 abbrev pub TypeMeanings : Type 0 → Type 0
 TypeMeanings N = Meanings N Shape Signature
 
@@ -57,13 +57,14 @@ TypeMeanings N = Meanings N Shape Signature
 abbrev pub TypeEnvironment : Type 0 → Type 0
 TypeEnvironment N = Environment N Shape Signature
 
--- returns true if both types exist and are equal
+-- returns whether both types exist (neither is None) and are equal
 abbrev pub same_known_shape : Option Shape → Option Shape → Bool
 same_known_shape (Some s) (Some t) = same_shape s t
 same_known_shape _ _ = false
 
--- Returns the type of a designator that may be assigned to or passed as VAR: a variable or
--- parameter with its selectors. Returns None for anything else.
+-- Returns the type of a designator that may be assigned to or passed as a VAR argument: a variable or parameter with
+-- selectors. Returns None if there is no designator, its name isn't a variable or parameter, or its selectors have an
+-- error.
 unfoldable pub variable_type : {N P : Type 0}
     → Meanings N Shape P
     → Option (N × Tree N (items selector))
@@ -83,8 +84,8 @@ signature_of (Some (a_standard writes)) =
 signature_of (Some (a_standard writes_line)) = Some []
 signature_of _ = None
 
--- Returns true if an argument has its parameter's type. For a VAR parameter it must also be a variable or parameter
--- with its selectors, without parentheses.
+-- Returns whether an argument has its parameter's type. For a VAR parameter, the argument must also be a variable or
+-- parameter with its selectors, without parentheses.
 unfoldable pub argument_fits : {N P : Type 0}
     → Meanings N Shape P
     → FormalParameter
@@ -95,8 +96,8 @@ argument_fits meaning f e =
     same_known_shape (Some f.shape) (elim f.mode
     [ by_value ↦ type_of meaning e | by_place ↦ variable_type meaning (lone_designator e) ])
 
--- Returns true if there are as many arguments as parameters. Each argument must have the type and
--- the form that its parameter requires (rules 2 and 5).
+-- Returns whether there are as many arguments as parameters, and each argument has the type and form that its parameter
+-- requires (rules 2 and 5).
 unfoldable pub arguments_fit : {N P : Type 0}
     → Meanings N Shape P
     → Signature
@@ -107,8 +108,8 @@ arguments_fit meaning [] [] = true
 arguments_fit meaning (f ∷ fs) (e ∷ es) = argument_fits meaning f e && arguments_fit meaning fs es
 arguments_fit meaning _ _ = false
 
--- returns true if there is a signature and the arguments match it; None stands for a name that
--- isn't a procedure's
+-- returns whether there is a signature and the arguments match it; the signature is None if the called name isn't the
+-- name of a procedure
 unfoldable pub call_fits : {N P : Type 0}
     → Meanings N Shape P
     → Option Signature
@@ -118,17 +119,17 @@ unfolding arguments_fit
 call_fits meaning None es = false
 call_fits meaning (Some signature) es = arguments_fit meaning signature es
 
--- returns true if a condition is BOOLEAN
+-- returns whether an expression has the type BOOLEAN, as a condition must
 unfoldable pub condition_fits : {N P : Type 0} → Meanings N Shape P → Tree N expression → Bool
 unfolding type_of
 condition_fits meaning e = same_known_shape (Some boolean_shape) (type_of meaning e)
 
--- Returns true if a statement is well-typed: both sides of an assignment have one type, the
--- arguments of a call match its parameters, and conditions are BOOLEAN.
+-- Returns whether a statement is well-typed: both sides of an assignment have the same type, the arguments of a call
+-- match the procedure's parameters, and conditions are BOOLEAN.
 unfoldable mutual
   unfolding condition_fits call_fits
 
-  -- returns true if a statement and the statements in it are well-typed
+  -- returns whether a statement and the statements inside it are well-typed
   pub statement_fits : {N : Type 0} → TypeMeanings N → Tree N statement → Bool
   statement_fits meaning empty = true
   statement_fits meaning (assigns x path e) =
@@ -143,28 +144,28 @@ unfoldable mutual
   statement_fits meaning (repeat_loop statements e) =
       sequence_fits meaning statements && condition_fits meaning e
 
-  -- returns true if each statement of a sequence is well-typed
+  -- returns whether each statement of a sequence is well-typed
   pub sequence_fits : {N : Type 0} → TypeMeanings N → Tree N sequence → Bool
   sequence_fits meaning (runs a rest) = statement_fits meaning a && statements_fit meaning rest
 
-  -- returns true if each statement after the first one is well-typed
+  -- returns whether each statement of a sequence after the first one is well-typed
   pub statements_fit : {N : Type 0} → TypeMeanings N → Tree N (items further_statement) → Bool
   statements_fit meaning end = true
   statements_fit meaning (more (then_statement a) rest) =
       statement_fits meaning a && statements_fit meaning rest
 
-  -- returns true if the condition and the statements of each ELSIF part are well-typed
+  -- returns whether the condition and the statements of each ELSIF part are well-typed
   pub elsifs_fit : {N : Type 0} → TypeMeanings N → Tree N (items elsif_part) → Bool
   elsifs_fit meaning end = true
   elsifs_fit meaning (more (elsif_branch e statements) rest) =
       condition_fits meaning e && (sequence_fits meaning statements && elsifs_fit meaning rest)
 
-  -- returns true if the statements of the ELSE part, if there is one, are well-typed
+  -- returns whether the statements of the ELSE part are well-typed; true if there is no ELSE part
   pub else_fits : {N : Type 0} → TypeMeanings N → Tree N (maybe else_part) → Bool
   else_fits meaning none = true
   else_fits meaning (one (else_branch statements)) = sequence_fits meaning statements
 
--- returns the environment with each of these names bound to the same object
+-- returns the environment `env` with each of these names bound to the object `o`
 abbrev pub bind_names : {N V P : Type 0}
     → List N
     → Object V P
@@ -173,8 +174,9 @@ abbrev pub bind_names : {N V P : Type 0}
 bind_names [] o env = env
 bind_names (x ∷ xs) o env = bind_names xs o ((x, o) ∷ env)
 
--- Returns the environment with variables added, each group visible after its type. `k` is the
--- number of words ARRAY and RECORD before them. Returns None if a type has an error.
+-- Returns the environment `env` with variables added. The variables of a group (`x, y: T`) are visible only after the
+-- group's type. `k` is the number of words ARRAY and RECORD before these declarations. Returns None if a type has an
+-- error.
 unfoldable pub declare_typed : {N : Type 0}
     → Naming N
     → ℕ
@@ -187,13 +189,13 @@ declare_typed naming k (more (declares_variable ns u) gs) env = do
   s ← denoted (meanings naming env) k u
   declare_typed naming (k + constructor_count u) gs (bind_names (names_in_list ns) (a_variable s) env)
 
--- a formal parameter with its name
+-- a formal parameter with its name, mode and type
 pub record TypedParameter (N : Type 0) : Type 0 where
   pub name : N
   pub formal : FormalParameter
 
--- Returns the parameters of a heading. The names of a section are visible in the later sections,
--- and the procedure isn't visible yet. `k` is the number of words ARRAY and RECORD before the
+-- Returns the parameters of a procedure heading, with their names and types. The names of a section are visible in the
+-- later sections. The procedure's name isn't visible yet. `k` is the number of words ARRAY and RECORD before the
 -- parameters. Returns None if a type has an error.
 unfoldable pub typed_parameters : {N : Type 0}
     → Naming N
@@ -211,7 +213,7 @@ typed_parameters naming env k (more (then_section f) fs) = do
       (section_names f)
       ++ rest)
 
--- returns the environment with these parameters bound as variables (rule 4)
+-- returns the environment `env` with these parameters bound as variables (rule 4)
 abbrev pub bind_typed_parameters : {N : Type 0}
     → List (TypedParameter N)
     → TypeEnvironment N
@@ -219,7 +221,7 @@ abbrev pub bind_typed_parameters : {N : Type 0}
 bind_typed_parameters [] env = env
 bind_typed_parameters (p ∷ ps) env = bind_typed_parameters ps ((p.name, a_variable p.formal.shape) ∷ env)
 
--- returns the environment with the procedure `x` bound to the modes and types of its parameters
+-- returns the environment `env` with the procedure `x` bound to the modes and types of its parameters `ps`
 abbrev pub bind_procedure : {N : Type 0}
     → N
     → List (TypedParameter N)
@@ -227,23 +229,23 @@ abbrev pub bind_procedure : {N : Type 0}
     → TypeEnvironment N
 bind_procedure x ps env = (x, a_procedure (map (λ p. p.formal) ps)) ∷ env
 
--- returns true if the statements of a body are well-typed; a missing body is well-typed
+-- returns whether the statements of a body are well-typed; true if there is no body
 unfoldable pub body_fits : {N : Type 0} → Naming N → TypeEnvironment N → Tree N (maybe body) → Bool
 unfolding statement_fits
 body_fits naming env none = true
 body_fits naming env (one (begins statements)) = sequence_fits (meanings naming env) statements
 
--- returns true if there is a value and it passes the test
+-- returns whether there is a value for which the function `test` returns true
 abbrev pub some_satisfies : {A : Type 0} → Option A → (A → Bool) → Bool
 some_satisfies None test = false
 some_satisfies (Some a) test = test a
 
--- Returns true if a block is well-typed: its declarations, then each procedure in the environment of the earlier ones,
--- then its statements in the whole environment.
+-- Returns whether a block is well-typed. The check covers its declarations, then each procedure in the environment that
+-- has the earlier procedures, then its statements in the whole environment.
 unfoldable mutual
   unfolding declare_first declare_typed typed_parameters body_fits
 
-  -- returns true if a block is well-typed; `k` is the number of words ARRAY and RECORD before it
+  -- returns whether a block is well-typed; `k` is the number of words ARRAY and RECORD before the block
   pub block_fits : {N : Type 0} → Naming N → TypeEnvironment N → ℕ → Tree N block → Bool
   block_fits naming env k (has_body (declares cs ts vs ps) statements) =
       some_satisfies (do
@@ -253,9 +255,9 @@ unfoldable mutual
       (λ inner. procedures_fit naming inner
       (constructor_after_variables k (has_body (declares cs ts vs ps) statements)) statements ps)
 
-  -- returns true if each procedure is well-typed in the environment of the earlier ones, and then
-  -- the statements of their block are; `k` is the number of words ARRAY and RECORD before the
-  -- procedures
+  -- Returns whether each procedure of a block is well-typed in the environment that has the earlier procedures. The
+  -- block's body `statements` must also be well-typed in the environment that has all procedures. `k` is the number of
+  -- words ARRAY and RECORD before the procedures.
   pub procedures_fit : {N : Type 0}
       → Naming N
       → TypeEnvironment N
@@ -270,8 +272,8 @@ unfoldable mutual
       && procedures_fit naming (bind_procedure (procedure_name p) ps env) (k + procedure_constructor_count p)
       statements rest)
 
-  -- returns true if a procedure's block is well-typed; `env` has the procedure's name and
-  -- parameters; `k` is the number of words ARRAY and RECORD before the procedure
+  -- returns whether a procedure's block is well-typed; `env` already binds the procedure's name and parameters; `k` is
+  -- the number of words ARRAY and RECORD before the procedure
   pub procedure_fits : {N : Type 0}
       → Naming N
       → TypeEnvironment N
@@ -281,12 +283,14 @@ unfoldable mutual
   procedure_fits naming env k (declares_procedure x fs b closing) =
       block_fits naming env (k + formals_constructor_count (formal_sections fs)) b
 
--- returns true if a module is well-typed, apart from names that are declared twice and wrong closing names
+-- returns whether a module passes the type check; this check ignores names that are declared twice and wrong closing
+-- names
 unfoldable pub fits_over : {N : Type 0} → Naming N → Tree N module_text → Bool
 unfolding block_fits
 fits_over naming m = block_fits naming (outermost naming) 0 (module_block m)
 
--- holds if a module is well-typed
+-- states that a module is well-typed: it passes the type check, it declares no name twice in a block or record, and its
+-- closing names are right
 unfoldable pub WellTyped : Tree Name module_text → Type 0
 unfolding fits_over
 WellTyped m = IsTrue (declared_once m) × IsTrue (fits_over naming_by_spelling m)

@@ -1,4 +1,4 @@
--- The text that is written for a constant's value when it replaces a use.
+-- The literal for a constant's value, which replaces a use of the constant.
 -- Rule: docs/PROTOCOL.md, Requests on documents 9.
 use Rattle.std.specs.Prelude.{suc, true, false, ℤ, pos, negsuc, if◌then◌else◌, nat_lt, Some, None, codes, Option}
 use Rattle.ob0_tree.specs.declared.tree.Sign.TheVariants as sign
@@ -8,8 +8,9 @@ use Rattle.ob0_scan.specs.Classes.{max_integer}
 use Rattle.ob0_language_names.specs.Names.{Name}
 use Rattle.ob0_language_values.specs.Values.{Value, number, truth}
 
--- Returns a number as a factor: its digits, or an expression in parentheses if it is negative. The
--- least number is written as `-2147483647 - 1`, because its digits are too large for a literal.
+-- Returns a number as a factor: its digits, or an expression in parentheses if the number is
+-- negative. The least 32-bit number is written as `(-2147483647 - 1)`, because 2147483648 is too
+-- large for an integer literal.
 abbrev pub number_literal : ℤ → Tree Name factor
 number_literal (pos n) = integer n
 number_literal (negsuc n) =

@@ -2,18 +2,18 @@
 -- Rule: docs/LANGUAGE.md, Runs 3.
 use Rattle.std.specs.Prelude.{ℕ, zero, suc, ◌-◌, ◌/◌, ◌%◌, ℤ, pos, negsuc, Option, Some, None}
 
--- returns a number DIV `b`, rounded down; `b` must be above 0
+-- returns the quotient of a number by `b` (DIV), rounded down; `b` must be above 0
 abbrev pub quotient : ℤ → ℕ → ℤ
 quotient (pos a) b = pos (a / b)
 quotient (negsuc a) b = negsuc (a / b)
 
--- returns a number MOD `b`, which is never negative; `b` must be above 0
+-- returns the remainder of a number by `b` (MOD), which is never negative; `b` must be above 0
 abbrev pub remainder : ℤ → ℕ → ℤ
 remainder (pos a) b = pos (a % b)
 remainder (negsuc a) b = pos (b - suc (a % b))
 
--- returns a quotient or remainder, computed by the function `result`; None if the divisor is below
--- 1
+-- returns the quotient or remainder of `a` by a divisor, computed by the function `result`; None if
+-- the divisor is below 1
 abbrev pub checked_division : (ℤ → ℕ → ℤ) → ℤ → ℤ → Option ℤ
 checked_division result a (pos zero) = None
 checked_division result a (pos (suc b)) = Some (result a (suc b))

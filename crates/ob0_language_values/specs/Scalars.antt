@@ -1,4 +1,5 @@
--- The values of the definitions that the code's scalars and results of operators stand for.
+-- Conversions from the code's scalars, faults and results of operators to the values and outcomes
+-- of the definitions.
 -- Rule: none; for contracts: what values of the code mean.
 use Rattle.std.specs.Prelude.{ℤ, Some, None, Ok, Err, Option, Result}
 use Rattle.ob0_language_values.specs.declared.scalar.OperatorFault.{OperatorFault}
@@ -7,23 +8,25 @@ use Rattle.ob0_language_values.specs.declared.scalar.Scalar.{Scalar}
 use Rattle.ob0_language_values.specs.declared.scalar.Scalar.TheVariants as scalar
 use Rattle.ob0_language_values.specs.Values.{Divisor, End, Outcome, Overflow, Stuck, Value, ends, gives, number, truth}
 
--- returns the value that a scalar of the code stands for
+-- converts a scalar of the code to a value of the definitions
 abbrev pub scalar_value : Scalar → Value
 scalar_value (scalar.Number n) = number n
 scalar_value (scalar.Truth b) = truth b
 
--- returns the end of a run that a fault causes
+-- returns the way in which a run ends if an operator has this fault
 abbrev pub end_of : OperatorFault → End
 end_of fault.Overflow = Overflow
 end_of fault.Divisor = Divisor
 end_of fault.Operand = Stuck
 
--- returns the outcome that a result of the code stands for
+-- converts the code's result of an operator to an outcome of the definitions: the value, or the end
+-- that the fault causes
 abbrev pub scalar_outcome : Result Scalar OperatorFault → Outcome Value
 scalar_outcome (Ok s) = gives (scalar_value s)
 scalar_outcome (Err f) = ends (end_of f)
 
--- returns the outcome of a computation in 32 bits: the number, or Overflow if there is none
+-- returns the outcome of an operation on 32-bit numbers: the number, or Overflow for None, which
+-- means that the result doesn't fit in 32 bits
 abbrev pub number_outcome : Option ℤ → Outcome Value
 number_outcome None = ends Overflow
 number_outcome (Some n) = gives (number n)

@@ -13,8 +13,8 @@ use Rattle.ob0_language_names.specs.Names.{Name, same_name}
 pub use Rattle.ob0_language_values.specs.Division.{checked_division, quotient, remainder}
 
 infixl 20 ◌>>=◌
--- The type of a variable or value. `k` is the number of words ARRAY and RECORD before the word that
--- made the type. So two types are the same exactly if their shapes are equal.
+-- The type of a variable or value. `k` is the number of words ARRAY and RECORD in the module before the word that made
+-- the type. So two types are the same exactly if their shapes are equal.
 mutual
   -- a type: INTEGER, BOOLEAN, an array with its length, or a record
   pub data Shape : Type 0 where
@@ -52,33 +52,33 @@ mutual
 pub data End : Type 0 where
   Done Overflow Divisor Index InputEnd CallBound TurnBound Stuck : End
 
--- the outcome of an evaluation: a result, or the end of the run
+-- the outcome of an evaluation: a result, or the way in which the evaluation ends the run
 pub data Outcome (A : Type 0) : Type 0 where
   gives : A → Outcome A
   ends : End → Outcome A
 
--- applies `next` to the result of an evaluation; if the evaluation ends the run, `next` isn't
--- evaluated
+-- applies `next` to the result of an evaluation; if the evaluation ends the run, returns the same end without using
+-- `next`
 abbrev pub ◌>>=◌ : {A B : Type 0} → Outcome A → (A → Outcome B) → Outcome B
 ◌>>=◌ (gives a) next = next a
 ◌>>=◌ (ends e) next = ends e
 
--- returns the value as an outcome, or the end Stuck for None
+-- returns an optional result as an outcome; the outcome is the end Stuck for None
 abbrev pub or_stuck : {A : Type 0} → Option A → Outcome A
 or_stuck None = ends Stuck
 or_stuck (Some a) = gives a
 
--- returns true if a number fits in 32 bits as a signed integer
+-- returns whether a number fits in 32 bits as a signed integer
 abbrev pub fits : ℤ → Bool
 fits (pos n) = nat_lt n (2 ^ 31)
 fits (negsuc n) = nat_lt n (2 ^ 31)
 
--- returns the number if it fits in 32 bits, otherwise the end Overflow (rule 3)
+-- returns the number as a value if it fits in 32 bits, otherwise the end Overflow (rule 3)
 abbrev pub checked_number : ℤ → Outcome Value
 checked_number n = if fits n then gives (number n) else ends Overflow
 
--- returns the outcome of a division: its number, Overflow if that doesn't fit in 32 bits, or
--- Divisor for None
+-- returns the outcome of a DIV or MOD: the number, or Overflow if the number doesn't fit in 32 bits, or Divisor for
+-- None
 abbrev pub division_outcome : Option ℤ → Outcome Value
 division_outcome None = ends Divisor
 division_outcome (Some n) = checked_number n
@@ -99,24 +99,22 @@ multiply multiply_operator.Modulo (number a) (number b) = division_outcome (chec
 multiply multiply_operator.And (truth a) (truth b) = gives (truth (a && b))
 multiply _ _ _ = ends Stuck
 
--- returns true if the operator is OR and the left operand is TRUE, so that the right operand isn't
--- evaluated
+-- returns whether the operator is OR and the left operand is TRUE; the right operand isn't evaluated then
 abbrev pub add_short_circuits : AddOperator → Value → Bool
 add_short_circuits add_operator.Or (truth true) = true
 add_short_circuits _ _ = false
 
--- returns true if the operator is `&` and the left operand is FALSE, so that the right operand
--- isn't evaluated
+-- returns whether the operator is `&` and the left operand is FALSE; the right operand isn't evaluated then
 abbrev pub multiply_short_circuits : MultiplyOperator → Value → Bool
 multiply_short_circuits multiply_operator.And (truth false) = true
 multiply_short_circuits _ _ = false
 
--- returns true if two truth values are equal
+-- returns whether two truth values are equal
 abbrev pub same_truth : Bool → Bool → Bool
 same_truth true b = b
 same_truth false b = not b
 
--- returns true if a relation holds between two numbers
+-- returns whether a relation holds between the numbers `a` and `b`, in this order
 abbrev pub compare_numbers : Relation → ℤ → ℤ → Bool
 compare_numbers relation.Equal a b = int_le a b && int_le b a
 compare_numbers relation.NotEqual a b = not (int_le a b && int_le b a)
@@ -133,7 +131,8 @@ relate relation.Equal (truth a) (truth b) = gives (truth (same_truth a b))
 relate relation.NotEqual (truth a) (truth b) = gives (truth (not (same_truth a b)))
 relate _ _ _ = ends Stuck
 
--- returns the value with an optional sign applied; Stuck for a sign before anything but a number
+-- returns the value with an optional sign applied; Overflow if the result doesn't fit in 32 bits, Stuck for a sign
+-- before a value that isn't a number
 abbrev pub apply_sign : Option Sign → Value → Outcome Value
 apply_sign None v = gives v
 apply_sign (Some sign.Plus) (number a) = checked_number a
@@ -150,48 +149,48 @@ pub data Step : Type 0 where
   at_index : ℕ → Step
   at_field : Name → Step
 
--- a place: a variable, by its index in the store, and a path into it (rule 4)
+-- a place: the index of a variable in the store, counted from 0, and a path into the variable's value (rule 4)
 pub record Place : Type 0 where
   pub variable : ℕ
   pub path : List Step
 
--- the values of all variables, by their indexes
+-- the store of a run: the value of each variable, at the variable's index
 abbrev pub Store : Type 0
 Store = List Value
 
--- returns the element at index `n`; None if there is no such element
+-- returns the element at index `n`, counted from 0; None if there is no such element
 abbrev pub nth_value : Values → ℕ → Option Value
 nth_value no_value n = None
 nth_value (next_value v rest) zero = Some v
 nth_value (next_value v rest) (suc n) = nth_value rest n
 
--- returns the elements with the element at index `n` replaced by `new`; unchanged if there is no
--- such element
+-- returns the elements of an array with the element at index `n` replaced by `new`; unchanged if there is no such
+-- element
 abbrev pub with_nth_value : Values → ℕ → Value → Values
 with_nth_value no_value n new = no_value
 with_nth_value (next_value v rest) zero new = next_value new rest
 with_nth_value (next_value v rest) (suc n) new = next_value v (with_nth_value rest n new)
 
--- returns the value of the first member with this name; None if there is no such member
+-- returns the value of the first member with the name `x`; None if there is no such member
 abbrev pub named_member : Members → Name → Option Value
 named_member no_member x = None
 named_member (next_member y v rest) x = if same_name x y then Some v else named_member rest x
 
--- returns the members with the value of the first member of this name replaced by `new`; unchanged
+-- returns the members of a record, in which `new` replaces the value of the first member with the name `x`; unchanged
 -- if there is no such member
 abbrev pub with_named_member : Members → Name → Value → Members
 with_named_member no_member x new = no_member
 with_named_member (next_member y v rest) x new =
     if same_name x y then next_member y new rest else next_member y v (with_named_member rest x new)
 
--- returns the part of a value that one step of a path selects; None if there is no such part
+-- returns the element or member that one step of a path selects from a value; None if there is no such part
 abbrev pub part : Value → Step → Option Value
 part (elements vs) (at_index i) = nth_value vs i
 part (members k ms) (at_field x) = named_member ms x
 part _ _ = None
 
--- returns a value with the part that one step selects replaced by `new`; unchanged if there is no
--- such part
+-- returns a value in which `new` replaces the element or member that one step selects; unchanged if there is no such
+-- part
 abbrev pub with_part : Value → Step → Value → Value
 with_part (elements vs) (at_index i) new = elements (with_nth_value vs i new)
 with_part (members k ms) (at_field x) new = members k (with_named_member ms x new)
@@ -202,8 +201,7 @@ abbrev pub value_at_path : List Step → Value → Option Value
 value_at_path [] v = Some v
 value_at_path (s ∷ path) v = option_and_then (value_at_path path) (part v s)
 
--- returns the value `v` with the part that a path selects replaced by `new`; None if there is no
--- such part
+-- returns the value `v`, in which `new` replaces the part that a path selects; None if there is no such part
 abbrev pub with_value_at_path : List Step → Value → Value → Option Value
 with_value_at_path [] new v = Some new
 with_value_at_path (s ∷ path) new v =
@@ -213,7 +211,7 @@ with_value_at_path (s ∷ path) new v =
 abbrev pub read_place : Store → Place → Option Value
 read_place store p = option_and_then (value_at_path p.path) (slice_get store p.variable)
 
--- returns the store in which the value at a place is replaced (rule 5); None if there is no such place
+-- returns the store in which `new` replaces the value at a place (rule 5); None if there is no such place
 abbrev pub write_place : Store → Place → Value → Option Store
 write_place store p new =
     option_and_then (λ old. option_map (slice_set store p.variable) (with_value_at_path p.path new old))
@@ -229,7 +227,7 @@ abbrev pub copies : ℕ → Value → Values
 copies zero v = no_value
 copies (suc n) v = next_value v (copies n v)
 
--- Returns the initial value of a variable: 0 or FALSE in each of its parts.
+-- Returns the initial value of a variable: each number in it is 0, and each truth value is FALSE.
 abbrev mutual
   -- returns the initial value of a variable of this type
   pub initial : Shape → Value

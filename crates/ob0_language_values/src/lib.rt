@@ -1,5 +1,5 @@
-//! Definitions of the values of Oberon-0: 32-bit numbers, truth values, arrays and records. The operators on scalars,
-//! including DIV and MOD, also exist in code (docs/LANGUAGE.md, Runs).
+//! Definitions of the values of Oberon-0: 32-bit numbers, truth values, arrays and records. The
+//! operators on scalars, including DIV and MOD, also exist in code (docs/LANGUAGE.md, Runs).
 #![tactic(auto)]
 
 ghost use Rattle.std.specs.Prelude.{◌≡◌};
@@ -9,7 +9,8 @@ pub mod scalar;
 
 pub use scalar::{OperatorFault, Scalar};
 
-/// Returns `left DIV right`, rounded down. Returns None if the divisor `right` is below 1.
+/// Returns the quotient `left DIV right`, rounded down. Returns None if the divisor `right` is
+/// below 1.
 #[inline(always)]
 pub fn divide(left: i32, right: i32) -> Option<i32>
     ensures { result ≡ checked_division quotient left right }
@@ -20,7 +21,8 @@ pub fn divide(left: i32, right: i32) -> Option<i32>
     Some(left.div_euclid(right))
 }
 
-/// Returns `left MOD right`, which is never negative. Returns None if the divisor `right` is below 1.
+/// Returns the remainder `left MOD right`, which is never negative. Returns None if the divisor
+/// `right` is below 1.
 #[inline(always)]
 pub fn modulo(left: i32, right: i32) -> Option<i32>
     ensures { result ≡ checked_division remainder left right }

@@ -22,11 +22,13 @@ pub enum OperatorFault {
     Overflow,
     /// The divisor of a DIV or MOD is below 1.
     Divisor,
-    /// The operator isn't defined for an operand's type. A well-typed module contains no such operation.
+    /// The operator isn't defined for an operand's type. A well-typed module contains no such
+    /// operation.
     Operand,
 }
 
-/// Returns the number as a scalar, or `Overflow` for None, which means that the number doesn't fit in 32 bits.
+/// Returns the number as a scalar. None means that the result of an operation doesn't fit in 32
+/// bits. For None, returns the error `Overflow`.
 fn checked_number(number: Option<i32>) -> Result<Scalar, OperatorFault>
     ensures { scalar_outcome result ≡ number_outcome number }
 {
@@ -36,7 +38,8 @@ fn checked_number(number: Option<i32>) -> Result<Scalar, OperatorFault>
     }
 }
 
-/// Returns the result of a division as a scalar, or `Divisor` for None, which means that the divisor is below 1.
+/// Returns the result of a DIV or MOD as a scalar. None means that the divisor is below 1. For
+/// None, returns the error `Divisor`.
 fn division_result(number: Option<i32>) -> Result<Scalar, OperatorFault>
     ensures { scalar_outcome result ≡ division_outcome number }
 {
@@ -46,14 +49,16 @@ fn division_result(number: Option<i32>) -> Result<Scalar, OperatorFault>
     }
 }
 
-/// Returns `left DIV right`, rounded down. Returns `Divisor` if the divisor `right` is below 1.
+/// Returns the quotient `left DIV right`, rounded down. Returns the error `Divisor` if the divisor
+/// `right` is below 1.
 fn divide(left: i32, right: i32) -> Result<Scalar, OperatorFault>
     ensures { scalar_outcome result ≡ multiply Divide (number left) (number right) }
 {
     division_result(crate::divide(left, right))
 }
 
-/// Returns `left MOD right`, which is never negative. Returns `Divisor` if the divisor `right` is below 1.
+/// Returns the remainder `left MOD right`, which is never negative. Returns the error `Divisor` if
+/// the divisor `right` is below 1.
 fn modulo(left: i32, right: i32) -> Result<Scalar, OperatorFault>
     ensures { scalar_outcome result ≡ multiply Modulo (number left) (number right) }
 {
@@ -81,7 +86,8 @@ pub fn add(operator: AddOperator, left: Scalar, right: Scalar) -> Result<Scalar,
     }
 }
 
-/// Returns `a + b` or `a - b`. Returns `Overflow` if it doesn't fit in 32 bits, and `Operand` for OR.
+/// Returns `a + b` or `a - b`. Returns the error `Overflow` if the result doesn't fit in 32 bits,
+/// and the error `Operand` if the operator is OR.
 fn add_numbers(operator: AddOperator, a: i32, b: i32) -> Result<Scalar, OperatorFault>
     ensures { scalar_outcome result ≡ add operator (number a) (number b) }
 {
@@ -92,7 +98,7 @@ fn add_numbers(operator: AddOperator, a: i32, b: i32) -> Result<Scalar, Operator
     }
 }
 
-/// Returns `a OR b`. Returns `Operand` for `+` and `-`.
+/// Returns `a OR b`. Returns the error `Operand` if the operator is `+` or `-`.
 fn add_truths(operator: AddOperator, a: bool, b: bool) -> Result<Scalar, OperatorFault>
     ensures { scalar_outcome result ≡ add operator (truth a) (truth b) }
 {
@@ -129,7 +135,8 @@ pub fn multiply(
     }
 }
 
-/// Returns `a * b`, `a DIV b` or `a MOD b`, with the errors of `multiply`. Returns `Operand` for `&`.
+/// Returns `a * b`, `a DIV b` or `a MOD b`. Returns the error `Overflow` if the result doesn't fit
+/// in 32 bits. Returns `Divisor` if the divisor is below 1, and `Operand` if the operator is `&`.
 fn multiply_numbers(operator: MultiplyOperator, a: i32, b: i32) -> Result<Scalar, OperatorFault>
     ensures { scalar_outcome result ≡ multiply operator (number a) (number b) }
 {
@@ -141,7 +148,7 @@ fn multiply_numbers(operator: MultiplyOperator, a: i32, b: i32) -> Result<Scalar
     }
 }
 
-/// Returns `a & b`. Returns `Operand` for `*`, DIV and MOD.
+/// Returns `a & b`. Returns the error `Operand` if the operator is `*`, DIV or MOD.
 fn multiply_truths(operator: MultiplyOperator, a: bool, b: bool) -> Result<Scalar, OperatorFault>
     ensures { scalar_outcome result ≡ multiply operator (truth a) (truth b) }
 {
@@ -153,7 +160,8 @@ fn multiply_truths(operator: MultiplyOperator, a: bool, b: bool) -> Result<Scala
     }
 }
 
-/// Returns true if the operator is OR and the left operand is TRUE, so that the right operand isn't evaluated.
+/// Returns whether the operator is OR and the left operand is TRUE. The right operand isn't
+/// evaluated then.
 pub fn add_short_circuits(operator: AddOperator, left: Scalar) -> bool
     ensures { result ≡ add_short_circuits operator (scalar_value left) }
 {
@@ -167,7 +175,8 @@ pub fn add_short_circuits(operator: AddOperator, left: Scalar) -> bool
     }
 }
 
-/// Returns true if the operator is `&` and the left operand is FALSE, so that the right operand isn't evaluated.
+/// Returns whether the operator is `&` and the left operand is FALSE. The right operand isn't
+/// evaluated then.
 pub fn multiply_short_circuits(operator: MultiplyOperator, left: Scalar) -> bool
     ensures { result ≡ multiply_short_circuits operator (scalar_value left) }
 {
@@ -203,7 +212,7 @@ pub fn relate(relation: Relation, left: Scalar, right: Scalar) -> Result<Scalar,
     }
 }
 
-/// Returns true if the relation holds between the two numbers.
+/// Returns whether the relation holds between the numbers `a` and `b`, in this order.
 fn compare(relation: Relation, a: i32, b: i32) -> bool
     ensures { result ≡ compare_numbers relation a b }
 {
@@ -217,7 +226,8 @@ fn compare(relation: Relation, a: i32, b: i32) -> bool
     }
 }
 
-/// Returns the truth value of `a = b` or `a # b`. Returns `Operand` for any other relation.
+/// Returns the truth value of `a = b` or `a # b`. Returns the error `Operand` for any other
+/// relation.
 fn relate_truths(relation: Relation, a: bool, b: bool) -> Result<Scalar, OperatorFault>
     ensures { scalar_outcome result ≡ relate relation (truth a) (truth b) }
 {
@@ -235,7 +245,7 @@ fn relate_truths(relation: Relation, a: bool, b: bool) -> Result<Scalar, Operato
 ///
 /// # Errors
 ///
-/// `Overflow` for the negative of the least number, `Operand` if a truth value has a sign.
+/// `Overflow` for the negative of the least 32-bit number, `Operand` if a truth value has a sign.
 pub fn apply_sign(sign: Option<Sign>, operand: Scalar) -> Result<Scalar, OperatorFault>
     ensures { scalar_outcome result ≡ apply_sign sign (scalar_value operand) }
 {
@@ -251,7 +261,7 @@ pub fn apply_sign(sign: Option<Sign>, operand: Scalar) -> Result<Scalar, Operato
     }
 }
 
-/// Returns `~operand`.
+/// Returns the negation `~operand` of a truth value.
 ///
 /// # Errors
 ///

@@ -16,7 +16,8 @@ use Rattle.ob0_layout.specs.declared.sites.KindAndRole.{KindAndRole}
 use Rattle.ob0_layout.specs.Gaps.{is_changed}
 use Rattle.ob0_layout.specs.Layout.{gap_between, gap_text}
 
--- Returns the first of the remaining tokens and comments, or None if none remains.
+-- Returns the token or comment that comes first in the text among the remaining tokens and the
+-- remaining comments. Returns None if both lists are empty.
 abbrev pub next_lexeme : List Token → List Span → Option NextLexeme
 next_lexeme [] [] = None
 next_lexeme [] (c ∷ cs) = Some (next.Comment c)
@@ -30,26 +31,26 @@ abbrev pub gap_before : Option KindAndRole → LexemeKind → LineRole → Gap
 gap_before None kind role = Nothing
 gap_before (Some b) kind role = gap_between b.kind b.role kind role
 
--- Returns the gap after the last token or comment: a line feed, or nothing if the text has no token
--- or comment (None).
+-- Returns the gap at the end of the text: a line feed after the last token or comment. If the text
+-- has no token or comment (None), the gap is empty.
 abbrev pub last_gap : Option KindAndRole → Gap
 last_gap None = Nothing
 last_gap (Some b) = Line 0
 
--- Returns the cut that replaces a gap by its text after formatting.
+-- Returns the cut (a replacement of a range of bytes) that replaces a gap by its formatted text.
 abbrev pub gap_cut : Indent → GapSite → Cut
 gap_cut indent g = record { from = g.start; to = g.end; new = gap_text indent g.gap }
 
--- Returns those gaps of the list that formatting changes.
+-- Returns the gaps of the list that formatting changes, in the same order.
 abbrev pub changed_sites : Indent → List ℕ → List GapSite → List GapSite
 changed_sites indent text gs = filter (λ (g : GapSite). is_changed text (gap_cut indent g)) gs
 
--- holds if a gap lies in a text of this length in bytes
+-- States that the gap `g` lies in a text of `len` bytes.
 pub record LiesIn (len : ℕ) (g : GapSite) : Type 0 where
   pub ordered : g.start ≤ g.end
   pub within : g.end ≤ len
 
--- returns true if each of these bytes is `b`
+-- Returns whether each of these bytes is equal to `b`.
 abbrev pub all_equal_to : ℕ → List ℕ → Bool
 all_equal_to b [] = true
 all_equal_to b (c ∷ cs) = (c == b) && all_equal_to b cs

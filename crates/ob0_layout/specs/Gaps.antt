@@ -1,4 +1,4 @@
--- Defines the gaps of a text: before, between and after its tokens and comments.
+-- Defines the gaps of a text: the white space before, between and after its tokens and comments.
 -- Rule: docs/PROTOCOL.md, Requests on documents 8.
 use Rattle.std.specs.Prelude.{ℕ, ◌+◌, ◌-◌, Bool, true, not, bytes_eq, List, [], ◌∷◌, length, filter, slice_range, string_bytes}
 use Rattle.std.specs.List.{AllPass}
@@ -12,43 +12,44 @@ use Rattle.ob0_text.specs.Texts.{position_of}
 use Rattle.ob0_layout.specs.declared.line_role.LineRole.{LineRole}
 use Rattle.ob0_layout.specs.Layout.{PlacedLexeme, placed_lexemes, gap}
 
--- Returns the gaps after the token or comment `a`, each as the cut that replaces it by its
--- formatted text. The list has the tokens and comments after `a`. `len` is the length of the text
--- in bytes. The formatted text ends with a line feed.
+-- Returns the gaps after the token or comment `a`. Each gap is given as a cut: its byte range, and
+-- the text that replaces it. The list has the tokens and comments after `a`, and `len` is the
+-- length of the text in bytes. The last gap becomes a line feed.
 abbrev pub gaps_after : Indent → ℕ → PlacedLexeme → List PlacedLexeme → List Cut
 gaps_after indent len a [] = record { from = a.span.end; to = len; new = 10 ∷ [] } ∷ []
 gaps_after indent len a (b ∷ bs) =
     record { from = a.span.end; to = b.span.start; new = gap indent a b }
     ∷ gaps_after indent len b bs
 
--- Returns all gaps of a text of `len` bytes, each as the cut that replaces it by its formatted
--- text. The list has the tokens and comments of the text. The gap at the start of the text becomes
--- empty.
+-- Returns all gaps of a text of `len` bytes. Each gap is given as a cut: its byte range, and the
+-- text that replaces it. The list has the tokens and comments of the text. The gap at the start of
+-- the text becomes empty.
 abbrev pub gaps : Indent → ℕ → List PlacedLexeme → List Cut
 gaps indent len [] = record { from = 0; to = len; new = [] } ∷ []
 gaps indent len (a ∷ bs) =
     record { from = 0; to = a.span.start; new = [] } ∷ gaps_after indent len a bs
 
--- Returns all gaps of a text as cuts. `lexemes` are all lexemes of the text, and `ss` has the roles
--- of its tokens.
+-- Returns all gaps of a text as cuts. `lexemes` are all lexemes of the text, including white space,
+-- and `ss` has the line roles of its tokens.
 abbrev pub all_gaps : Indent → List ℕ → List LineRole → List Lexeme → List Cut
 all_gaps indent text ss lexemes = gaps indent (length text) (placed_lexemes 0 0 true ss lexemes)
 
--- returns true if formatting changes the text of a gap
+-- Returns whether formatting changes the text of a gap, which is given as a cut.
 abbrev pub is_changed : List ℕ → Cut → Bool
 is_changed text c = not (bytes_eq (slice_range text c.from c.to) c.new)
 
--- returns the gaps that formatting changes
+-- Returns the gaps that formatting changes, in the same order.
 abbrev pub changed_gaps : List ℕ → List Cut → List Cut
 changed_gaps text cs = filter (is_changed text) cs
 
--- An edit as contracts see it: the range that it replaces, and its new text in bytes.
+-- An edit as contracts describe it: the range of positions that it replaces, and the replacement
+-- text in bytes.
 pub record EditContent : Type 0 where
   pub range : Range
   pub text : List ℕ
 
--- Returns the edit that makes the cut `c` in the text `content`. `width` returns how many units a
--- character has in a position.
+-- Returns the edit that makes the cut `c` in the text with the characters `content`. `width`
+-- returns the number of units of a character: UTF-16 units or bytes, in which positions count.
 abbrev pub edit_of : (ℕ → ℕ) → List ℕ → Cut → EditContent
 edit_of width content c = record {
   range =
@@ -56,16 +57,17 @@ edit_of width content c = record {
   text = c.new;
 }
 
--- returns the range of an edit, and its new text in bytes
+-- Returns the range that an edit replaces, and the replacement text in bytes.
 abbrev pub edit_content : Edit → EditContent
 edit_content e = record { range = e.range; text = string_bytes e.text }
 
--- Returns the length in bytes of the text from the offset `at` to its end, after these cuts are
--- made in it. `len` is the length of the whole text before the cuts.
+-- Returns the number of bytes after the offset `at` once these cuts are made in the text. `at` is a
+-- byte offset in the text before the cuts, and `len` is the length of that text in bytes.
 abbrev pub formatted_len_from : ℕ → ℕ → List Cut → ℕ
 formatted_len_from len at [] = len - at
 formatted_len_from len at (c ∷ cs) = (c.from - at) + (length c.new + formatted_len_from len c.to cs)
 
--- holds if a gap of a text contains only white space
+-- States that a gap of the text, which is given as a cut, contains only white space before
+-- formatting.
 abbrev pub IsWhiteSpace : List ℕ → Cut → Type 0
 IsWhiteSpace text c = AllPass is_space (slice_range text c.from c.to)

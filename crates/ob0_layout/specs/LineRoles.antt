@@ -6,7 +6,7 @@ use Rattle.ob0_tree.specs.Tree.{Sort, Tree, none, one, end, more, compares, rela
 use Rattle.ob0_layout.specs.declared.line_role.LineRole.{LineRole}
 use Rattle.ob0_layout.specs.declared.line_role.LineRole.TheVariants.{Begins, Opening, Joining, Plain}
 
--- Returns the level that is one deeper, but at most 2^32 - 1. A module's levels are far below that.
+-- Returns `k` plus 1, capped at 2^32 - 1. The levels of a module are far below that cap.
 abbrev pub deeper : ℕ → ℕ
 deeper k = min (k + 1) 4294967295
 
@@ -15,22 +15,22 @@ abbrev pub with_line_start : ℕ → List LineRole → List LineRole
 with_line_start level [] = []
 with_line_start level (s ∷ ss) = Begins level ∷ ss
 
--- Returns a list with the role of the sign, or an empty list if there is no sign.
+-- Returns a list with the role of the sign, or an empty list if there is no sign (None).
 abbrev pub sign_role : Option Sign → List LineRole
 sign_role None = []
 sign_role (Some s) = Joining ∷ []
 
--- Returns a list with the role of the separator before an item. For the first item of a list (true)
--- the result is empty, because no separator comes before it.
+-- Returns a list with the role of the separator before an item of a list. If the item is the first
+-- one (true), the result is empty, because no separator comes before that item.
 abbrev pub separator_role : Bool → List LineRole
 separator_role true = []
 separator_role false = Plain ∷ []
 
--- Returns the roles of a tree's tokens, in text order. `k` is the level of a statement, or for
--- declarations and bodies the level of their block. The module has level 0, and a procedure is one
--- level deeper than the block that declares it. The statements of a body are one level deeper than
--- its block. Statements inside a statement are one level deeper than that statement. A construct
--- within a line has no level, and its `k` is 0.
+-- Returns the line roles of a tree's tokens, in text order. `k` is an indentation level: the level
+-- of a statement, or the level of the block for declarations and bodies. The module has level 0,
+-- and a procedure is one level deeper than the block that declares it. The statements of a body are
+-- one level deeper than its block. Statements inside a statement are one level deeper than that
+-- statement. A construct within a line has no level, and its `k` is 0.
 abbrev pub line_roles : {N : Type 0} {s : Sort} → ℕ → Tree N s → List LineRole
 line_roles k none = []
 line_roles k (one t) = line_roles k t

@@ -20,10 +20,11 @@ use ob0_text::{Edit, EditRefusal, Indent, Range, TextStore};
 use ob0_tree::Module;
 use std::alloc::{AllocError, Global};
 
-/// Returns one edit for each gap that formatting changes, in text order. Each edit replaces a whole
-/// gap. If `store` holds the text of the module, applying all the edits to it gives the formatted
-/// text. Fails with `TooLong` if the formatted text would be longer than a text may be, and with
-/// `Memory` if an allocation fails.
+/// Returns the edits that format a module: one for each gap that formatting changes, in text order.
+/// A gap is the white space between two neighbouring tokens or comments, or at the start or end of
+/// the text. Each edit replaces a whole gap. If `store` holds the module's text, applying all the
+/// edits to that text gives the formatted text. Fails with `TooLong` if the formatted text would
+/// have more than `MAX_TEXT` bytes, and with `Memory` if an allocation fails.
 pub fn format<T: TextStore>(
     alloc: Global,
     store: &T,
@@ -56,7 +57,7 @@ pub fn format<T: TextStore>(
     Ok(edits(alloc, store, &sites, indent)?)
 }
 
-/// Returns true if a text of `len` bytes has at most `MAX_TEXT` bytes after these gaps are
+/// Returns whether a text of `len` bytes has at most `MAX_TEXT` bytes after the gaps `sites` are
 /// formatted.
 fn is_within_limit(sites: &[GapSite], len: usize, indent: Indent) -> bool
     requires length { len ≤ max_text }
@@ -76,7 +77,7 @@ fn is_within_limit(sites: &[GapSite], len: usize, indent: Indent) -> bool
     made + len.saturating_sub(at) <= MAX_TEXT
 }
 
-/// Returns the edits that format these gaps, in the same order.
+/// Returns the edits that replace these gaps by their formatted texts, in the same order.
 fn edits<T: TextStore>(
     alloc: Global,
     store: &T,
@@ -103,14 +104,14 @@ fn edits<T: TextStore>(
     Ok(edits)
 }
 
-/// Returns the byte offset at which each gap starts, in order.
+/// Returns the byte offsets in the text at which these gaps start, in the same order.
 fn starts(alloc: Global, sites: &[GapSite]) -> Result<Vec<usize>, AllocError>
     ensures { IfOk result (λ offsets. offsets.items ≡ map (λ site. site.start) sites.now) }
 {
     sites.iter().map(|site| site.start).collect(alloc)
 }
 
-/// Returns the byte offset at which each gap ends, in order.
+/// Returns the byte offsets in the text at which these gaps end, in the same order.
 fn ends(alloc: Global, sites: &[GapSite]) -> Result<Vec<usize>, AllocError>
     ensures { IfOk result (λ offsets. offsets.items ≡ map (λ site. site.end) sites.now) }
 {

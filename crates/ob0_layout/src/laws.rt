@@ -1,4 +1,4 @@
-//! States the laws of formatting. Each function has an empty body: its contract is the law.
+//! States the laws of formatting. Each function has an empty body, because its contract is the law.
 
 ghost use Rattle.std.specs.Prelude.{◌≡◌, ℕ, List, length};
 ghost use Rattle.std.specs.List.{All, AllPass};
@@ -27,7 +27,7 @@ pub fn formatting_keeps_lexemes()
         → without_white_space (formatted_lexemes indent tree scan.lexemes) ≡ without_white_space scan.lexemes }
 {}
 
-/// Proves that a formatted text has the same module as the original text.
+/// Proves that a formatted text is a module with the same tree as the original text.
 pub fn formatting_keeps_module()
     ensures { (indent : Indent) (s : TextWithTokens) (scan : IsScan s) (tree : Tree (List ℕ) module_text)
         → ModuleOf s tree
@@ -42,8 +42,8 @@ pub fn formatting_is_idempotent()
         → layout indent tree again.lexemes ≡ layout indent tree scan.lexemes }
 {}
 
-/// Proves three facts: replacing the gaps that change gives the formatted text, this text is UTF-8,
-/// and `formatted_len_from` is its length.
+/// Proves three facts: replacing the gaps that formatting changes gives the formatted text, the
+/// formatted text is UTF-8, and `formatted_len_from` computes its length in bytes.
 pub fn gaps_give_formatted_text()
     ensures utf8 { (indent : Indent) (s : TextWithTokens) (scan : IsScan s)
         (tree : Tree (List ℕ) module_text)
@@ -60,8 +60,8 @@ pub fn gaps_give_formatted_text()
         ≡ length (layout indent tree scan.lexemes) }
 {}
 
-/// Proves that formatting changes only white space: each gap contains nothing else, before and
-/// after formatting.
+/// Proves that formatting changes only white space: each gap contains only white space before
+/// formatting and also after it.
 pub fn gaps_are_white_space()
     ensures before { (indent : Indent) (s : TextWithTokens) (scan : IsScan s)
         (tree : Tree (List ℕ) module_text)

@@ -1,5 +1,5 @@
-//! Formats a module: finds the tokens that begin a line, and the edits that give the formatted
-//! text.
+//! Formats a module: finds the tokens that begin a line, and makes the edits that give the
+//! formatted text.
 #![tactic(auto)]
 
 mod formatting_edits;

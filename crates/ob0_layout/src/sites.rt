@@ -1,7 +1,7 @@
 //! Finds the gaps of a text that formatting changes.
 //!
-//! One pass over tokens and comments stores only the gaps that change. Gaps are compared without
-//! building their texts.
+//! The code visits the tokens and comments once, and stores only the gaps that change. It compares
+//! gaps without building their texts.
 
 ghost use Rattle.std.specs.Prelude.{◌≡◌, ◌||◌, ◌==◌, ◌++◌, ◌∷◌, [], IfOk, OnOk, is_none, drop, length, map};
 ghost use Rattle.ob0_scan.specs.TextWithTokens.{IsScan};
@@ -15,7 +15,8 @@ use ob0_scan::{LexemeKind, Span, Token, Tokens};
 use ob0_text::Indent;
 use std::alloc::{AllocError, Global};
 
-/// A gap of a text: its start and end as byte offsets, and its form after formatting.
+/// A gap of a text: the byte offsets of its start and its end, and its white space after
+/// formatting.
 #[derive(Clone, Copy)]
 pub struct GapSite {
     pub start: usize,
@@ -37,8 +38,8 @@ pub enum NextLexeme {
     Comment(Span),
 }
 
-/// Returns the gaps that formatting changes, in text order. `roles` has the role of each token of
-/// the text.
+/// Returns the gaps that formatting changes, in text order. `roles` has the line role of each token
+/// of the text, in text order.
 pub fn changed_sites(
     alloc: Global,
     tokens: &Tokens,
@@ -90,7 +91,7 @@ pub fn changed_sites(
     Ok(sites)
 }
 
-/// Adds a gap to the list if formatting changes it.
+/// Appends a gap to `sites` if formatting changes the gap.
 fn add_if_changed(
     sites: &mut Vec<GapSite>,
     text: &[u8],
@@ -107,7 +108,7 @@ fn add_if_changed(
     Ok(())
 }
 
-/// Returns true if formatting changes this gap.
+/// Returns whether formatting changes this gap.
 fn is_changed(text: &[u8], site: GapSite, indent: Indent) -> bool
     requires { LiesIn (length text.now) site }
     ensures { result ≡ is_changed text.now (gap_cut indent site) }
@@ -115,7 +116,8 @@ fn is_changed(text: &[u8], site: GapSite, indent: Indent) -> bool
     !site.gap.is_text(&text[site.start..site.end], indent)
 }
 
-/// Returns the first of the remaining tokens and comments, or None if none remains.
+/// Returns the token or comment that comes first in the text among the remaining tokens `left` and
+/// the remaining comments. Returns None if both lists are empty.
 fn next_lexeme(left: &[Token], comments: &[Span]) -> Option<NextLexeme>
     ensures { result ≡ next_lexeme left.now comments.now }
 {
@@ -136,7 +138,7 @@ fn next_lexeme(left: &[Token], comments: &[Span]) -> Option<NextLexeme>
 }
 
 /// Returns the gap between `before` and the next token or comment, which has this kind and role. At
-/// the start of the text (`before` is None) the gap is empty.
+/// the start of the text, `before` is None and the gap is empty.
 fn gap_before(before: Option<KindAndRole>, kind: LexemeKind, role: LineRole) -> Gap
     ensures { result ≡ gap_before before kind role }
 {
@@ -146,8 +148,8 @@ fn gap_before(before: Option<KindAndRole>, kind: LexemeKind, role: LineRole) -> 
     }
 }
 
-/// Returns the gap after `before`, the last token or comment: a line feed. If the text has no token
-/// or comment, `before` is None and the gap is empty.
+/// Returns the gap at the end of the text. The gap is a line feed after the last token or comment,
+/// `before`. If the text has no token or comment, `before` is None and the gap is empty.
 fn last_gap(before: Option<KindAndRole>) -> Gap
     ensures { result ≡ last_gap before }
 {
@@ -157,8 +159,8 @@ fn last_gap(before: Option<KindAndRole>) -> Gap
     }
 }
 
-/// Returns the level of the next token's line, or 0 if no token follows. `level` is the level of
-/// the current line, and `roles` has the roles of the remaining tokens.
+/// Returns the indentation level of the line that has the next token, or 0 if no token is left.
+/// `level` is the level of the current line, and `roles` has the roles of the remaining tokens.
 fn next_line_level(level: u32, roles: &[LineRole]) -> u32
     ensures { result ≡ next_line_level level roles.now }
 {
@@ -173,8 +175,8 @@ fn next_line_level(level: u32, roles: &[LineRole]) -> u32
     }
 }
 
-/// Returns the role of the next token, or `Plain` if no token follows. `roles` has the roles of the
-/// remaining tokens.
+/// Returns the line role of the next token, or `Plain` if no token is left. `roles` has the roles
+/// of the remaining tokens.
 fn next_role(roles: &[LineRole]) -> LineRole
     ensures { result ≡ next_role roles.now }
 {
@@ -206,15 +208,15 @@ fn comment_role(broken: bool, level: u32) -> LineRole
     }
 }
 
-/// Returns true if the token or comment after a gap begins a line: the gap has a line break, or is
-/// at the start of the text (`before` is None).
+/// Returns whether the token or comment after a gap begins a line. It does if the gap has a line
+/// break, or if the gap is at the start of the text (`before` is None).
 fn begins_line(before: Option<KindAndRole>, gap: &[u8]) -> bool
     ensures { result ≡ (is_none before || has_break gap.now) }
 {
     before.is_none() || has_break(gap)
 }
 
-/// Returns true if the gap contains a line feed or a carriage return.
+/// Returns whether the gap contains a line feed or a carriage return.
 fn has_break(gap: &[u8]) -> bool
     ensures { result ≡ has_break gap.now }
 {

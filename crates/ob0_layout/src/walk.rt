@@ -1,4 +1,4 @@
-//! Gives each token of a module its role in its line, by a walk over the module.
+//! Computes the role of each token in its line, by a walk over the module's tree.
 
 ghost use Rattle.std.specs.Prelude.{◌≡◌, ◌++◌, ◌∷◌, [], IfOk};
 ghost use Rattle.ob0_layout.specs.declared.line_role.LineRole.TheVariants.{Begins, Plain};
@@ -15,7 +15,7 @@ use ob0_tree::{
 };
 use std::alloc::{AllocError, Global};
 
-/// Returns the role of each token of a module in its line, in text order.
+/// Returns the line role of each token of a module, in text order.
 pub(crate) fn line_roles(alloc: Global, module: &Module) -> Result<Vec<LineRole>, AllocError>
     ensures { IfOk result (λ out. out.items ≡ line_roles 0 (tree_of module.now)) }
 {
@@ -30,14 +30,14 @@ pub(crate) fn line_roles(alloc: Global, module: &Module) -> Result<Vec<LineRole>
     Ok(out)
 }
 
-/// Returns the level that is one deeper, but at most 2^32 - 1.
+/// Returns `level` plus 1, capped at 2^32 - 1.
 fn deeper(level: u32) -> u32
     ensures { result ≡ deeper level }
 {
     level.saturating_add(1)
 }
 
-/// Appends the role `Plain` of one token.
+/// Appends the role `Plain`, for one token.
 fn add_plain_role(out: &mut Vec<LineRole>) -> Result<(), AllocError>
     ensures { IfOk result (λ _. out.new.items ≡ out.old.items ++ (Plain ∷ [])) }
 {
@@ -70,7 +70,7 @@ fn add_compound_roles(out: &mut Vec<LineRole>, c: &CompoundExpression) -> Result
     Ok(())
 }
 
-/// Appends the role of a sign, if there is one.
+/// Appends the role of the sign. If there is no sign (None), appends nothing.
 fn add_sign_role(out: &mut Vec<LineRole>, sign: Option<Sign>) -> Result<(), AllocError>
     ensures { IfOk result (λ _. out.new.items ≡ out.old.items ++ sign_role sign) }
 {
@@ -168,8 +168,8 @@ fn add_separator_role(out: &mut Vec<LineRole>, first: bool) -> Result<(), AllocE
     Ok(())
 }
 
-/// Appends the roles of the tokens in a statement sequence of this level, with the `;` between
-/// statements.
+/// Appends the roles of the tokens in a sequence of statements, including the `;` between
+/// statements. The first token of each statement begins a line of this level.
 #[cycle(statements)]
 fn add_sequence_roles(
     out: &mut Vec<LineRole>,
@@ -188,7 +188,7 @@ fn add_sequence_roles(
     Ok(())
 }
 
-/// Appends the roles of a statement, whose first token begins a line of this level.
+/// Appends the roles of a statement's tokens. The first token begins a line of this level.
 #[cycle(statements)]
 fn add_statement_roles(out: &mut Vec<LineRole>, level: u32, s: &Statement) -> Result<(), AllocError>
     ensures { IfOk result
@@ -215,7 +215,7 @@ fn add_statement_roles(out: &mut Vec<LineRole>, level: u32, s: &Statement) -> Re
     }
 }
 
-/// Appends the role of a token that begins a line of this level.
+/// Appends the role `Begins(level)`, for a token that begins a line of this level.
 fn add_line_start_role(out: &mut Vec<LineRole>, level: u32) -> Result<(), AllocError>
     ensures { IfOk result (λ _. out.new.items ≡ out.old.items ++ (Begins level ∷ [])) }
 {
@@ -223,7 +223,7 @@ fn add_line_start_role(out: &mut Vec<LineRole>, level: u32) -> Result<(), AllocE
     Ok(())
 }
 
-/// Appends the roles of an assignment, whose first token begins a line of this level.
+/// Appends the roles of an assignment's tokens. The first token begins a line of this level.
 fn add_assignment_roles(
     out: &mut Vec<LineRole>,
     level: u32,
@@ -240,7 +240,7 @@ fn add_assignment_roles(
     add_expression_roles(out, &a.value)
 }
 
-/// Appends the roles of a call, whose first token begins a line of this level.
+/// Appends the roles of a call's tokens. The first token begins a line of this level.
 fn add_call_roles(out: &mut Vec<LineRole>, level: u32, c: &Call) -> Result<(), AllocError>
     ensures { IfOk result (λ _. out.new.items ≡ out.old.items ++ line_roles level (call_of c.now)) }
 {
@@ -251,7 +251,7 @@ fn add_call_roles(out: &mut Vec<LineRole>, level: u32, c: &Call) -> Result<(), A
     }
 }
 
-/// Appends the roles of the parentheses and arguments of a call.
+/// Appends the roles of the tokens in a call's arguments, including the parentheses.
 fn add_argument_roles(out: &mut Vec<LineRole>, given: &Vec<Expression>) -> Result<(), AllocError>
     ensures { IfOk result
         (λ _. out.new.items ≡ out.old.items ++ line_roles 0 (arguments_of_vec given.now)) }
@@ -266,7 +266,8 @@ fn add_argument_roles(out: &mut Vec<LineRole>, given: &Vec<Expression>) -> Resul
     add_plain_role(out)
 }
 
-/// Appends the roles of an IF statement of this level. The statements in it are one level deeper.
+/// Appends the roles of an IF statement's tokens. IF begins a line of this level, and the
+/// statements inside are one level deeper.
 #[cycle(statements)]
 fn add_if_roles(out: &mut Vec<LineRole>, level: u32, i: &If) -> Result<(), AllocError>
     ensures { IfOk result (λ _. out.new.items ≡ out.old.items ++ line_roles level (if_of i.now)) }
@@ -287,7 +288,7 @@ fn add_if_roles(out: &mut Vec<LineRole>, level: u32, i: &If) -> Result<(), Alloc
 }
 
 /// Appends the roles of the tokens in the ELSIF parts of an IF statement. `level` is the level of
-/// the IF statement.
+/// the IF statement. The statements inside are one level deeper.
 #[cycle(statements)]
 fn add_elsif_roles(
     out: &mut Vec<LineRole>,
@@ -306,8 +307,8 @@ fn add_elsif_roles(
     Ok(())
 }
 
-/// Appends the roles of the tokens in a list of names, with the commas between the names. `first`
-/// is the role of the first name.
+/// Appends the roles of the tokens in a list of names, including the commas. `first` is the role of
+/// the first name.
 fn add_name_roles(out: &mut Vec<LineRole>, first: LineRole, ns: &Names) -> Result<(), AllocError>
     ensures { IfOk result (λ _. out.new.items
         ≡ out.old.items ++ (first ∷ line_roles 0 (items_of then_name ns.now.more.items))) }
@@ -367,8 +368,8 @@ fn add_field_roles(out: &mut Vec<LineRole>, f: &Fields) -> Result<(), AllocError
     }
 }
 
-/// Appends the roles of the tokens in formal parameters, with the parentheses. If `sections` is
-/// None, appends nothing.
+/// Appends the roles of the tokens in formal parameters, including the parentheses. If `sections`
+/// is None, appends nothing.
 fn add_formal_roles(
     out: &mut Vec<LineRole>,
     sections: &Option<Vec<ParameterSection>>,
@@ -504,8 +505,8 @@ fn add_block_roles(out: &mut Vec<LineRole>, level: u32, b: &Block) -> Result<(),
     add_body_roles(out, level, &b.body)
 }
 
-/// Appends the roles of a procedure's tokens. `level` is the level of the block that declares it,
-/// and the procedure is one level deeper.
+/// Appends the roles of a procedure's tokens. `level` is the level of the block that declares the
+/// procedure. The procedure is one level deeper.
 #[cycle(blocks)]
 fn add_procedure_roles(out: &mut Vec<LineRole>, level: u32, p: &Procedure) -> Result<(), AllocError>
     ensures { IfOk result

@@ -19,7 +19,7 @@ abbrev pub terminals_of_kinds : ℕ → List TokenKind → List (Terminal ℕ)
 terminals_of_kinds i [] = EndOfText ∷ []
 terminals_of_kinds i (k ∷ ks) = index_terminal i k ∷ terminals_of_kinds (i + 1) ks
 
--- Holds if the descent ends with this stop in a text whose tokens have these kinds.
+-- States that the descent ends with this stop in a text whose tokens have these kinds.
 abbrev pub DescendsKinds : List TokenKind → Stop → Type 0
 DescendsKinds kinds stop = DescendsText (terminals_of_kinds 0 kinds) stop
 
@@ -35,7 +35,7 @@ symbol_kind c = kind.Symbol c
 abbrev pub identifier_kind : TokenKind
 identifier_kind = kind.Identifier
 
--- The kind of an integer.
+-- The kind of the integer 1.
 abbrev pub integer_kind : TokenKind
 integer_kind = kind.Integer 1
 
@@ -52,7 +52,8 @@ abbrev pub repeat_kinds : ℕ → List TokenKind → List TokenKind
 repeat_kinds zero ks = []
 repeat_kinds (suc n) ks = ks ++ repeat_kinds n ks
 
--- Holds if the descent stops in the examples of syntax faults as docs/LANGUAGE.md says.
+-- States at which token the descent stops in each example of docs/LANGUAGE.md, and which token or
+-- construct is expected there. The last example is a whole module.
 pub record ExpectedStops : Type 0 where
   pub empty : DescendsKinds [] (Expects 0 (expected.Word reserved.Module))
   -- MODULE M; BEGIN x = 1 END M.
@@ -93,7 +94,8 @@ pub record ExpectedStops : Type 0 where
   -- MODULE M; BEGIN WriteLn END M.
   pub whole : DescendsKinds (module_head ++ (reserved_kind reserved.Begin ∷ identifier_kind ∷ module_end)) Done
 
--- Holds if the descent stops at the 101st of 101 constructs that are nested in each other.
+-- States that the descent stops at the 101st of 101 constructs that are nested in each other,
+-- because it is nested too deep.
 pub record DeepStops : Type 0 where
   -- MODULE M; BEGIN, 101 times IF TRUE THEN, 101 times END, END M.
   pub ifs : DescendsKinds (module_head

@@ -1,5 +1,5 @@
--- Says which tokens the procedures and the body kept from earlier parses have, before and after a
--- change of the text.
+-- States which tokens belong to the procedures and the body that are kept from earlier parses,
+-- before and after a change of the text.
 -- Rule: none; for contracts of `KeptTrees` and of `reparse_tree`.
 use Rattle.std.specs.declared.vec.Vec.{Vec}
 use Rattle.std.specs.declared.alloc.Global.{Global}
@@ -20,69 +20,72 @@ use Rattle.ob0_parse.specs.declared.kept.KeptTrees.{KeptTrees}
 use Rattle.ob0_parse.specs.declared.kept.KeptBody.{KeptBody}
 use Rattle.ob0_parse.specs.declared.kept.KeptProcedure.{KeptProcedure}
 
--- Returns tokens of these kinds with their indexes, as a tree whose leaves are token indexes spells
--- them. The first token has the index `i`.
+-- Returns tokens of these kinds, as they are spelled by a tree whose leaves are token indexes. The
+-- first token has the index `i`.
 abbrev pub index_terminals_of_kinds : ℕ → List TokenKind → List (Terminal ℕ)
 index_terminals_of_kinds i [] = []
 index_terminals_of_kinds i (k ∷ ks) = index_terminal i k ∷ index_terminals_of_kinds (i + 1) ks
 
--- Returns the index of a procedure's first token, which is the one before its name.
+-- Returns the index of the procedure's first token, PROCEDURE, which is the token before its name.
+-- The names in the tree are token indexes.
 abbrev pub first_token_index : Tree ℕ (item procedure) → ℕ
 first_token_index (declares_procedure name fs b closing) = name - 1
 
--- Returns the index after a procedure's last token, which is the semicolon after its closing name.
+-- Returns the index of the token after the procedure. The procedure's last token is the semicolon
+-- after its closing name. The names in the tree are token indexes.
 abbrev pub end_token_index : Tree ℕ (item procedure) → ℕ
 end_token_index (declares_procedure name fs b closing) = closing + 2
 
--- Holds if the tokens `at..next` have the kinds that the tree spells, and the tree isn't nested too
--- deeply. Its leaves are token indexes that count from its first token, which has the index `from`.
+-- States that the tokens `at..next` have the kinds that the tree `t` spells, and that `t` isn't
+-- nested too deeply. The leaves of `t` are token indexes in a text in which its first token has the
+-- index `from`.
 pub record HasTokensAt {s : Sort} (ts : List Token) (from at next : ℕ) (t : Tree ℕ s) : Type 0 where
   pub spelled : spell t ≡ index_terminals_of_kinds from (slice_range (kinds ts) at next)
   pub shallow : nesting t ≤ max_nesting
   pub forward : at < next
   pub within : next ≤ length ts
 
--- Holds if the tokens `at..next` have the kinds that the tree spells, and the tree isn't nested too
--- deeply. Its leaves are the indexes of these tokens.
+-- States that the tokens `at..next` have the kinds that the tree spells, and that the tree isn't
+-- nested too deeply. The leaves of the tree are the indexes of these tokens.
 abbrev pub IsInPlace : {s : Sort} → List Token → ℕ → ℕ → Tree ℕ s → Type 0
 IsInPlace ts at next t = HasTokensAt ts at at next t
 
--- Holds if the procedure's tokens are at the place that its leaves give, and its leaves are the
--- indexes of these tokens.
+-- States that the tokens of the procedure are in the range that its leaves determine, and that its
+-- leaves are the indexes of these tokens.
 abbrev pub IsProcedureInPlace : List Token → Procedure → Type 0
 IsProcedureInPlace ts p = IsInPlace ts (first_token_index (procedure_of p)) (end_token_index (procedure_of p)) (procedure_of p)
 
--- Holds if the tokens of the kept procedure are at `k.at..k.next`. Its leaves may still be the
+-- States that the tokens of the kept procedure are `k.at..k.next`. Its leaves may still be the
 -- indexes of these tokens in an earlier text.
 abbrev pub IsWaiting : List Token → KeptProcedure → Type 0
 IsWaiting ts k =
     HasTokensAt ts (first_token_index (procedure_of k.procedure)) k.at k.next (procedure_of k.procedure)
 
--- Holds if BEGIN and the statements of the kept body are at `k.at..k.next`. Its leaves may still be
--- the indexes of these tokens in an earlier text.
+-- States that BEGIN and the statements of the kept body are the tokens `k.at..k.next`. The leaves
+-- may still be the indexes of these tokens in an earlier text.
 abbrev pub IsBodyWaiting : List Token → KeptBody → Type 0
 IsBodyWaiting ts k = HasTokensAt ts k.from k.at k.next (body_of (Some k.statements))
 
--- Holds if no body is kept, or BEGIN and the statements of the kept body are at the place kept with
--- it.
+-- States that BEGIN and the statements of the kept body are in the range that is kept with the
+-- body. If no body is kept, it states nothing.
 abbrev pub IsAnyBodyWaiting : List Token → Option KeptBody → Type 0
 IsAnyBodyWaiting ts body = IfSome body (IsBodyWaiting ts)
 
--- Holds if each item of the list has the property.
+-- States that each item of the list has the property `P`.
 abbrev pub HoldsForEach : {A : Type 0} → (A → Type 0) → List A → Type 0
 HoldsForEach P [] = Unit {0}
 HoldsForEach P (x ∷ xs) = P x × HoldsForEach P xs
 
--- Holds if the tokens of every kept tree are in their place: at the place that its leaves give
--- (`made`), or at the place kept with it (`waiting`, `body`).
+-- States that the tokens of every kept tree are at their place. For `made`, the leaves determine
+-- the range of these tokens. For `waiting` and `body`, the range is kept with the tree.
 pub record AreKept (ts : List Token) (k : KeptTrees) : Type 0 where
   pub made : HoldsForEach (IsProcedureInPlace ts) k.made.items
   pub waiting : HoldsForEach (IsWaiting ts) k.waiting.items
   pub body : IsAnyBodyWaiting ts k.body
 
--- Holds if `k` has these statements and their place in a module with these procedures. The module's
--- closing name is the token with the index `closing`. BEGIN follows the last procedure, and END
--- follows the statements.
+-- States that `k` is the body with these statements and the range of its tokens, in a module with
+-- the procedures `ps`. BEGIN follows the last procedure. END follows the statements and comes
+-- before the closing name, which has the token index `closing`.
 pub record IsLocatedBody
     (ps : List Procedure) (statements : Option (Vec Statement Global)) (closing : ℕ) (k : KeptBody)
     : Type 0 where
@@ -94,9 +97,9 @@ pub record IsLocatedBody
 
 -- ---- another text
 
--- Holds if each tree that has the tokens `at..next` in the old text has the tokens
--- `place.0..place.1` in the new text. The two texts may be any that share the tokens which `same`
--- describes.
+-- States that each tree with the tokens `at..next` in the old text has the tokens
+-- `place.0..place.1` in the new text. This holds for every two texts that share the tokens
+-- described by `same`.
 abbrev pub RelocatesRange : SameTokens → ℕ → ℕ → ℕ × ℕ → Type 0
 RelocatesRange same at next place =
     (s : Sort) (old new : List Token) (from : ℕ) (t : Tree ℕ s)
@@ -104,15 +107,16 @@ RelocatesRange same at next place =
     → HasTokensAt old from at next t
     → HasTokensAt new from place.0 place.1 t
 
--- Holds if the kept procedure `b` is at its place in the new text whenever `a` is at its place in
--- the old text. The two texts may be any that share the tokens which `same` describes.
+-- States that the kept procedure `b` is at its place in the new text if `a` is at its place in the
+-- old text. This holds for every two texts that share the tokens described by `same`.
 abbrev pub RelocatesProcedure : SameTokens → KeptProcedure → KeptProcedure → Type 0
 RelocatesProcedure same a b =
     (old new : List Token) → HasSameTokens same old new → IsWaiting old a → IsWaiting new b
 
--- Holds if the kept procedures `after` are at their places in the new text under two conditions:
--- `a` is at its place in the old text, and the procedures `before` are at their places in the new
--- text. The two texts may be any that share the tokens which `same` describes.
+-- States that the kept procedures `after` are at their places in the new text, under two
+-- conditions. The procedure `a` is at its place in the old text. The procedures `before` are at
+-- their places in the new text. This holds for every two texts that share the tokens described by
+-- `same`.
 abbrev pub AppendsRelocated : SameTokens
     → KeptProcedure
     → List KeptProcedure
@@ -125,8 +129,8 @@ AppendsRelocated same a before after =
     → HoldsForEach (IsWaiting new) before
     → HoldsForEach (IsWaiting new) after
 
--- Holds if the kept procedures `ys` are at their places in the new text whenever `xs` are at theirs
--- in the old text. The two texts may be any that share the tokens which `same` describes.
+-- States that the kept procedures `ys` are at their places in the new text if `xs` are at their
+-- places in the old text. This holds for every two texts that share the tokens described by `same`.
 abbrev pub RelocatesAll : SameTokens → List KeptProcedure → List KeptProcedure → Type 0
 RelocatesAll same xs ys =
     (old new : List Token)
@@ -134,9 +138,10 @@ RelocatesAll same xs ys =
     → HoldsForEach (IsWaiting old) xs
     → HoldsForEach (IsWaiting new) ys
 
--- Holds if the kept procedures `after` are at their places in the new text under two conditions:
--- the leaves of `p` give its place in the old text, and the procedures `before` are at their places
--- in the new text. The two texts may be any that share the tokens which `same` describes.
+-- States that the kept procedures `after` are at their places in the new text, under two
+-- conditions. The leaves of `p` are the indexes of its tokens in the old text. The procedures
+-- `before` are at their places in the new text. This holds for every two texts that share the
+-- tokens described by `same`.
 abbrev pub AppendsRelocatedMade : SameTokens
     → Procedure
     → List KeptProcedure
@@ -149,10 +154,10 @@ AppendsRelocatedMade same p before after =
     → HoldsForEach (IsWaiting new) before
     → HoldsForEach (IsWaiting new) after
 
--- Holds if the kept procedures `after` are at their places in the new text under two conditions:
--- the leaves of the procedures `ps` give their places in the old text, and the procedures `before`
--- are at their places in the new text. The two texts may be any that share the tokens which `same`
--- describes.
+-- States that the kept procedures `after` are at their places in the new text, under two
+-- conditions. The leaves of the procedures `ps` are the indexes of their tokens in the old text.
+-- The procedures `before` are at their places in the new text. This holds for every two texts that
+-- share the tokens described by `same`.
 abbrev pub AppendsAllRelocatedMade : SameTokens
     → List Procedure
     → List KeptProcedure
@@ -165,8 +170,8 @@ AppendsAllRelocatedMade same ps before after =
     → HoldsForEach (IsWaiting new) before
     → HoldsForEach (IsWaiting new) after
 
--- Holds if the body `b` is at its place in the new text whenever the body `a` is at its place in
--- the old text. The two texts may be any that share the tokens which `same` describes.
+-- States that the body `b` is at its place in the new text if the body `a` is at its place in the
+-- old text. This holds for every two texts that share the tokens described by `same`.
 abbrev pub RelocatesBody : SameTokens → KeptBody → KeptBody → Type 0
 RelocatesBody same a b =
     (old new : List Token)
@@ -174,14 +179,14 @@ RelocatesBody same a b =
     → IsBodyWaiting old a
     → IsBodyWaiting new b
 
--- Holds if the body `b` is at its place in the new text whenever the body `a` is at its place in
--- the old text. An absent body counts as being at its place. The two texts may be any that share
--- the tokens which `same` describes.
+-- States that the body `b` is at its place in the new text if the body `a` is at its place in the
+-- old text. A missing body counts as being at its place. This holds for every two texts that share
+-- the tokens described by `same`.
 abbrev pub RelocatesAnyBody : SameTokens → Option KeptBody → Option KeptBody → Type 0
 RelocatesAnyBody same a b =
     (old new : List Token) → HasSameTokens same old new → IsAnyBodyWaiting old a → IsAnyBodyWaiting new b
 
--- Holds if `k` is the procedure `p` with the place that its own leaves give.
+-- States that `k` is the procedure `p` with the range that the leaves of `p` determine.
 abbrev pub IsLocatedProcedure : Procedure → KeptProcedure → Type 0
 IsLocatedProcedure p k =
     (k.procedure ≡ p)
@@ -190,23 +195,23 @@ IsLocatedProcedure p k =
 
 -- ---- reusing
 
--- Holds if `x` is a pair: a procedure, and the index of the token after it. The procedure's first
--- token has the index `at`, and its leaves are the indexes of its tokens in this text.
+-- States that the procedure `x.0` has the tokens `at..x.1` of this text, and that its leaves are
+-- the indexes of these tokens.
 abbrev pub IsReusedProcedure : List Token → ℕ → Procedure × ℕ → Type 0
 IsReusedProcedure ts at x = IsInPlace ts at x.1 (procedure_of x.0)
 
--- Holds if `IsReusedProcedure` holds for `x` in every text that has all the kept procedures
--- `waiting` at their places.
+-- States that `IsReusedProcedure` holds for `x` in every text in which all the kept procedures
+-- `waiting` are at their places.
 abbrev pub IsReusedFromWaiting : List KeptProcedure → ℕ → Procedure × ℕ → Type 0
 IsReusedFromWaiting waiting at x = (ts : List Token) → HoldsForEach (IsWaiting ts) waiting → IsReusedProcedure ts at x
 
--- Holds if every text that has the kept procedures `before` at their places also has the procedures
--- `after` at theirs.
+-- States that the procedures `after` are at their places in every text in which the procedures
+-- `before` are at their places.
 abbrev pub RemainWaiting : List KeptProcedure → List KeptProcedure → Type 0
 RemainWaiting before after =
     (ts : List Token) → HoldsForEach (IsWaiting ts) before → HoldsForEach (IsWaiting ts) after
 
--- Holds if `x` is a pair: the statements of a body, and the index of the token after the last one.
--- The body's BEGIN has the index `at`, and its leaves are the indexes of its tokens in this text.
+-- States that BEGIN and the statements `x.0` have the tokens `at..x.1` of this text. The leaves of
+-- the statements are the indexes of these tokens.
 abbrev pub IsReusedBody : List Token → ℕ → Vec Statement Global × ℕ → Type 0
 IsReusedBody ts at x = IsInPlace ts at x.1 (body_of (Some x.0))

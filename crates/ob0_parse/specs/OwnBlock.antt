@@ -1,5 +1,5 @@
--- Says what the parser returns for a module and for the procedures of the module's own block. It
--- stores these procedures with the kept trees.
+-- States which results the parser returns for a module and for the procedures of the module's own
+-- block. The parser stores these procedures with the kept trees.
 -- Rule: none; for private contracts of the parser.
 use Rattle.std.specs.Prelude.{ℕ, List, [], ◌∷◌, Result, Ok, Err, length}
 use Rattle.ob0_scan.specs.declared.lexeme.Token.{Token}
@@ -20,14 +20,16 @@ block_with_procedures ps parts =
     (items_of procedure_of ps))
     (body_of parts.body)
 
--- Holds for a returned index if the procedures `ps` begin at `at` and end before that index. Holds
--- for a refusal if the procedures that begin at `at` can't be read, as the refusal says.
+-- States that the result of parsing a module's procedures at the token `at` is right. If the result
+-- is an index, the procedures `ps` begin at `at` and end before that index. If the result is a
+-- refusal, the procedures at `at` can't be read, for the reason that the refusal gives.
 abbrev pub ReadsOwnProcedures : List Procedure → List Token → ℕ → Result ℕ ParseRefusal → Type 0
 ReadsOwnProcedures ps ts at (Ok next) = IsReadTree (items_of procedure_of ps) max_nesting ts at next
 ReadsOwnProcedures ps ts at (Err e) = FailsToRead (node (items procedure) max_nesting ∷ []) ts at e
 
--- Holds for a parsed module if its tree spells the tokens, from the first to the last. Holds for a
--- refusal if the tokens can't be read as a module, as the refusal says.
+-- States that the result of parsing a module is right. The tree of a parsed module spells the
+-- tokens, from the first to the last. If the result is a refusal, the tokens can't be read as a
+-- module, for the reason that the refusal gives.
 abbrev pub ReadsModule : List Token → Result (ℕ × Block × ℕ) ParseRefusal → Type 0
 ReadsModule ts (Ok x) = IsReadTree (is_module x.0 (block_of x.1) x.2) max_nesting ts 0 (length ts)
 ReadsModule ts (Err e) = FailsToRead (node module_text max_nesting ∷ finish ∷ []) ts 0 e

@@ -1,27 +1,31 @@
-//! Keeps procedures and bodies from earlier parses, and the places of their tokens in another text.
+//! Keeps the trees of procedures and bodies from earlier parses, so that a later parse can reuse
+//! them. The range of a kept tree's tokens in the present text is stored with the tree, or the
+//! tree's leaves determine it.
 //!
-//! `KeptTrees` holds trees with the places of their tokens: the procedures of the last parse, the
-//! procedures that it didn't reach, and the body of the module. `HasTokensAt` says that a tree's
-//! tokens have the kinds that the tree spells, and that its leaves count from its first token. So
-//! only the kinds of these tokens decide whether a tree can be used in another text
-//! (`KeptTrees::relocate`). If a text has a syntax fault, the trees that its parser made up to the
-//! fault are kept. The older trees after the fault are also kept.
+//! `KeptTrees` holds three groups of trees. They are the procedures that the last parse made or
+//! reused, the procedures that the last parse didn't reach, and the body of the module.
+//! `HasTokensAt` states that the tokens in a tree's range have the kinds that the tree spells, and
+//! that the tree's leaves count from its first token. So only the kinds of these tokens decide
+//! whether a tree can be used in another text (`KeptTrees::relocate`). If a text has a syntax
+//! error, the trees that the parser made before the error are kept. The older trees after the error
+//! are also kept.
 //!
-//! Such a tree can be reused whatever parse made it, if the token after it doesn't continue it. No
-//! token continues a procedure, which ends in a semicolon (`stops_zero`), and END continues no
-//! body. So no other tree has these tokens (`same`). The descent reads every tree that is spelled
-//! (`finishes`), so `IsReadTree` follows from the spelling (`taken_there`).
+//! A kept tree can be reused, whichever parse made it, if the token after the tree can't continue
+//! it. No token can continue a procedure, because a procedure ends with a semicolon (`stops_zero`).
+//! END can't continue a body. So no other tree has the same tokens (`same`). The descent reads
+//! every tree that the tokens spell (`finishes`), so `IsReadTree` follows from the spelling
+//! (`taken_there`).
 //!
-//! The leaves of a procedure give its place: its name is its second token, and its closing name is
-//! the last but one. The leaves of a body don't give its place, so a body is kept with the index of
-//! its BEGIN. That index is known if the module has a procedure: BEGIN is the token after the last
-//! one.
+//! The leaves of a procedure determine the range of its tokens. Its name is its second token, and
+//! its closing name is its last token but one. The leaves of a body don't determine the range of
+//! its tokens, so a body is kept with the index of its BEGIN. That index is known if the module has
+//! a procedure: BEGIN is the token after the last procedure.
 //!
-//! A kept tree waits with unchanged leaves while the parser hasn't reached it. When the parser
-//! reaches it, a walk in place adds the distance that its tokens have moved to its leaves
-//! (`move_leaves`, `leaf_moves.rt`). So each procedure and the body, before or after the change,
-//! are reused. The moved tree is `mapped` from the old one, so it spells the current tokens
-//! (`moved_there`). No index exceeds the largest one, because `next` is itself an index.
+//! The leaves of a kept tree stay unchanged until a parser reaches the tree's tokens. Then
+//! `move_leaves` adds to each leaf the distance that the tokens have moved, by a walk in
+//! `leaf_moves.rt`. So procedures and the body can be reused on both sides of a change in the text.
+//! The moved tree is `mapped` from the old tree, so it spells the current tokens (`moved_there`).
+//! No moved leaf exceeds the largest `usize`, because it is less than `next`, which is a `usize`.
 
 ghost use Rattle.std.specs.Prelude.{◌≡◌, ◌+◌, ◌≤◌, ◌++◌, [], List, IfOk, OnOk, IfSome};
 ghost use Rattle.std.specs.Option.{option_to_list};
@@ -36,8 +40,9 @@ use ob0_scan::SameTokens;
 use ob0_tree::{ModuleTree, Procedure, Statement};
 use std::alloc::{AllocError, Global};
 
-/// A procedure from an earlier parse. Its tokens are now at `at..next`. Its leaves are still the
-/// old indexes: they must be moved by the distance that its first token has moved.
+/// A procedure from an earlier parse. Its tokens have the indexes `at..next` in the present text.
+/// Its leaves are still token indexes in an earlier text. Before reuse, each leaf must be moved by
+/// the distance that the procedure's first token has moved.
 #[derive(Drop)]
 pub struct KeptProcedure {
     pub procedure: Procedure,
@@ -45,9 +50,9 @@ pub struct KeptProcedure {
     pub next: usize,
 }
 
-/// The statements of a module's own body from an earlier parse. Their tokens, with BEGIN before
-/// them, are now at `at..next`. Their leaves are the indexes in a text in which BEGIN has the index
-/// `from`.
+/// The statements of a module's own body from an earlier parse. BEGIN and the tokens of the
+/// statements have the indexes `at..next` in the present text. The leaves of the statements are
+/// token indexes in a text in which BEGIN has the index `from`.
 #[derive(Drop)]
 pub struct KeptBody {
     pub statements: Vec<Statement>,
@@ -56,22 +61,23 @@ pub struct KeptBody {
     pub next: usize,
 }
 
-/// The trees of earlier parses that can be reused: procedures of a module's own block, and the
-/// module's body. A later parse reuses them when it reaches their tokens.
+/// The trees of earlier parses that can be reused: procedures declared directly in the module, and
+/// the module's body. A later parse reuses a tree when it reaches the tree's tokens.
 #[derive(Drop)]
 pub struct KeptTrees {
     /// The procedures that the last parse made or reused, in text order. Their leaves are the
-    /// present indexes of their tokens.
+    /// indexes of their tokens in the present text.
     pub made: Vec<Procedure>,
-    /// The procedures that the last parse didn't reach, in reverse text order.
+    /// The procedures that the last parse didn't reach, in reverse text order. So the procedure
+    /// that comes first in the text is the last item.
     pub waiting: Vec<KeptProcedure>,
     /// The module's body from an earlier parse. It is None if no body can be reused, or if the last
-    /// parse has reused it.
+    /// parse has reused the body.
     pub body: Option<KeptBody>,
 }
 
 impl KeptTrees {
-    /// Returns a value that keeps no tree.
+    /// Returns a `KeptTrees` that keeps no tree.
     pub fn empty(alloc: Global) -> KeptTrees
         ensures { (ts : List Token) → AreKept ts result }
     {
@@ -82,8 +88,8 @@ impl KeptTrees {
         }
     }
 
-    /// Returns a value that keeps the procedures of a tree. If the tree has procedures, its body is
-    /// also kept.
+    /// Returns a `KeptTrees` that keeps the procedures of a module's tree. If the module has
+    /// procedures, its body is also kept.
     pub fn from_tree(alloc: Global, tree: ModuleTree) -> KeptTrees
         ensures { (s : TextWithTokens) → IsParsed (parsed_module s tree) → AreKept s.tokens result }
     {
@@ -99,8 +105,9 @@ impl KeptTrees {
         }
     }
 
-    /// Returns the kept trees whose tokens are also in the changed text, with their places in that
-    /// text. The other trees are dropped.
+    /// Returns the kept trees whose tokens are also in the changed text, with the ranges of these
+    /// tokens in that text. `same` says which tokens the two texts share. The other trees are
+    /// dropped.
     pub fn relocate(self, alloc: Global, same: SameTokens) -> Result<KeptTrees, AllocError>
         ensures { IfOk result (λ kept. (old new : List Token)
             → HasSameTokens same old new
@@ -122,9 +129,10 @@ impl KeptTrees {
     }
 }
 
-/// Returns the body of a module with these procedures, with its place. Returns None if the module
-/// has no body or no procedures. BEGIN is the token after the last procedure, and END is between
-/// the statements and the closing name.
+/// Returns the body of a module with the range of its tokens. The module has the procedures `made`,
+/// and its closing name has the token index `closing`. BEGIN is the token after the last procedure,
+/// and END is the token before the closing name. Returns None if the module has no body or no
+/// procedures, or if an index would be out of range.
 fn locate_body(
     made: &Vec<Procedure>,
     body: Option<Vec<Statement>>,
@@ -145,7 +153,7 @@ fn locate_body(
 }
 
 /// Returns the waiting procedures whose tokens are also in the changed text, in the same order,
-/// with their places there.
+/// with the ranges of these tokens in that text. The other procedures are dropped.
 fn relocate_waiting(
     alloc: Global,
     waiting: Vec<KeptProcedure>,
@@ -160,9 +168,9 @@ fn relocate_waiting(
     Ok(kept)
 }
 
-/// Moves procedures of the last parse from `made` to `kept`, from the last to the first, with their
-/// places in the changed text. Drops those whose tokens the changed text doesn't have. Afterwards
-/// `made` is empty.
+/// Moves the procedures of the last parse from `made` to the end of `kept`, beginning with the last
+/// procedure. Each procedure gets the range of its tokens in the changed text. Drops the procedures
+/// whose tokens the changed text doesn't have. Afterwards `made` is empty.
 fn relocate_made(
     kept: &mut Vec<KeptProcedure>,
     made: &mut Vec<Procedure>,
@@ -178,7 +186,8 @@ fn relocate_made(
     Ok(())
 }
 
-/// Appends a waiting procedure with its place in the changed text, if that text has its tokens.
+/// Appends a waiting procedure to `kept`, with the range of its tokens in the changed text. Drops
+/// the procedure if the changed text doesn't have its tokens.
 fn push_relocated(
     kept: &mut Vec<KeptProcedure>,
     procedure: KeptProcedure,
@@ -192,8 +201,8 @@ fn push_relocated(
     Ok(())
 }
 
-/// Appends a procedure of the last parse with its place in the changed text, if that text has its
-/// tokens.
+/// Appends a procedure of the last parse to `kept`, with the range of its tokens in the changed
+/// text. Drops the procedure if the changed text doesn't have its tokens.
 fn push_relocated_made(
     kept: &mut Vec<KeptProcedure>,
     procedure: Procedure,
@@ -207,8 +216,8 @@ fn push_relocated_made(
     Ok(())
 }
 
-/// Returns the body with its place in the changed text. Returns None if there is no body or the
-/// changed text doesn't have its tokens.
+/// Returns the body with the range of its tokens in the changed text. Returns None if there is no
+/// body, or the changed text doesn't have the body's tokens.
 fn relocate_body(body: Option<KeptBody>, same: SameTokens) -> Option<KeptBody>
     ensures { RelocatesAnyBody same body result }
 {
@@ -218,9 +227,9 @@ fn relocate_body(body: Option<KeptBody>, same: SameTokens) -> Option<KeptBody>
     }
 }
 
-/// Returns the procedure with the place of its tokens. Its leaves must be the present indexes of
-/// its tokens, because they give that place. Returns None if the index after its last token is too
-/// large.
+/// Returns the procedure with the range of its tokens. Its leaves must be the indexes of its tokens
+/// in the present text, because they determine the range. Returns None if the index after its last
+/// token would be out of range.
 fn locate_procedure(procedure: Procedure) -> Option<KeptProcedure>
     ensures { IfSome result (IsLocatedProcedure procedure) }
 {
@@ -234,8 +243,8 @@ fn locate_procedure(procedure: Procedure) -> Option<KeptProcedure>
 }
 
 impl KeptProcedure {
-    /// Returns the procedure with its place in the changed text, or None if the changed text
-    /// doesn't have its tokens.
+    /// Returns the procedure with the range of its tokens in the changed text, or None if the
+    /// changed text doesn't have these tokens.
     fn relocate(self, same: SameTokens) -> Option<KeptProcedure>
         ensures { IfSome result (RelocatesProcedure same self) }
     {
@@ -249,8 +258,8 @@ impl KeptProcedure {
 }
 
 impl KeptBody {
-    /// Returns the body with its place in the changed text, or None if the changed text doesn't
-    /// have its tokens.
+    /// Returns the body with the range of its tokens in the changed text, or None if the changed
+    /// text doesn't have these tokens.
     fn relocate(self, same: SameTokens) -> Option<KeptBody>
         ensures { IfSome result (RelocatesBody same self) }
     {
@@ -263,8 +272,8 @@ impl KeptBody {
         })
     }
 
-    /// Moves the leaves of the statements to the present indexes of their tokens. Returns the
-    /// statements and the index of the token after them.
+    /// Changes each leaf of the statements to the index of its token in the present text. Returns
+    /// the statements and the index of the token after them.
     pub(crate) fn move_leaves(self) -> (Vec<Statement>, usize)
         ensures placed { (ts : List Token)
             → IsBodyWaiting ts self
@@ -285,8 +294,8 @@ impl KeptBody {
     }
 }
 
-/// Returns the range of the tokens `at..next` in the changed text, or None if that text doesn't
-/// have all of them.
+/// Returns the range in the changed text of the tokens that have the indexes `at..next` in the old
+/// text. Returns None if the changed text doesn't have all of these tokens.
 fn relocated_range(at: usize, next: usize, same: SameTokens) -> Option<(usize, usize)>
     ensures { IfSome result (RelocatesRange same at next) }
 {
@@ -298,8 +307,9 @@ fn relocated_range(at: usize, next: usize, same: SameTokens) -> Option<(usize, u
     Some((at, next))
 }
 
-/// Returns the new index of a token that lies after the change, given its old index. Returns None
-/// if the token isn't after the change.
+/// Returns the index in the changed text of a token that follows the changed tokens, given its
+/// index in the old text. Returns None if the token doesn't follow the changed tokens, or if its
+/// index would be out of range.
 fn relocated_index(index: usize, same: SameTokens) -> Option<usize>
     ensures { IfSome result (λ place. (same.old_suffix ≤ index)
         × (place + same.old_suffix ≡ index + same.new_suffix)) }
@@ -308,8 +318,9 @@ fn relocated_index(index: usize, same: SameTokens) -> Option<usize>
     following.checked_add(same.new_suffix)
 }
 
-/// Removes and returns the kept procedure that begins at this token, with the index of the token
-/// after it. Returns None if there is none. Procedures that begin before this token are dropped.
+/// Removes the procedure that begins at the token `at` from `waiting`, and returns the procedure
+/// and the index of the token after it. Returns None if no waiting procedure begins at that token.
+/// Procedures that begin before that token are dropped.
 pub(crate) fn take_procedure_at(
     waiting: &mut Vec<KeptProcedure>,
     at: usize,
@@ -325,8 +336,8 @@ pub(crate) fn take_procedure_at(
     None
 }
 
-/// Removes and returns the waiting procedure that comes first in the text, if it begins at or
-/// before this token. Otherwise returns None.
+/// Removes and returns the last item of `waiting`, which comes first in the text, if it begins at
+/// or before the token `at`. Otherwise returns None.
 fn pop_up_to(waiting: &mut Vec<KeptProcedure>, at: usize) -> Option<KeptProcedure>
     ensures rest { waiting.old.items ≡ waiting.new.items ++ option_to_list result }
 {
@@ -341,8 +352,8 @@ fn pop_up_to(waiting: &mut Vec<KeptProcedure>, at: usize) -> Option<KeptProcedur
     waiting.pop()
 }
 
-/// Moves the procedure's leaves to the present indexes of its tokens. Returns the procedure and the
-/// index of the token after it.
+/// Changes each leaf of the procedure to the index of its token in the present text. Returns the
+/// procedure and the index of the token after it.
 fn move_leaves(kept: KeptProcedure) -> (Procedure, usize)
     ensures { (ts : List Token) → IsWaiting ts kept → IsReusedProcedure ts kept.at result }
 {

@@ -1,4 +1,4 @@
-//! States laws about the definitions that the contracts cite.
+//! Proves laws about the definitions that the parser's contracts use.
 
 ghost use Rattle.std.specs.Prelude.{ℕ, List};
 ghost use Rattle.ob0_scan.specs.TextWithTokens.{TextWithTokens};
@@ -8,8 +8,9 @@ ghost use Rattle.ob0_tree.specs.Tree.{Tree, module_text};
 ghost use Rattle.ob0_parse_descent.specs.Descent.{DescendsText, Done, StopIsUnique};
 ghost use Rattle.ob0_parse.specs.DescentExamples.{DeepStops, ExpectedStops};
 
-/// Proves that the tokens determine the place at which the descent stops, and the token or
-/// construct expected there.
+/// Proves that the tokens determine at which token the descent stops, and which token or construct
+/// is expected there. The descent reads the tokens from left to right by the productions of the
+/// grammar.
 pub fn stop_is_unique()
     ensures { StopIsUnique }
 {}
@@ -22,8 +23,8 @@ pub fn descent_reads_modules()
         → DescendsText (index_terminals text.tokens) Done }
 {}
 
-/// Proves that the descent stops at the stated places in the examples of docs/LANGUAGE.md, and at
-/// the 101st of 101 constructs nested in each other.
+/// Proves that the descent stops at the stated tokens in the examples of docs/LANGUAGE.md. If 101
+/// constructs are nested in each other, the descent stops at the 101st.
 pub fn examples_stop_as_stated()
     ensures expected { ExpectedStops }
     ensures deep { DeepStops }

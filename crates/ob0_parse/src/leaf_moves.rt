@@ -1,5 +1,5 @@
-//! Moves the leaves of a procedure or body, which are token indexes, to the places of its tokens in
-//! another text.
+//! Adapts the leaves of a procedure or body to a changed text. The leaves are token indexes, so
+//! they change if the tokens have moved.
 
 ghost use Rattle.std.specs.Prelude.{◌≡◌};
 ghost use Rattle.ob0_tree.specs.Tree.{then_name};
@@ -14,8 +14,8 @@ use ob0_tree::{
     While, WrittenType,
 };
 
-/// A move of tokens: the token that was at `from` is now at `to`, and every later token has moved
-/// by the same distance.
+/// A move of tokens: the token with the index `from` in the old text has the index `to` in the
+/// changed text. Every token after it has moved by the same distance.
 #[derive(Clone, Copy)]
 pub(crate) struct LeafMove {
     pub from: usize,
@@ -23,7 +23,8 @@ pub(crate) struct LeafMove {
 }
 
 impl LeafMove {
-    /// Returns the token index after the move, at most 2^64 - 1.
+    /// Returns the index that the move gives to the token with the index `leaf`, capped at 2^64 -
+    /// 1. An index below `from` counts as `from`.
     fn moved_leaf(self, leaf: usize) -> usize
         ensures { result ≡ moved_leaf self leaf }
     {
@@ -139,7 +140,7 @@ fn move_factor(f: &mut Factor, by: LeafMove)
     }
 }
 
-/// Applies the move `by` to each token index in a name with its selectors.
+/// Applies the move `by` to each token index in a designator (a name with its selectors).
 #[cycle(expressions)]
 fn move_designator(d: &mut Designator, by: LeafMove)
     ensures { designator_of d.new ≡ moved_tree by (designator_of d.old) }
@@ -148,7 +149,7 @@ fn move_designator(d: &mut Designator, by: LeafMove)
     move_selectors(&mut d.selectors, by);
 }
 
-/// Applies the move `by` to each token index in selectors.
+/// Applies the move `by` to each token index in a list of selectors.
 #[cycle(expressions)]
 fn move_selectors(parts: &mut Vec<Selector>, by: LeafMove)
     ensures { items_of selector_of parts.new.items
@@ -283,7 +284,7 @@ fn move_names(ns: &mut Names, by: LeafMove)
     move_further_names(&mut ns.more, by);
 }
 
-/// Applies the move `by` to the token index of each name after the first in a list.
+/// Applies the move `by` to the token index of each name after the first in a list of names.
 fn move_further_names(leaves: &mut Vec<usize>, by: LeafMove)
     ensures { items_of then_name leaves.new.items ≡ moved_tree by (items_of then_name leaves.old.items) }
 {
@@ -356,7 +357,7 @@ fn move_formals(sections: &mut Option<Vec<ParameterSection>>, by: LeafMove)
     }
 }
 
-/// Applies the move `by` to each token index in sections of parameters.
+/// Applies the move `by` to each token index in a list of parameter sections.
 fn move_section_list(listed: &mut Vec<ParameterSection>, by: LeafMove)
     ensures { formals_of_list listed.new.items ≡ moved_tree by (formals_of_list listed.old.items) }
 {
@@ -374,7 +375,7 @@ fn move_constants(declared: &mut Option<Vec<Constant>>, by: LeafMove)
     }
 }
 
-/// Applies the move `by` to each token index in declarations of constants.
+/// Applies the move `by` to each token index in a list of constant declarations.
 fn move_constant_list(listed: &mut Vec<Constant>, by: LeafMove)
     ensures { constants_of_vec listed.new ≡ moved_tree by (constants_of_vec listed.old) }
 {
@@ -383,7 +384,7 @@ fn move_constant_list(listed: &mut Vec<Constant>, by: LeafMove)
     }
 }
 
-/// Applies the move `by` to each token index in a declaration of a constant.
+/// Applies the move `by` to each token index in the declaration of a constant.
 fn move_constant(c: &mut Constant, by: LeafMove)
     ensures { constant_of c.new ≡ moved_tree by (constant_of c.old) }
 {
@@ -400,7 +401,7 @@ fn move_type_section(declared: &mut Option<Vec<TypeDeclaration>>, by: LeafMove)
     }
 }
 
-/// Applies the move `by` to each token index in declarations of types.
+/// Applies the move `by` to each token index in a list of type declarations.
 fn move_type_list(listed: &mut Vec<TypeDeclaration>, by: LeafMove)
     ensures { types_of_vec listed.new ≡ moved_tree by (types_of_vec listed.old) }
 {
@@ -409,7 +410,7 @@ fn move_type_list(listed: &mut Vec<TypeDeclaration>, by: LeafMove)
     }
 }
 
-/// Applies the move `by` to each token index in a declaration of a type.
+/// Applies the move `by` to each token index in the declaration of a type.
 fn move_type_declaration(d: &mut TypeDeclaration, by: LeafMove)
     ensures { type_declaration_of d.new ≡ moved_tree by (type_declaration_of d.old) }
 {
@@ -426,7 +427,7 @@ fn move_variables(declared: &mut Option<Vec<VariableDeclaration>>, by: LeafMove)
     }
 }
 
-/// Applies the move `by` to each token index in declarations of variables.
+/// Applies the move `by` to each token index in a list of variable declarations.
 fn move_variable_list(listed: &mut Vec<VariableDeclaration>, by: LeafMove)
     ensures { variables_of_vec listed.new ≡ moved_tree by (variables_of_vec listed.old) }
 {
@@ -435,7 +436,7 @@ fn move_variable_list(listed: &mut Vec<VariableDeclaration>, by: LeafMove)
     }
 }
 
-/// Applies the move `by` to each token index in a declaration of variables.
+/// Applies the move `by` to each token index in a declaration of variables of one type.
 fn move_variable(v: &mut VariableDeclaration, by: LeafMove)
     ensures { variable_of v.new ≡ moved_tree by (variable_of v.old) }
 {
@@ -443,7 +444,7 @@ fn move_variable(v: &mut VariableDeclaration, by: LeafMove)
     move_type(&mut v.written, by);
 }
 
-/// Applies the move `by` to each token index in a block's statements, if it has a body.
+/// Applies the move `by` to each token index in a block's statements, if the block has a body.
 fn move_body(statements: &mut Option<Vec<Statement>>, by: LeafMove)
     ensures { body_of statements.new ≡ moved_tree by (body_of statements.old) }
 {
@@ -464,7 +465,7 @@ fn move_block(b: &mut Block, by: LeafMove)
     move_body(&mut b.body, by);
 }
 
-/// Applies the move `by` to each token index in procedures.
+/// Applies the move `by` to each token index in a list of procedures.
 #[cycle(blocks)]
 fn move_procedures(ps: &mut Vec<Procedure>, by: LeafMove)
     ensures { procedures_of_vec ps.new ≡ moved_tree by (procedures_of_vec ps.old) }

@@ -1,5 +1,5 @@
-//! Parses a module: its name, its own block and its closing name. Kept procedures and a kept body
-//! are reused.
+//! Parses a module: its name, its own block and its closing name. Procedures and a body that are
+//! kept from earlier parses are reused.
 
 ghost use Rattle.std.specs.Prelude.{◌≡◌, ◌≤◌, Some, IfSome, length};
 ghost use Rattle.ob0_scan.specs.declared.lexeme.TokenKind.TheVariants as kind;
@@ -22,8 +22,9 @@ use ob0_tree::{
 };
 use std::mem;
 
-/// Parses the declarations and the body of a module, and returns the parts other than procedures.
-/// The procedures are stored in `kept`. If the kept body is reused, it is removed from `kept`.
+/// Parses the declarations and the body of a module, beginning at the token `at`. Returns the parts
+/// other than procedures, and the index of the token after the block. The procedures are stored in
+/// `kept`. If the kept body is reused, it is removed from `kept`.
 fn parse_own_block(
     parser: &Parser<'_>,
     at: usize,
@@ -51,8 +52,8 @@ fn parse_own_block(
     ))
 }
 
-/// Parses `{procedure ";"}` of a module's own block, and returns the index of the token after them.
-/// The procedures are stored in `kept`.
+/// Parses the procedures of a module's own block, `{procedure ";"}`, beginning at the token `at`.
+/// Stores the procedures in `kept`, and returns the index of the token after them.
 fn parse_own_procedures(
     parser: &Parser<'_>,
     at: usize,
@@ -72,8 +73,9 @@ fn parse_own_procedures(
     Ok(next)
 }
 
-/// Returns the procedure of a module's own block that begins at this token: the kept one if there
-/// is one, otherwise a parsed one. Returns None if no procedure begins here.
+/// Returns the procedure that begins at the token `at`, and the index of the token after it. If the
+/// procedure is in `waiting`, it is reused, otherwise it is parsed. Returns None if no procedure
+/// begins at that token.
 fn next_own_procedure(
     parser: &Parser<'_>,
     at: usize,
@@ -90,8 +92,9 @@ fn next_own_procedure(
     }
 }
 
-/// Returns the body of a module that begins at this token: the kept body if it begins here,
-/// otherwise a parsed one. Returns None as the body if this token isn't BEGIN.
+/// Returns the body that begins at the token `at`, and the index of the token after it. If the kept
+/// body begins at that token, it is reused, otherwise the body is parsed. The returned body is None
+/// if the token isn't BEGIN.
 fn parse_own_body(
     parser: &Parser<'_>,
     at: usize,
@@ -108,9 +111,10 @@ fn parse_own_body(
     }
 }
 
-/// Removes and returns the kept body if its BEGIN is at this token and END follows its statements.
-/// Otherwise returns None, and the body stays in `kept`: the text before BEGIN or END may have a
-/// syntax fault, and the body can be reused when that is fixed.
+/// Removes the body from `kept` and returns it, if its BEGIN is the token `at` and END follows its
+/// statements. The returned index is the index of that END. Otherwise returns None and leaves the
+/// body in `kept`. The text may then have a syntax error before BEGIN or END, and the body can be
+/// reused when the error is fixed.
 fn take_kept_body(
     parser: &Parser<'_>,
     at: usize,
@@ -129,7 +133,7 @@ fn take_kept_body(
     None
 }
 
-/// Returns true if this token is the reserved word END.
+/// Returns whether the token at `at` is the reserved word END.
 fn is_end(parser: &Parser<'_>, at: usize) -> bool
     requires { at ≤ length parser.now.tokens.now }
     ensures { TellsIfTokenAt (kind.ReservedWord reserved.End) parser.now.tokens.now at result }
@@ -137,8 +141,8 @@ fn is_end(parser: &Parser<'_>, at: usize) -> bool
     parser.expect_word(at, ReservedWord::End).is_ok()
 }
 
-/// Parses a whole module. Returns the index of its name, its block, and the index of its closing
-/// name.
+/// Parses all tokens as a module. Returns the token index of the module's name, its block, and the
+/// token index of its closing name.
 pub(crate) fn module(
     parser: &Parser<'_>,
     kept: &mut KeptTrees,

@@ -28,8 +28,9 @@ pub data ProductionPart : Type 0 where
 
 -- ---- the choice of a production
 
--- The choice that the next tokens determine for a construct: the parts of a production (none if the
--- construct is omitted), or an error.
+-- The choice that the next tokens determine for a construct: the parts of a production, or an
+-- error. If the construct is omitted, the list of parts is empty. The error says that another token
+-- or construct is expected, or that the construct is nested too deep.
 pub data ProductionChoice : Type 0 where
   parts : List ProductionPart → ProductionChoice
   missing : Expected → ProductionChoice
@@ -43,44 +44,45 @@ reserved_part w = token (kind.ReservedWord w)
 abbrev pub symbol_part : Symbol → ProductionPart
 symbol_part s = token (kind.Symbol s)
 
--- Returns the choice for a construct that opens a level of nesting: its parts, with one level less
--- left for them (LANGUAGE.md, Nesting and limits). If no level is left, the construct is too deep.
+-- Returns the choice for a construct that opens a level of nesting, given the number of levels
+-- left. The construct's parts have one level less. If no level is left, the construct is too deep
+-- (LANGUAGE.md, Nesting and limits).
 abbrev pub nested_choice : ℕ → (ℕ → List ProductionPart) → ProductionChoice
 nested_choice zero inside = too_deep
 nested_choice (suc room) inside = parts (inside room)
 
--- Returns true if the item begins with the next token.
+-- Returns whether the next token begins the item. If no token is left, the result is false.
 abbrev pub is_item_next : Item → List (Terminal ℕ) → Bool
 is_item_next i [] = false
 is_item_next i (x ∷ tokens) = rank x == item_rank i
 
--- Returns true if an expression begins with the next token.
+-- Returns whether the next token begins an expression.
 abbrev pub is_expression_next : List (Terminal ℕ) → Bool
 is_expression_next (Name n ∷ tokens) = true
 is_expression_next (Number n ∷ tokens) = true
 is_expression_next (Mark k ∷ tokens) = opens_expression (Some k)
 is_expression_next tokens = false
 
--- Returns true if a section of formal parameters begins with the next token.
+-- Returns whether the next token begins a section of formal parameters.
 abbrev pub is_section_next : List (Terminal ℕ) → Bool
 is_section_next (Name n ∷ tokens) = true
 is_section_next (Mark (kind.ReservedWord reserved.Var) ∷ tokens) = true
 is_section_next tokens = false
 
--- Returns true if a statement whose identifier precedes these tokens is an assignment: the next
--- token is `:=` or begins a selector.
+-- Returns whether a statement is an assignment, given the tokens after its identifier. It is an
+-- assignment if the next token is `:=` or begins a selector.
 abbrev pub is_assignment_next : List (Terminal ℕ) → Bool
 is_assignment_next (Mark (kind.Symbol symbol.Becomes) ∷ tokens) = true
 is_assignment_next tokens = is_item_next selector tokens
 
--- Returns the parts of an item that consists of an operator and a construct of the sort `s` after
--- it. The operator is the next token.
+-- Returns the production of an item that consists of an operator and a construct of the sort `s`.
+-- The operator is the next token.
 abbrev pub operation_choice : Sort → ℕ → List (Terminal ℕ) → ProductionChoice
 operation_choice s room (Mark k ∷ tokens) = parts (token k ∷ node s room ∷ [])
 operation_choice s room tokens = missing expected.Expression
 
--- Returns the production of an item, with `room` levels of nesting left. It is used only if the
--- next token begins the item, so its value for other tokens doesn't matter.
+-- Returns the production of an item, with `room` levels of nesting left. This function is used only
+-- if the next token begins the item, so its value for other tokens doesn't matter.
 abbrev pub chosen_item_production : Item → (room : ℕ) → List (Terminal ℕ) → ProductionChoice
 -- selector = "[" expression "]" | "." ident
 chosen_item_production selector room (Mark (kind.Symbol symbol.LeftBracket) ∷ tokens) =
@@ -266,7 +268,8 @@ chosen_production module_text room tokens =
 
 -- ---- the stop
 
--- Holds if this token matches this part of a production.
+-- States that this token matches this part of a production. No token matches a part that is a
+-- construct.
 abbrev pub MatchesPart : ProductionPart → Terminal ℕ → Type 0
 MatchesPart (token k) x = x ≡ Mark k
 MatchesPart name x = (n : ℕ) × (x ≡ Name n)
@@ -274,17 +277,17 @@ MatchesPart number x = (n : ℕ) × (x ≡ Number n)
 MatchesPart (node s room) x = ⊥
 MatchesPart finish x = x ≡ EndOfText
 
--- Returns this reserved word or symbol as an expected token, or None for an identifier or an
--- integer.
+-- Returns this reserved word or symbol as an expected token, or None if the kind is an identifier
+-- or an integer.
 abbrev pub expected_token : TokenKind → Option Expected
 expected_token (kind.ReservedWord reserved_part) = Some (expected.Word reserved_part)
 expected_token (kind.Symbol symbol) = Some (expected.Symbol symbol)
 expected_token kind.Identifier = None
 expected_token (kind.Integer value) = None
 
--- Returns the token or construct that is expected if this part is missing. It is None for an
--- integer, which is a part only if the next token is one. It is also None for a construct, whose
--- own parts are read instead.
+-- Returns the token that is expected if this part is missing. The result is None for an integer,
+-- because an integer is a part only if the next token is an integer. The result is also None for a
+-- construct, because its own parts are read instead.
 abbrev pub expected_part : ProductionPart → Option Expected
 expected_part (token k) = expected_token k
 expected_part name = Some expected.Identifier
@@ -292,15 +295,16 @@ expected_part number = None
 expected_part (node s room) = None
 expected_part finish = Some expected.EndOfText
 
--- The end of the descent: everything was read, or something else is expected at the token with this
--- index, or that token opens a construct that is nested too deep.
+-- The way in which the descent ends. `Done`: everything was read. `Expects`: another token or
+-- construct is expected at the token with this index. `Deep`: the token with this index opens a
+-- construct that is nested too deep.
 pub data Stop : Type 0 where
   Done : Stop
   Expects : ℕ → Expected → Stop
   Deep : ℕ → Stop
 
--- Holds if the descent reads these parts from these tokens, the first of which has the index `i`,
--- and ends with this stop.
+-- States that the descent reads these parts from these tokens and ends with this stop. The number
+-- is the index of the first of these tokens in the text.
 pub data Descends : List ProductionPart → ℕ → List (Terminal ℕ) → Stop → Type 0 where
   -- No part is left.
   done : {i : ℕ} {tokens : List (Terminal ℕ)} → Descends [] i tokens Done
@@ -326,7 +330,7 @@ pub data Descends : List ProductionPart → ℕ → List (Terminal ℕ) → Stop
   deep : {s : Sort} {room : ℕ} {ps : List ProductionPart} {i : ℕ} {tokens : List (Terminal ℕ)}
       → chosen_production s room tokens ≡ too_deep → Descends (node s room ∷ ps) i tokens (Deep i)
 
--- Holds if the descent over the same parts and tokens always ends with the same stop.
+-- States that the descent over the same parts and tokens always ends with the same stop.
 abbrev pub StopIsUnique : Type 0
 StopIsUnique =
     (ps : List ProductionPart) (i : ℕ) (tokens : List (Terminal ℕ)) (a b : Stop)
@@ -334,7 +338,7 @@ StopIsUnique =
     → Descends ps i tokens b
     → a ≡ b
 
--- Holds if the descent through a whole text, whose end counts as a token, ends with this stop. At
--- most 100 levels of nesting are allowed.
+-- States that the descent through a whole text ends with this stop. The end of the text counts as a
+-- token. At most 100 levels of nesting are allowed.
 abbrev pub DescendsText : List (Terminal ℕ) → Stop → Type 0
 DescendsText tokens o = Descends (node module_text max_nesting ∷ finish ∷ []) 0 tokens o

@@ -1,5 +1,5 @@
--- Defines what the parser's functions promise: which tokens a function has read, or why no tree
--- begins with them.
+-- Defines the promises of the parser's functions: which tokens a function has read, or why no tree
+-- begins with these tokens.
 -- Rule: none; for contracts of the parser.
 use Rattle.std.specs.declared.vec.Vec.{Vec}
 use Rattle.std.specs.declared.alloc.Global.{Global}
@@ -24,19 +24,19 @@ use Rattle.ob0_parse_descent.specs.declared.refusal.Expected.TheVariants as expe
 use Rattle.ob0_parse_descent.specs.declared.refusal.ParseRefusal.{ParseRefusal}
 use Rattle.ob0_parse_descent.specs.declared.refusal.ParseRefusal.TheVariants.{Syntax, TooDeep, Memory}
 
--- Returns a token of this kind at the index `i`, as a tree whose leaves are token indexes spells
--- it. Returns the end of the text for None.
+-- Returns the token of this kind with the index `i`, as it is spelled by a tree whose leaves are
+-- token indexes. Returns the end of the text for None.
 abbrev pub terminal_or_end : ℕ → Option TokenKind → Terminal ℕ
 terminal_or_end i None = EndOfText
 terminal_or_end i (Some k) = index_terminal i k
 
--- Returns the tokens from the index `i` to the end of the text. The end of the text counts as a
--- token.
+-- Returns the tokens with the index `i` and higher, as they are spelled by a tree whose leaves are
+-- token indexes. The end of the text follows the last token and counts as a token.
 unfoldable pub rest : List Token → ℕ → List (Terminal ℕ)
 rest ts i = drop i (index_terminals ts)
 
--- Holds if the tokens begin with these parts, and each tree among the parts is followed by a token
--- that can't continue it.
+-- States that the tokens begin with these parts. No tree among the parts is followed by a token
+-- that can continue the tree.
 abbrev pub BeginsWithParts : List ProductionPart → List (Terminal ℕ) → Type 0
 BeginsWithParts [] w = Unit {0}
 BeginsWithParts (token k ∷ ps) w = (z : List (Terminal ℕ)) × (w ≡ Mark k ∷ z) × BeginsWithParts ps z
@@ -51,15 +51,15 @@ BeginsWithParts (node s room ∷ ps) w =
     × BeginsWithParts ps z
 BeginsWithParts (finish ∷ ps) w = (z : List (Terminal ℕ)) × (w ≡ EndOfText ∷ z) × BeginsWithParts ps z
 
--- Holds if `tokens` ends in `after`, and the tokens before `after` can't be the beginning of these
--- parts, whatever follows them.
+-- States that the list `tokens` ends with `after`, and that the tokens before `after` can't be the
+-- beginning of these parts, whatever tokens follow them.
 pub record Refused (parts : List ProductionPart) (tokens after : List (Terminal ℕ)) : Type 0 where
   pub passed : List (Terminal ℕ)
   pub fault : Terminal ℕ
   pub here : tokens ≡ passed ++ (fault ∷ after)
   pub never : (unseen : List (Terminal ℕ)) → BeginsWithParts parts (passed ++ (fault ∷ unseen)) → ⊥
 
--- Holds if both lists begin with the same token.
+-- States that neither list is empty and that both lists begin with the same token.
 pub record SameHead (xs w : List (Terminal ℕ)) : Type 0 where
   pub head : Terminal ℕ
   pub following : List (Terminal ℕ)
@@ -67,16 +67,17 @@ pub record SameHead (xs w : List (Terminal ℕ)) : Type 0 where
   pub is : xs ≡ head ∷ following
   pub alike : w ≡ head ∷ other
 
--- Holds if the descent over `ps` from the index `at` ends with the same stop as the descent over
--- `following` from the index `next`. This is so whatever parts `more` follow both lists.
+-- States that the descents over two lists of parts end with the same stop. One descent is over
+-- `ps`, starting at the token `at`. The other is over `following`, starting at the token `next`.
+-- This holds whatever parts `more` follow both lists.
 pub record ReadAs (ps following : List ProductionPart) (ts : List Token) (at next : ℕ) : Type 0 where
   pub on : (o : Stop) (more : List ProductionPart)
       → Descends (following ++ more) next (rest ts next) o
       → Descends (ps ++ more) at (rest ts at) o
 
--- Holds if this tree spells the tokens `at..next`, the descent reads it there, and it has at most
--- `room` levels of nesting. These tokens and the one at `next` allow no other tree of the same sort
--- at `at`.
+-- States that the tree `t` spells the tokens `at..next`, that the descent reads `t` there, and that
+-- `t` has at most `room` levels of nesting. Given these tokens and the token at `next`, no other
+-- tree of the same sort can begin at `at`.
 pub record IsReadTree {s : Sort} (t : Tree ℕ s) (room : ℕ) (ts : List Token) (at next : ℕ) : Type 0 where
   pub spelled : rest ts at ≡ spell t ++ rest ts next
   pub shallow : nesting t ≤ room
@@ -89,35 +90,37 @@ pub record IsReadTree {s : Sort} (t : Tree ℕ s) (room : ℕ) (ts : List Token)
   pub within : next ≤ length ts
   pub forward : at ≤ next
 
--- Holds for a syntax error or too deep nesting at the token `i` if these parts can't begin with the
--- tokens `at..=i`. The end of the text counts as a token. Always holds for a failed allocation.
+-- States that these parts can't begin with the tokens `at..=i` if the refusal is a syntax error or
+-- too deep nesting at the token `i`. The end of the text counts as a token. For a failed allocation
+-- it states nothing.
 abbrev pub IsRightRefusalOfParts : List ProductionPart → List Token → ℕ → ParseRefusal → Type 0
 IsRightRefusalOfParts parts ts at (Syntax i expected) = (i ≤ length ts) × Refused parts (rest ts at) (rest ts (i + 1))
 IsRightRefusalOfParts parts ts at (TooDeep i) = (i ≤ length ts) × Refused parts (rest ts at) (rest ts (i + 1))
 IsRightRefusalOfParts parts ts at Memory = Unit {0}
 
--- Holds if the descent over the parts from the index `at` ends with this stop, whatever parts
--- follow.
+-- States that the descent over these parts, starting at the token `at`, ends with this stop. This
+-- holds whatever parts follow.
 abbrev pub DescentStopsWith : List ProductionPart → List Token → ℕ → Stop → Type 0
 DescentStopsWith parts ts at o = (more : List ProductionPart) → Descends (parts ++ more) at (rest ts at) o
 
--- Holds for a syntax error or too deep nesting if the descent over the parts from the index `at`
--- stops as the refusal says. Always holds for a failed allocation.
+-- States that the descent over these parts, starting at the token `at`, stops as the refusal says.
+-- For a failed allocation it states nothing.
 abbrev pub DescentStopsByRefusal : List ProductionPart → List Token → ℕ → ParseRefusal → Type 0
 DescentStopsByRefusal parts ts at (Syntax i expected) = DescentStopsWith parts ts at (Expects i expected)
 DescentStopsByRefusal parts ts at (TooDeep i) = DescentStopsWith parts ts at (Deep i)
 DescentStopsByRefusal parts ts at Memory = Unit {0}
 
--- Holds if the refusal `e` is right: these parts can't be read from the index `at`, and the descent
--- over them stops as `e` says. Always holds for a failed allocation.
+-- States that the refusal `e` is right. These parts can't be read starting at the token `at`, and
+-- the descent over the parts stops as `e` says. A failed allocation is always right.
 pub record FailsToRead
     (parts : List ProductionPart) (ts : List Token) (at : ℕ) (e : ParseRefusal) : Type 0 where
   pub why : IsRightRefusalOfParts parts ts at e
   pub reads : DescentStopsByRefusal parts ts at e
 
--- Holds for a parsed construct if its tree begins at the index `at` and ends before the returned
--- index. Holds for a refusal if no construct of this sort can be read at `at`, as the refusal says.
--- `view` returns the tree of a value of the code.
+-- States that the result of parsing a construct at the token `at` is right. The tree of a parsed
+-- construct begins at that token and ends before the returned index. If the result is a refusal, no
+-- construct of this sort can be read there, for the reason that the refusal gives. `view` returns
+-- the tree of a parsed value, and `room` is the number of nesting levels left.
 abbrev pub Reads : {A : Type 0} {s : Sort}
     → (A → Tree ℕ s)
     → ℕ
@@ -128,69 +131,71 @@ abbrev pub Reads : {A : Type 0} {s : Sort}
 Reads view room ts at (Ok x) = IsReadTree (view x.0) room ts at x.1
 Reads {s = s} view room ts at (Err e) = FailsToRead (node s room ∷ []) ts at e
 
--- Holds if the token at the index `at` isn't `x`.
+-- States that the token at the index `at` isn't `x`.
 pub record Other (x : Terminal ℕ) (ts : List Token) (at : ℕ) : Type 0 where
   pub fault : Terminal ℕ
   pub here : rest ts at ≡ fault ∷ rest ts (at + 1)
   pub differs : fault ≢ x
   pub within : at ≤ length ts
 
--- Holds if the token at the index `at` isn't an identifier.
+-- States that the token at the index `at` isn't an identifier.
 pub record NoName (ts : List Token) (at : ℕ) : Type 0 where
   pub fault : Terminal ℕ
   pub here : rest ts at ≡ fault ∷ rest ts (at + 1)
   pub ranked : rank fault ≢ 7
   pub within : at ≤ length ts
 
--- Holds if the Bool says whether this reserved word or symbol is at the index `at`.
+-- States that the Bool is true exactly if this reserved word or symbol is at the index `at`.
 abbrev pub TellsIfTokenAt : TokenKind → List Token → ℕ → Bool → Type 0
 TellsIfTokenAt k ts at true = (rest ts at ≡ Mark k ∷ rest ts (at + 1)) × (at < length ts)
 TellsIfTokenAt k ts at false = Other (Mark k) ts at
 
--- Holds if the Bool says whether an identifier is at the index `at`.
+-- States that the Bool is true exactly if an identifier is at the index `at`.
 abbrev pub TellsIfNameAt : List Token → ℕ → Bool → Type 0
 TellsIfNameAt ts at true = (rest ts at ≡ Name at ∷ rest ts (at + 1)) × (at < length ts)
 TellsIfNameAt ts at false = NoName ts at
 
--- Holds for a returned index if this reserved word or symbol is at `at`, and the index is `at + 1`.
--- Holds for a refusal if another token is at `at`, and the refusal says that this word or symbol is
--- expected there.
+-- States that the result of reading this reserved word or symbol at the index `at` is right. If the
+-- result is an index, the word or symbol is at `at`, and the index is `at + 1`. If the result is a
+-- refusal, another token is at `at`, and the refusal says that the word or symbol is expected.
 abbrev pub ReadsToken : TokenKind → List Token → ℕ → Result ℕ ParseRefusal → Type 0
 ReadsToken k ts at (Ok next) =
     (rest ts at ≡ Mark k ∷ rest ts next) × (at < length ts) × (next ≡ at + 1)
 ReadsToken k ts at (Err e) =
     Other (Mark k) ts at × (Some e ≡ option_map (Syntax at) (expected_token k))
 
--- Holds for a returned pair if an identifier is at the index `at`, and the pair is `at` and `at +
--- 1`. Holds for a refusal if another token is at `at`, and the refusal says that an identifier is
--- expected there.
+-- States that the result of reading an identifier at the index `at` is right. If the result is a
+-- pair, an identifier is at `at`, and the pair is `at` and `at + 1`. If the result is a refusal,
+-- another token is at `at`, and the refusal says that an identifier is expected.
 abbrev pub ReadsName : List Token → ℕ → Result (ℕ × ℕ) ParseRefusal → Type 0
 ReadsName ts at (Ok x) =
     (rest ts at ≡ Name at ∷ rest ts x.1) × (at < length ts) × (x.0 ≡ at) × (x.1 ≡ at + 1)
 ReadsName ts at (Err e) = NoName ts at × (e ≡ Syntax at expected.Identifier)
 
--- Holds for a returned number if it is one less than `room`, the number of nesting levels that are
--- left. Holds for a refusal if `room` is 0 and the refusal is `TooDeep` at the token `at`.
+-- States that the result of opening a nesting level at the token `at` is right, given the number
+-- `room` of levels left. If the result is a number, it is `room` minus 1. If the result is a
+-- refusal, it is `TooDeep` at `at`, and `room` is 0.
 abbrev pub OpensLevel : ℕ → ℕ → Result ℕ ParseRefusal → Type 0
 OpensLevel at room (Ok inner) = room ≡ inner + 1
 OpensLevel at room (Err e) = (room ≡ 0) × (e ≡ TooDeep at)
 
--- Holds if the token at this index is the whole factor `f`. The token after it doesn't continue a
--- construct of this level (see `EndsConstruct`).
+-- States that the token at the index `at` is the whole factor `f`, and that the token after it
+-- doesn't continue a construct of this level (see `EndsConstruct`).
 pub record IsSingleTokenFactor (level : ℕ) (f : Tree ℕ factor) (ts : List Token) (at : ℕ) : Type 0 where
   pub taken : (room : ℕ) → IsReadTree f room ts at (at + 1)
   pub stops : EndsConstruct level (rest ts (at + 1))
 
--- Holds if the token at this index begins the item `i`, but the item can't be read, as the refusal
--- says.
+-- States that the token at the index `at` begins the item `i`, but that the item can't be read, for
+-- the reason that the refusal `e` gives.
 pub record ItemFails
     (i : Item) (room : ℕ) (ts : List Token) (at : ℕ) (e : ParseRefusal) : Type 0 where
   pub is_here : NextHasRank (item_rank i) (rest ts at)
   pub fails : FailsToRead (node (item i) room ∷ []) ts at e
 
--- Holds for a parsed item if its tree begins at the index `at` and ends before the returned index.
--- Holds for None if no such item begins at `at`. Holds for a refusal if one begins there but can't
--- be read, as the refusal says.
+-- States that the result of parsing an optional item at the token `at` is right. The tree of a
+-- parsed item begins at that token and ends before the returned index. If the result is None, no
+-- such item begins there. If the result is a refusal, an item begins there but can't be read, for
+-- the reason that the refusal gives.
 abbrev pub ReadsItem : {A : Type 0} {i : Item}
     → (A → Tree ℕ (item i))
     → ℕ
@@ -202,13 +207,13 @@ ReadsItem {i = i} view room ts at (Ok None) = ¬ NextHasRank (item_rank i) (rest
 ReadsItem view room ts at (Ok (Some x)) = IsReadTree (view x.0) room ts at x.1 × (at < x.1)
 ReadsItem {i = i} view room ts at (Err e) = ItemFails i room ts at e
 
--- Holds if the tokens don't begin with a sign.
+-- States that the tokens don't begin with a sign.
 pub record Unsigned (w : List (Terminal ℕ)) : Type 0 where
   pub plus : (z : List (Terminal ℕ)) → w ≡ Mark (kind.Symbol symbol.Plus) ∷ z → ⊥
   pub minus : (z : List (Terminal ℕ)) → w ≡ Mark (kind.Symbol symbol.Minus) ∷ z → ⊥
 
--- Holds if `sign` is the sign at the index `at`, and `next` is the index after the sign. If there
--- is no sign, `sign` is None and `next` is `at`.
+-- States that `sign` is the sign at the token `at`, and that `next` is the index of the token after
+-- the sign. If there is no sign, `sign` is None and `next` is `at`.
 pub record IsSignAt (ts : List Token) (at : ℕ) (sign : Option Sign) (next : ℕ) : Type 0 where
   pub spelled : rest ts at ≡ sign_tokens sign ++ rest ts next
   pub forward : at ≤ next
@@ -216,22 +221,25 @@ pub record IsSignAt (ts : List Token) (at : ℕ) (sign : Option Sign) (next : �
   pub unsigned : IfNone sign (Unsigned (rest ts at))
   pub counted : next ≡ at + length (sign_tokens {N = ℕ} sign)
 
--- Holds for a name with its selectors if they begin at this index, and no further selector follows.
--- Holds for a refusal if no name with selectors can be read at this index.
+-- States that the result of parsing a designator (a name with its selectors) at the token `at` is
+-- right. A parsed designator begins at that token and ends before the returned index, and no
+-- further selector follows. If the result is a refusal, no designator can be read there, for the
+-- reason that the refusal gives.
 abbrev pub ReadsDesignator : ℕ → List Token → ℕ → Result (Designator × ℕ) ParseRefusal → Type 0
 ReadsDesignator room ts at (Ok x) =
     IsReadTree (designator x.0.name (items_of selector_of x.0.selectors.items)) room ts at x.1
     × ¬ NextHasRank 1 (rest ts x.1)
 ReadsDesignator room ts at (Err e) = FailsToRead (name ∷ node (items selector) room ∷ []) ts at e
 
--- Holds for an operator if the token `k` spells it. Holds for None if `k` doesn't have the rank
--- `r`, which the tokens of these operators have.
+-- States that the operator found for a token of the kind `k` is right. If an operator was found,
+-- `k` spells it. If none was found (None), `k` doesn't have the rank `r`, which all tokens of these
+-- operators have.
 abbrev pub IsOperatorOf : {A : Type 0} → (A → TokenKind) → ℕ → TokenKind → Option A → Type 0
 IsOperatorOf mark r k (Some a) = k ≡ mark a
 IsOperatorOf mark r k None = kind_rank k ≢ r
 
--- Holds if the tokens `at..next` are the list `xs`: its first element, then the further elements
--- with the separators before them.
+-- States that the tokens `at..next` are the list `xs`: its first element, then the further
+-- elements, each with the separator before it.
 pub record ListRead
     {A : Type 0} {s : Sort} {i : Item} (view : A → Tree ℕ s) (further : A → Tree ℕ (item i))
     (xs : List A) (room : ℕ) (ts : List Token) (at next : ℕ) : Type 0 where
@@ -242,8 +250,9 @@ pub record ListRead
   pub head : IsReadTree (view first) room ts at middle
   pub tail : IsReadTree (items_of further others) room ts middle next
 
--- Holds for a list of one or more elements if it begins at this index. Holds for a refusal if no
--- list of such elements can be read at this index.
+-- States that the result of parsing a list of one or more elements at the token `at` is right. A
+-- parsed list begins at that token and ends before the returned index. If the result is a refusal,
+-- no list of such elements can be read there, for the reason that the refusal gives.
 abbrev pub ReadsList : {A : Type 0} {s : Sort} {i : Item}
     → (A → Tree ℕ s)
     → (A → Tree ℕ (item i))
@@ -256,8 +265,9 @@ ReadsList view further room ts at (Ok x) = ListRead view further x.0.items room 
 ReadsList {s = s} {i = i} view further room ts at (Err e) =
     FailsToRead (node s room ∷ node (items i) room ∷ []) ts at e
 
--- Holds for names and a type if they begin at this index with a colon between them. Holds for a
--- refusal if these parts can't be read.
+-- States that the result of parsing names, a colon and a type at the token `at` is right. The
+-- parsed parts begin at that token and end before the returned index. If the result is a refusal,
+-- these parts can't be read there, for the reason that the refusal gives.
 abbrev pub ReadsTypedNames : ℕ
     → List Token
     → ℕ
@@ -268,7 +278,8 @@ ReadsTypedNames room ts at (Err e) =
     FailsToRead (node names 0 ∷ token (kind.Symbol symbol.Colon) ∷ node written_type room ∷ []) ts
     at e
 
--- Holds if the Bool says whether a section of formal parameters may begin at this index.
+-- States that the Bool is true exactly if a section of formal parameters may begin at the index
+-- `at`.
 abbrev pub TellsIfSectionMayBegin : List Token → ℕ → Bool → Type 0
 TellsIfSectionMayBegin ts at true =
     Other (Mark (kind.Symbol symbol.RightParen)) ts at × (is_section_next (rest ts at) ≡ true)

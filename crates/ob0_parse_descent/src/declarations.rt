@@ -24,7 +24,7 @@ impl<'t> Parser<'t> {
         Ok(((names, written), end))
     }
 
-    /// Parses `[VAR] names ":" type`.
+    /// Parses a section of formal parameters, `[VAR] names ":" type`.
     fn parse_section(&self, at: usize, room: u32) -> ConstructResult<ParameterSection>
         requires { at ≤ length self.now.tokens.now }
         ensures { Reads section_of room self.now.tokens.now at result }
@@ -53,7 +53,7 @@ impl<'t> Parser<'t> {
         ))
     }
 
-    /// Returns true if a section of formal parameters may begin at this token.
+    /// Returns whether a section of formal parameters may begin at the token `at`.
     fn section_may_begin(&self, at: usize) -> bool
         requires { at ≤ length self.now.tokens.now }
         ensures { TellsIfSectionMayBegin self.now.tokens.now at result }

@@ -17,8 +17,9 @@ pub fn push_doubling<T: Drop>(list: &mut Vec<T>, item: T) -> Result<(), AllocErr
     Ok(())
 }
 
-/// Returns how many items to reserve room for before one is added. Returns 1 if the list has room
-/// or is empty, otherwise its length, so that the capacity doubles.
+/// Returns the number of items for which to reserve room before one item is added. The number is 1
+/// if the list has room or is empty. Otherwise it is the list's length, so that the capacity
+/// doubles.
 fn extra_capacity(len: usize, capacity: usize) -> usize
     ensures { (1 ≤ result) × (len < capacity → result ≡ 1) }
 {

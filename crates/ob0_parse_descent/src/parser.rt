@@ -1,6 +1,6 @@
-//! Parses names and expressions by recursive descent. Each function takes the index of its first
-//! token and the number of nesting levels that are left. It returns the tree and the index of the
-//! token after it.
+//! Parses names and expressions by recursive descent. Each function takes the index `at` of the
+//! construct's first token, and the number `room` of nesting levels that are left. It returns the
+//! construct's tree and the index of the token after the construct.
 
 ghost use Rattle.std.specs.Prelude.{true, ◌≡◌, ◌+◌, ◌<◌, ◌≤◌, ◌∷◌, length, IfSome, IfNone, IfOk, IfErr};
 ghost use Rattle.ob0_scan.specs.declared.lexeme.TokenKind.TheVariants as kind;
@@ -38,11 +38,12 @@ const COMPARISON_STRENGTH: u8 = 4;
 /// The strength of all other tokens, which bind no operand before them.
 const WEAKEST_STRENGTH: u8 = 5;
 
-/// A parsed construct with the index of the token after it, or the refusal.
+/// The result of parsing a construct: the construct and the index of the token after it, or a
+/// refusal with the reason.
 pub type ConstructResult<T> = Result<(T, usize), ParseRefusal>;
 
-/// A parsed item with the index of the token after it, None if no such item begins at the token, or
-/// the refusal.
+/// The result of parsing an optional item: the item and the index of the token after it, or a
+/// refusal with the reason. The result is None if no such item begins at the token.
 pub type ItemResult<T> = Result<Option<(T, usize)>, ParseRefusal>;
 
 /// The parser: the tokens to parse, and the allocator for the trees.
@@ -53,7 +54,8 @@ pub struct Parser<'t> {
 }
 
 impl<'t> Parser<'t> {
-    /// Returns the kind of the token at an index, or None at the end of the text.
+    /// Returns the kind of the token with the index `at`, or None if `at` is the end of the text
+    /// (the number of tokens).
     pub fn kind(&self, at: usize) -> Option<TokenKind>
         requires { at ≤ length self.now.tokens.now }
         ensures here { rest self.now.tokens.now at
@@ -68,7 +70,7 @@ impl<'t> Parser<'t> {
         }
     }
 
-    /// Returns true if the token at `at` is this reserved word.
+    /// Returns whether the token at `at` is this reserved word.
     pub(crate) fn has_word_at(&self, at: usize, word: ReservedWord) -> bool
         requires { at ≤ length self.now.tokens.now }
         ensures { TellsIfTokenAt (kind.ReservedWord word) self.now.tokens.now at result }
@@ -76,7 +78,7 @@ impl<'t> Parser<'t> {
         self.kind(at) == Some(TokenKind::ReservedWord(word))
     }
 
-    /// Returns true if the token at `at` is this symbol.
+    /// Returns whether the token at `at` is this symbol.
     pub(crate) fn has_symbol_at(&self, at: usize, symbol: Symbol) -> bool
         requires { at ≤ length self.now.tokens.now }
         ensures { TellsIfTokenAt (kind.Symbol symbol) self.now.tokens.now at result }
@@ -84,8 +86,8 @@ impl<'t> Parser<'t> {
         self.kind(at) == Some(TokenKind::Symbol(symbol))
     }
 
-    /// Returns the index after this reserved word. If another token is at `at`, returns a syntax
-    /// error.
+    /// Returns `at + 1` if the token at `at` is this reserved word. Otherwise returns a syntax
+    /// error: this word is expected at `at`.
     pub fn expect_word(&self, at: usize, word: ReservedWord) -> Result<usize, ParseRefusal>
         requires { at ≤ length self.now.tokens.now }
         ensures { ReadsToken (kind.ReservedWord word) self.now.tokens.now at result }
@@ -97,7 +99,8 @@ impl<'t> Parser<'t> {
         }
     }
 
-    /// Returns the index after this symbol. If another token is at `at`, returns a syntax error.
+    /// Returns `at + 1` if the token at `at` is this symbol. Otherwise returns a syntax error: this
+    /// symbol is expected at `at`.
     pub fn expect_symbol(&self, at: usize, symbol: Symbol) -> Result<usize, ParseRefusal>
         requires { at ≤ length self.now.tokens.now }
         ensures { ReadsToken (kind.Symbol symbol) self.now.tokens.now at result }
@@ -109,8 +112,8 @@ impl<'t> Parser<'t> {
         }
     }
 
-    /// Returns the index of the identifier at `at` and the index after it. If another token is at
-    /// `at`, returns a syntax error.
+    /// Returns `at` and `at + 1` if the token at `at` is an identifier. Otherwise returns a syntax
+    /// error: an identifier is expected at `at`.
     pub fn expect_identifier(&self, at: usize) -> ConstructResult<usize>
         requires { at ≤ length self.now.tokens.now }
         ensures { ReadsName self.now.tokens.now at result }
@@ -122,7 +125,7 @@ impl<'t> Parser<'t> {
         }
     }
 
-    /// Returns true if the token at `at` is an identifier.
+    /// Returns whether the token at `at` is an identifier.
     pub(crate) fn has_name_at(&self, at: usize) -> bool
         requires { at ≤ length self.now.tokens.now }
         ensures { TellsIfNameAt self.now.tokens.now at result }
@@ -158,8 +161,8 @@ impl<'t> Parser<'t> {
         Ok((Names { first, more }, next))
     }
 
-    /// Parses an expression, `simple [relation simple]`. If it is a single token, its tree is made
-    /// directly.
+    /// Parses an expression, `simple [relation simple]`. If the expression is a single token, its
+    /// tree is made directly.
     #[cycle(expressions)]
     #[inline(always)]
     pub(crate) fn parse_expression(&self, at: usize, room: u32) -> ConstructResult<Expression>
@@ -172,7 +175,7 @@ impl<'t> Parser<'t> {
         Ok((Expression::Factor(factor), at + 1))
     }
 
-    /// Parses an expression, `simple [relation simple]`, by its parts.
+    /// Parses an expression, `simple [relation simple]`, by parsing its parts.
     #[cycle(expressions)]
     #[inline(never)]
     fn parse_expression_parts(&self, at: usize, room: u32) -> ConstructResult<Expression>
@@ -190,8 +193,8 @@ impl<'t> Parser<'t> {
         Ok((Expression::CompoundExpression(compound), end))
     }
 
-    /// Returns the expression that consists only of this simple expression, without a relation. If
-    /// it is a single factor, the factor isn't boxed.
+    /// Returns the expression that consists only of the simple expression `side`, without a
+    /// relation. If `side` is a single factor, that factor isn't boxed.
     #[inline(always)]
     fn expression_without_relation(&self, side: SimpleExpression) -> Result<Expression, AllocError>
         ensures { IfOk result (λ e. expression_of e ≡ compares (simple_of side) none) }
@@ -225,9 +228,9 @@ impl<'t> Parser<'t> {
         Ok(Some((Comparison { relation, right }, next)))
     }
 
-    /// Returns the factor that consists of the token at `at`. Returns None if that token is neither
-    /// an identifier nor an integer. Also returns None if the token after it binds it with the
-    /// strength `level` or more strongly (a number of at most `level`).
+    /// Returns the factor that consists only of the token at `at`. Returns None if that token is
+    /// neither an identifier nor an integer. Also returns None if the next token's binding strength
+    /// is at most `level`, because the next token may then continue the construct.
     #[inline(always)]
     fn single_token_factor(&self, at: usize, level: u8) -> Option<Factor>
         requires within { at ≤ length self.now.tokens.now }
@@ -256,7 +259,7 @@ impl<'t> Parser<'t> {
         }
     }
 
-    /// Parses a simple expression. If it is a single token, its tree is made directly.
+    /// Parses a simple expression. If the expression is a single token, its tree is made directly.
     #[cycle(expressions)]
     #[inline(always)]
     fn parse_simple_fast(&self, at: usize, room: u32) -> ConstructResult<SimpleExpression>
@@ -282,7 +285,7 @@ impl<'t> Parser<'t> {
         ))
     }
 
-    /// Parses a term. If it is a single token, its tree is made directly.
+    /// Parses a term. If the term is a single token, its tree is made directly.
     #[cycle(expressions)]
     #[inline(always)]
     fn parse_term_fast(&self, at: usize, room: u32) -> ConstructResult<Term>
@@ -296,7 +299,7 @@ impl<'t> Parser<'t> {
         Ok((Term { first, more }, at + 1))
     }
 
-    /// Parses a factor. If it is a single token, its tree is made directly.
+    /// Parses a factor. If the factor is a single token, its tree is made directly.
     #[cycle(expressions)]
     #[inline(always)]
     fn parse_factor_fast(&self, at: usize, room: u32) -> ConstructResult<Factor>
@@ -326,8 +329,8 @@ impl<'t> Parser<'t> {
         Ok((SimpleExpression { sign, first, more }, next))
     }
 
-    /// Returns the sign at the index `at` and the index after it. If there is no sign, returns None
-    /// and `at`.
+    /// Returns the sign at the token `at` and the index of the token after the sign. If there is no
+    /// sign, returns None and `at`.
     fn parse_sign(&self, at: usize) -> (Option<Sign>, usize)
         requires { at ≤ length self.now.tokens.now }
         ensures { IsSignAt self.now.tokens.now at result.0 result.1 }
@@ -439,7 +442,7 @@ impl<'t> Parser<'t> {
         Ok((Factor::Not(boxed), next))
     }
 
-    /// Parses a name and its selectors, `ident {"." ident | "[" expression "]"}`.
+    /// Parses a designator (a name and its selectors), `ident {"." ident | "[" expression "]"}`.
     #[cycle(expressions)]
     pub(crate) fn parse_designator(&self, at: usize, room: u32) -> ConstructResult<Designator>
         requires { at ≤ length self.now.tokens.now }
@@ -476,7 +479,7 @@ impl<'t> Parser<'t> {
 }
 
 /// Returns the strength with which the token `next` binds the operand before it. A smaller number
-/// binds more strongly.
+/// binds more strongly. At the end of the text (None) the strength is `WEAKEST_STRENGTH`.
 #[inline(always)]
 fn binding_strength(next: Option<TokenKind>) -> u8
     ensures { result ≡ binding_strength next }
@@ -516,7 +519,8 @@ fn relation_of(kind: TokenKind) -> Option<Relation>
     }
 }
 
-/// Returns the operator if a token of this kind is `+`, `-` or OR, otherwise None.
+/// Returns the operator that a token of this kind spells if the token is `+`, `-` or OR, otherwise
+/// None.
 fn add_operator_of(kind: TokenKind) -> Option<AddOperator>
     ensures { IsOperatorOf add_operator_token ADDITION_STRENGTH kind result }
 {
@@ -528,7 +532,8 @@ fn add_operator_of(kind: TokenKind) -> Option<AddOperator>
     }
 }
 
-/// Returns the operator if a token of this kind is `*`, DIV, MOD or `&`, otherwise None.
+/// Returns the operator that a token of this kind spells if the token is `*`, DIV, MOD or `&`,
+/// otherwise None.
 fn multiply_operator_of(kind: TokenKind) -> Option<MultiplyOperator>
     ensures { IsOperatorOf multiply_operator_token MULTIPLICATION_STRENGTH kind result }
 {
@@ -541,15 +546,15 @@ fn multiply_operator_of(kind: TokenKind) -> Option<MultiplyOperator>
     }
 }
 
-/// Returns a syntax error: `expected` is expected at the token with this index.
+/// Returns a syntax error: `expected` is expected at the token with the index `token`.
 pub fn syntax_error<T>(token: usize, expected: Expected) -> Result<T, ParseRefusal>
     ensures { result ≡ Err (Syntax token expected) }
 {
     Err(ParseRefusal::Syntax { token, expected })
 }
 
-/// Returns the number of nesting levels left inside the construct that the token at `at` opens. If
-/// no level is left for that construct, returns `TooDeep`.
+/// Returns `room` minus 1: the number of nesting levels left inside the construct that the token at
+/// `at` opens. If `room` is 0, returns `TooDeep`.
 pub(crate) fn levels_inside(at: usize, room: u32) -> Result<u32, ParseRefusal>
     ensures { OpensLevel at room result }
 {

@@ -1,4 +1,4 @@
-//! Defines the reasons why a text isn't a module by the grammar.
+//! Defines the reasons why the parser refuses a text.
 
 ghost use Rattle.std.specs.Prelude.{◌≡◌};
 ghost use Rattle.ob0_parse_descent.specs.declared.refusal.ParseRefusal.TheVariants.{Memory};
@@ -7,7 +7,7 @@ use ob0_scan::{ReservedWord, Symbol};
 use std::alloc::{AllocError, AllocFailed};
 use thiserror::Error;
 
-/// The token or construct that is expected at a syntax error.
+/// The token or construct that a syntax error reports as expected.
 #[derive(Clone, Copy, PartialEq, Eq, Debug)]
 pub enum Expected {
     Type,
@@ -36,8 +36,9 @@ impl Expected {
     }
 }
 
-/// The reason why a text wasn't parsed, with the index of the token at which parsing stopped. The
-/// end of the text counts as the token after the last one.
+/// The reason why a text wasn't parsed: a syntax error, too deep nesting or a failed allocation.
+/// `token` is the index of the token at which parsing stopped. The end of the text counts as the
+/// token after the last one.
 #[derive(Debug, Drop, Error)]
 pub enum ParseRefusal {
     #[error("token {token}: expected {}", .expected.text())]

@@ -36,8 +36,8 @@ impl<'t> Parser<'t> {
         Ok((Statement::Empty, at))
     }
 
-    /// Parses an assignment or a call, which begins with an identifier. If selectors follow that
-    /// identifier, `:=` is required.
+    /// Parses an assignment or a call. Both begin with an identifier. If selectors follow that
+    /// identifier, `:=` must follow the selectors.
     fn parse_assignment_or_call(&self, at: usize, room: u32) -> ConstructResult<Statement>
         requires { TellsIfNameAt self.now.tokens.now at true }
         ensures { Reads statement_of room self.now.tokens.now at result }
@@ -244,7 +244,8 @@ impl<'t> Parser<'t> {
     }
 }
 
-/// Returns true if an expression may begin with this token.
+/// Returns whether an expression may begin with a token of this kind. At the end of the text (None)
+/// the result is false.
 fn opens_expression(first: Option<TokenKind>) -> bool
     ensures { result ≡ opens_expression first }
 {

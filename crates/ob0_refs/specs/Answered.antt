@@ -1,4 +1,5 @@
--- Defines the answer to a question about a name: its span, and the thing that it refers to.
+-- Defines the answer to a question about a name: the name's span, and the thing that the name
+-- refers to.
 -- Rule: docs/PROTOCOL.md, Requests on documents 3, 4.
 use Rattle.std.specs.Prelude.{ℕ, nat_lt, if◌then◌else◌}
 use Rattle.ob0_tree.specs.ParsedModule.{ParsedModule}
@@ -9,11 +10,12 @@ use Rattle.ob0_refs.specs.declared.answers.At as answer
 use Rattle.ob0_refs.specs.declared.answers.Of as of
 use Rattle.ob0_refs.specs.declared.answers.Of.TheVariants as answer_of
 
--- returns Predeclared for the ordinals 0 to 6, and the declaration of the text with this ordinal
--- for all others
+-- Returns Predeclared for the ordinals 0 to 6. For any other ordinal, returns the declaration of
+-- the text that has this ordinal.
 abbrev pub referent_of_ordinal : ℕ → of.Of
 referent_of_ordinal ordinal = if nat_lt ordinal predeclared_count then answer_of.Predeclared else answer_of.Declared ordinal
 
--- returns the answer about a name: its span, and the declaration that it refers to, or Predeclared
+-- returns the answer about a name: the name's span, and the declaration that it refers to, or
+-- Predeclared
 abbrev pub name_answer : ParsedModule → named.Named → answer.At
 name_answer m n = record { span = span_at m.source n.token; of = referent_of_ordinal n.ordinal }

@@ -9,25 +9,26 @@ use Rattle.ob0_language_names.specs.Occurrences.{NameConflict, at_declaration, a
 use Rattle.ob0_scope_table.specs.Resolution.{span_at}
 use Rattle.ob0_refs.specs.Places.{declaring_span}
 
--- returns the span of the occurrence (a name that is looked up) with this number, counted from 0 in
--- text order; None if there is no such occurrence
+-- Returns the span of the looked-up name with this number, counted from 0 in text order. Returns
+-- None if there is no such name.
 abbrev pub occurrence_span : ParsedModule → ℕ → Option Span
 occurrence_span m k = option_map (span_at m.source) (slice_get (occurrences (tree_of m)) k)
 
--- returns a span, or an empty span at the text's start if there is none
+-- returns the span, or an empty span at the text's start if there is none
 abbrev pub span_or_text_start : Option Span → Span
 span_or_text_start None = record { start = 0; end = 0 }
 span_or_text_start (Some span) = span
 
--- returns the span of the identifier at which a new name for the declaration `d` has this conflict:
--- the identifier that declares `d`, or the occurrence with the number `k`
+-- Returns the span of the identifier at which a new name for the declaration with the ordinal `d`
+-- has this conflict. This is the identifier that declares `d`, or the looked-up name with the
+-- number `k`. If the identifier isn't found, returns an empty span at the text's start.
 abbrev pub conflict_span : ParsedModule → ℕ → NameConflict → Span
 conflict_span m d at_declaration = span_or_text_start (declaring_span m d)
 conflict_span m d (at_occurrence k) = span_or_text_start (occurrence_span m k)
 
--- Returns the span of the first conflict of the new name `new` for the declaration `d`, or None if
--- the name is free. If another declaration of the block has the name, returns the span of the
--- identifier that declares `d`. Otherwise returns the span of the first occurrence that would be
--- bound to another declaration.
+-- Returns the span of the first conflict of the new name `new` for the declaration with the ordinal
+-- `d`. Returns None if the name is free. If another declaration of the block has the name, returns
+-- the span of the identifier that declares `d`. Otherwise returns the span of the first looked-up
+-- name that would be bound to another declaration.
 abbrev pub first_conflict_span : ParsedModule → ℕ → Name → Option Span
 first_conflict_span m d new = option_map (conflict_span m d) (first_name_conflict (named_tree_of m) d new)

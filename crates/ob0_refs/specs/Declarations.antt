@@ -16,14 +16,14 @@ use Rattle.ob0_language_types.specs.WellTyped.{FormalParameter, Mode, Signature,
 use Rattle.ob0_language_values.specs.Values.{Shape, Value, elements, members, number, truth}
 use Rattle.ob0_language_values.specs.declared.scalar.Scalar.TheVariants as scalar
 
--- returns the hover text of a constant; None if the value is neither a number nor a truth value
+-- returns the hover text of a constant, or None if its value is neither a number nor a truth value
 abbrev pub constant_hover : Name → Value → Option (List ℕ)
 constant_hover name (number n) = Some (constant_text name (scalar.Number n))
 constant_hover name (truth b) = Some (constant_text name (scalar.Truth b))
 constant_hover name (elements vs) = None
 constant_hover name (members k ms) = None
 
--- returns true for a VAR parameter
+-- returns whether a parameter with this mode is a VAR parameter
 abbrev pub is_by_place : Mode → Bool
 is_by_place by_value = false
 is_by_place by_place = true
@@ -33,16 +33,16 @@ abbrev pub hover_parameter : Name → FormalParameter → HoverParameter
 hover_parameter name f =
     record { by_place = is_by_place f.mode; name = name; of = type_text f.shape }
 
--- returns the parameters of a procedure in the form for hover texts, given the procedure's
--- signature and the names declared after the procedure's name; the first of these names belong to
--- the parameters
+-- Returns the parameters of a procedure in the form for hover texts, one by one from the
+-- procedure's signature. The list has the names declared after the procedure's name. The first of
+-- these names are the names of the parameters.
 abbrev pub hover_parameters : List Name → Signature → List HoverParameter
 hover_parameters (x ∷ xs) (f ∷ fs) = hover_parameter x f ∷ hover_parameters xs fs
 hover_parameters [] fs = []
 hover_parameters (x ∷ xs) [] = []
 
--- returns the hover text of a declaration, given its name, the names declared after this name, and
--- its object; None for a constant whose value is neither a number nor a truth value
+-- Returns the hover text of a declaration, given its name, the names declared after this name, and
+-- its object. Returns None for a constant whose value is neither a number nor a truth value.
 abbrev pub object_hover : Name → List Name → Object Shape Signature → Option (List ℕ)
 object_hover name following (a_constant v) = constant_hover name v
 object_hover name following (a_type s) = Some (named_type_text name (type_text s))
@@ -57,8 +57,8 @@ names_declared_after m ordinal =
     map (text_at m.source)
     (drop (ordinal + 1 - predeclared_count) (declaring_names (identifiers role.Declaring (tree_of m))))
 
--- returns the hover text of a name that the text declares, given the name's object; None if it has
--- no object
+-- Returns the hover text of a name that the text declares, given the name's object. Returns None if
+-- there is no object, or if the object is a constant without a hover text.
 abbrev pub declaration_hover : ParsedModule
     → named.Named
     → Option (Object Shape Signature)
@@ -66,8 +66,9 @@ abbrev pub declaration_hover : ParsedModule
 declaration_hover m n object =
     option_and_then (object_hover (text_at m.source n.token) (names_declared_after m n.ordinal)) object
 
--- returns the hover text of a name, given the name's object; names with the ordinals 0 to 6 are
--- predeclared and need no object; None if another name has no object
+-- Returns the hover text of a name, given the name's object. A name with an ordinal from 0 to 6 is
+-- predeclared and needs no object. Returns None if any other name has no object, or if its object
+-- is a constant without a hover text.
 abbrev pub name_hover : ParsedModule → named.Named → Option (Object Shape Signature) → Option (List ℕ)
 name_hover m n object =
     if nat_lt n.ordinal predeclared_count

@@ -10,34 +10,34 @@ use Rattle.ob0_language_names.specs.Parts.{formal_names, formal_sections, module
 use Rattle.ob0_scope_table.specs.Resolution.{declaring_names, declaration_token}
 use Rattle.ob0_refs.specs.Declarations.{names_declared_after}
 
--- Returns the headings of procedures in text order: each procedure's name with the names of its
--- formal parameters.
+-- Returns the headings of procedures in text order. A heading has the token of the procedure's name
+-- and the tokens of its parameters' names.
 abbrev mutual
-  -- returns the headings in a block
+  -- returns the headings of all procedures in a block, at any depth
   pub block_headings : Tree ℕ block → List (ℕ × List ℕ)
   block_headings (has_body (declares cs ts vs ps) statements) = headings ps
 
-  -- returns the headings of procedures, each followed by the headings in the procedure's block
+  -- returns the headings of these procedures, each followed by the headings in the procedure's
+  -- block
   pub headings : Tree ℕ (items procedure) → List (ℕ × List ℕ)
   headings end = []
   headings (more p rest) = procedure_headings p ++ headings rest
 
-  -- returns the heading of a procedure, followed by the headings in the procedure's block
+  -- returns the heading of this procedure, followed by the headings in the procedure's block
   pub procedure_headings : Tree ℕ (item procedure) → List (ℕ × List ℕ)
   procedure_headings (declares_procedure x fs b closing) =
       (x, formal_names (formal_sections fs)) ∷ block_headings b
 
--- Holds for the heading of a procedure if the first names declared after the procedure's name are
--- the names of its parameters. A heading has the token of the procedure's name and the tokens of
--- the parameters' names.
+-- States that the first names declared after a procedure's name are the names of its parameters, in
+-- order. `heading` has the token of the procedure's name and the tokens of the parameters' names.
 pub record HasParametersAfter (m : ParsedModule) (heading : ℕ × List ℕ) : Type 0 where
   pub ordinal : ℕ
   pub declares : declaration_token (declaring_names (identifiers role.Declaring (tree_of m))) ordinal
       ≡ Some heading.0
   pub following : take (length heading.1) (names_declared_after m ordinal) ≡ map (text_at m.source) heading.1
 
--- Holds if the first names declared after each procedure's name are the names of its parameters, in
--- order.
+-- States that the first names declared after each procedure's name are the names of the procedure's
+-- parameters, in order.
 abbrev pub ParametersFollowProcedure : Type 0
 ParametersFollowProcedure =
     (m : ParsedModule) → All (HasParametersAfter m) (block_headings (module_block (tree_of m)))

@@ -1,5 +1,5 @@
--- Defines the hover texts of names: a declaration, or the note that a name is predeclared. Names
--- and types are given by their texts.
+-- Defines the hover texts of names. A text shows a declaration, or says that the name is
+-- predeclared. Names and types are given by their texts.
 -- Rule: docs/PROTOCOL.md, JSON shapes 3.
 use Rattle.std.specs.Prelude.{ℕ, ◌+◌, Bool, true, false, List, [], ◌∷◌, ◌++◌, codes, decimal}
 use Rattle.std.specs.Fmt.{signed_decimal}
@@ -7,7 +7,7 @@ use Rattle.ob0_language_values.specs.Values.{FieldShapes, Shape, array_shape, bo
 use Rattle.ob0_language_values.specs.declared.scalar.Scalar.{Scalar}
 use Rattle.ob0_language_values.specs.declared.scalar.Scalar.TheVariants as scalar
 
--- returns the word TRUE or FALSE
+-- returns the word TRUE or FALSE for a truth value
 abbrev pub truth_text : Bool → List ℕ
 truth_text true = codes "TRUE"
 truth_text false = codes "FALSE"
@@ -22,7 +22,8 @@ abbrev pub field_count : FieldShapes → ℕ
 field_count no_field_shape = 0
 field_count (next_field_shape x s rest) = field_count rest + 1
 
--- returns a type's text; an array is `ARRAY n OF T`, and a record is `RECORD with k fields`
+-- Returns the text of a type. An array is shown as `ARRAY n OF T`, and a record as
+-- `RECORD with k fields`.
 abbrev pub type_text : Shape → List ℕ
 type_text integer_shape = codes "INTEGER"
 type_text boolean_shape = codes "BOOLEAN"
@@ -34,8 +35,8 @@ type_text (record_shape k fs) =
 abbrev pub constant_text : List ℕ → Scalar → List ℕ
 constant_text name value = codes "CONST " ++ (name ++ (codes " = " ++ scalar_text value))
 
--- returns the hover text of a type declaration, given its name and the text of its type: `TYPE t =
--- T`
+-- returns the hover text of a type declaration, given its name and the text of its type:
+-- `TYPE t = T`
 abbrev pub named_type_text : List ℕ → List ℕ → List ℕ
 named_type_text name of = codes "TYPE " ++ (name ++ (codes " = " ++ of))
 
@@ -47,7 +48,7 @@ variable_text name of = codes "VAR " ++ (name ++ (codes ": " ++ of))
 abbrev pub field_text : List ℕ → List ℕ → List ℕ
 field_text name of = codes "FIELD " ++ (name ++ (codes ": " ++ of))
 
--- a parameter: whether it is passed by its place (VAR), its name and the text of its type
+-- a parameter: its name, the text of its type, and whether it is a VAR parameter (`by_place`)
 pub record HoverParameter : Type 0 where
   pub by_place : Bool
   pub name : List ℕ
@@ -62,7 +63,7 @@ var_prefix_text false = []
 abbrev pub parameter_text : HoverParameter → List ℕ
 parameter_text p = var_prefix_text p.by_place ++ (p.name ++ (codes ": " ++ p.of))
 
--- returns the texts of further parameters, each after a `; `
+-- returns the texts of these parameters, with `; ` before each
 abbrev pub further_parameters_text : List HoverParameter → List ℕ
 further_parameters_text [] = []
 further_parameters_text (p ∷ ps) = codes "; " ++ (parameter_text p ++ further_parameters_text ps)

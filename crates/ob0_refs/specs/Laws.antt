@@ -11,13 +11,13 @@ use Rattle.ob0_types.specs.CheckedModules.{IsWellTyped}
 use Rattle.ob0_refs.specs.Questions.{hover_at_place, definition_at, references_at, identified_at}
 use Rattle.ob0_refs.specs.declared.answers.Of.TheVariants as answer_of
 
--- holds if the identifier at this byte offset has this span and refers to a field: the field with
--- this index in the record with the ordinal `k`
+-- states that the identifier at this byte offset has this span and refers to a field: the field
+-- with this index in the record with the ordinal `k`
 abbrev pub IsOnField : Resolution → ℕ → Span → ℕ → ℕ → Type 0
 IsOnField r offset span k index =
     identified_at r offset ≡ Some record { span = span; of = answer_of.Field k index }
 
--- Holds if each field of a valid module has a definition, both at its declaration and at each
+-- States that each field of a valid module has a definition, both at its declaration and at each
 -- selector.
 abbrev pub FieldsHaveDefinitions : Type 0
 FieldsHaveDefinitions =
@@ -26,9 +26,9 @@ FieldsHaveDefinitions =
     → IsOnField r offset span k index
     → is_some (definition_at r offset) ≡ true
 
--- Holds if renaming at this byte offset finds a field of the record `k` there, and no name.
--- Renaming changes exactly the references to the field, including its declaration, and the
--- identifier at the offset is among them.
+-- States that renaming at this byte offset finds a field of the record with the ordinal `k`, and no
+-- name. The renaming changes exactly the references to the field, including its declaration. The
+-- identifier at the offset is one of them.
 pub record IsRenamedAtPlace (r : Resolution) (offset : ℕ) (span : Span) (k : ℕ) : Type 0 where
   pub token : ℕ
   pub no_name : name_on r.module_read offset ≡ None
@@ -38,7 +38,7 @@ pub record IsRenamedAtPlace (r : Resolution) (offset : ℕ) (span : Span) (k : �
       ≡ map (span_at r.module_read.source) (field_tokens r k (text_at r.module_read.source token))
   pub itself : Contains (references_at r offset true) span
 
--- Holds if, at every place that is on a field, renaming finds that field and changes exactly its
+-- States that, at every place that is on a field, renaming finds that field and changes exactly its
 -- references.
 abbrev pub FieldRenamingChangesReferences : Type 0
 FieldRenamingChangesReferences =
@@ -46,7 +46,7 @@ FieldRenamingChangesReferences =
     → IsOnField r offset span k index
     → IsRenamedAtPlace r offset span k
 
--- Holds if each field of a valid module has a hover text, both at its declaration and at each
+-- States that each field of a valid module has a hover text, both at its declaration and at each
 -- selector.
 abbrev pub FieldsHaveHovers : Type 0
 FieldsHaveHovers =

@@ -1,4 +1,4 @@
--- Defines which values of the definitions the code's parameters stand for.
+-- Converts the parameters of the code to parameters of the definitions.
 -- Rule: none; for contracts: what values of the code mean.
 use Rattle.std.specs.Prelude.{string_bytes}
 use Rattle.ob0_refs.specs.Hovers as hovers

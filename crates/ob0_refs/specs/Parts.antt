@@ -1,4 +1,4 @@
--- Defines which values of the definitions the code's answers stand for.
+-- Converts the answers of the code to answers of the definitions.
 -- Rule: none; for contracts: what values of the code mean.
 use Rattle.std.specs.Prelude.{string_bytes}
 use Rattle.ob0_scan.specs.declared.lexeme.Span.{Span}

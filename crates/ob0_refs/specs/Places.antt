@@ -8,14 +8,14 @@ use Rattle.ob0_tree.specs.declared.tree.Role.TheVariants as role
 use Rattle.ob0_scope_table.specs.Resolution.{declaring_names, span_at, declaration_token}
 use Rattle.ob0_scope.specs.NamesAtPlaces.{tokens_bound_to}
 
--- returns the span of the identifier that declares the name with this ordinal; None for a
--- predeclared name
+-- Returns the span of the identifier that declares the name with this ordinal. Returns None for a
+-- predeclared name, and if no declaration has this ordinal.
 abbrev pub declaring_span : ParsedModule → ℕ → Option Span
 declaring_span m ordinal =
     option_map (span_at m.source)
     (declaration_token (declaring_names (identifiers role.Declaring (tree_of m))) ordinal)
 
--- returns the spans of the references to the declaration `d`, with the declaring identifier if
--- `include` is true
+-- Returns the spans of the references to the declaration with the ordinal `d`. The declaring
+-- identifier is among them if `include` is true.
 abbrev pub references_to : ParsedModule → ℕ → Bool → List Span
 references_to m d include = map (span_at m.source) (tokens_bound_to m d include)

@@ -1,4 +1,4 @@
--- Defines the hover text of a name together with the span of the name.
+-- Defines the hover text of a name, together with the name's span.
 -- Rule: docs/PROTOCOL.md, Requests on documents 4, JSON shapes 3.
 use Rattle.std.specs.Prelude.{ℕ, List, Option, option_map}
 use Rattle.ob0_scan.specs.declared.lexeme.Span.{Span}
@@ -8,12 +8,12 @@ use Rattle.ob0_scope.specs.declared.naming.Named as named
 use Rattle.ob0_language_types.specs.Bindings.{declared_object}
 use Rattle.ob0_refs.specs.Declarations.{name_hover}
 
--- a hover text, and the span of the identifier
+-- the hover text of an identifier, and the identifier's span in bytes
 pub record HoverText : Type 0 where
   pub span : Span
   pub text : List ℕ
 
--- returns the hover text of a name with its span; None if the name has no declaration
+-- returns the hover text of a name with the name's span, or None if the name has no hover text
 abbrev pub hover_of_name : ParsedModule → named.Named → Option HoverText
 hover_of_name m n =
     option_map (λ text. record { span = span_at m.source n.token; text = text })

@@ -2,14 +2,16 @@
 
 use ob0_scan::Span;
 
-/// The thing that an identifier refers to: a declaration or a field.
+/// The thing that an identifier refers to: a declaration of the text, a predeclared name, or a
+/// field.
 #[derive(Clone, Copy, PartialEq, Eq)]
 pub enum Of {
     /// The ordinal of a declaration of the text.
     Declared(usize),
     Predeclared,
-    /// A field, given by its record's ordinal and its index among the record's fields. A record's
-    /// ordinal is the number of the words ARRAY and RECORD before its own in the text.
+    /// A field, given by its record's ordinal and its index among the record's fields, counted from
+    /// 0. A record's ordinal is the number of the words ARRAY and RECORD in the text before the
+    /// record's own word RECORD.
     Field { ordinal: usize, index: usize },
 }
 
@@ -28,8 +30,8 @@ pub struct Hover {
     pub text: String,
 }
 
-/// A conflict of a new name for a declaration: the span, in bytes, of the identifier at which the
-/// new name isn't free.
+/// A conflict of a new name for a declaration. The span, in bytes, is the span of the identifier at
+/// which the new name isn't free.
 #[derive(Clone, Copy, PartialEq, Eq)]
 pub struct NameConflict {
     pub span: Span,

@@ -9,9 +9,10 @@ use ob0_scan::Span;
 use ob0_scope::FirstConflict;
 use ob0_scope_table::{Resolved, token_span};
 
-/// Returns the span of a conflict of a new name for `declaration`. This is the span of the
-/// identifier that declares `declaration`, or of the occurrence that would be bound to another
-/// declaration. If this identifier isn't found, the span is empty and at the text's start.
+/// Returns the span of a conflict of a new name for the declaration with the ordinal `declaration`.
+/// If another declaration of the block has the name, this is the span of the identifier that
+/// declares `declaration`. Otherwise it is the span of the looked-up name that would be bound to
+/// another declaration. If the identifier isn't found, the span is empty and at the text's start.
 pub(crate) fn conflict_span(names: &Resolved, declaration: usize, capture: FirstConflict) -> Span
     ensures { result ≡ conflict_span names.now.module_read declaration (conflict_of capture) }
 {
@@ -21,7 +22,7 @@ pub(crate) fn conflict_span(names: &Resolved, declaration: usize, capture: First
     }
 }
 
-/// Returns the span, or for None an empty span at the text's start.
+/// Returns the span, or an empty span at the text's start if there is none.
 fn span_or_text_start(span: Option<Span>) -> Span
     ensures { result ≡ span_or_text_start span }
 {
@@ -31,7 +32,8 @@ fn span_or_text_start(span: Option<Span>) -> Span
     }
 }
 
-/// Returns the span of the occurrence with this number, counted from 0, or None if there is none.
+/// Returns the span of the looked-up name with this number, counted from 0 in text order. Returns
+/// None if there is no such name.
 fn occurrence_span(names: &Resolved, k: usize) -> Option<Span>
     ensures { result ≡ occurrence_span names.now.module_read k }
 {

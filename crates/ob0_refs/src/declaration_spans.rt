@@ -10,7 +10,7 @@ use ob0_scope_table::{Resolved, token_span};
 use std::alloc::{AllocError, Global};
 
 /// Returns the span of the identifier that declares the name with this ordinal. Returns None for a
-/// predeclared name.
+/// predeclared name, and if no declaration has this ordinal.
 pub(crate) fn declaration_span(names: &Resolved, ordinal: usize) -> Option<Span>
     ensures { result ≡ declaring_span names.now.module_read ordinal }
 {
@@ -21,8 +21,9 @@ pub(crate) fn declaration_span(names: &Resolved, ordinal: usize) -> Option<Span>
     }
 }
 
-/// Returns the spans of all references to a declaration, including closing names, in text order.
-/// The declaring identifier is among them if `include` is true.
+/// Returns the spans of all references to the declaration with this ordinal, in text order. A
+/// procedure's closing name is also a reference. The declaring identifier is among them if
+/// `include` is true.
 pub(crate) fn references_to(
     alloc: Global,
     names: &Resolved,
@@ -36,7 +37,7 @@ pub(crate) fn references_to(
     spans_of(alloc, names.tokens(), &found)
 }
 
-/// Returns the spans of these tokens, in the same order.
+/// Returns the spans of the tokens with the indexes `found`, in the same order.
 pub(crate) fn spans_of(
     alloc: Global,
     tokens: &Tokens,

@@ -1,8 +1,8 @@
 //! Makes the hover texts of names, according to their declarations.
 //!
-//! The signature of a procedure has no names of parameters. These are the first names declared
-//! after the procedure's name in the text, as many as the signature has parameters. Predeclared
-//! names are recognized by their ordinals (0 to 6).
+//! A procedure's signature doesn't have the names of the parameters. These names are the first
+//! names that the text declares after the procedure's name, as many as the signature has
+//! parameters. Predeclared names are recognized by their ordinals (0 to 6).
 
 ghost use Rattle.std.specs.Prelude.{◌≡◌, ◌+◌, ◌-◌, [], IfOk, Some, drop, map, option_map, string_bytes};
 ghost use Rattle.ob0_tree.specs.ParsedModule.{tree_of};
@@ -29,7 +29,8 @@ use ob0_tree::text_at;
 use ob0_types_table::{DeclarationTable, FormalParameter, Object, TypeId};
 use std::alloc::{AllocError, Global};
 
-/// Returns the hover text of a name, or None if the name has no declaration.
+/// Returns the hover text of a name. Returns None if the name has no declaration or is a constant
+/// with a fault.
 pub(crate) fn name_text(
     alloc: Global,
     known: &DeclarationTable,
@@ -49,8 +50,8 @@ pub(crate) fn name_text(
     }
 }
 
-/// Returns the hover text of a declaration with this name and object. Returns None for a constant
-/// with a fault.
+/// Returns the hover text of a declaration with this name. `object` is the constant, type, variable
+/// or procedure that it declares. Returns None for a constant with a fault.
 fn object_text(
     alloc: Global,
     known: &DeclarationTable,
@@ -118,8 +119,8 @@ pub(crate) fn field_hover_text(
     format!(in alloc; "FIELD {name}: {of}")
 }
 
-/// Returns the hover text of a procedure: its name and its parameters. The parameters' names are
-/// the first names that the text declares after the procedure's name.
+/// Returns the hover text of a procedure: its name and its parameters. The names of the parameters
+/// are the first names that the text declares after the procedure's name.
 fn procedure_hover_text(
     alloc: Global,
     known: &DeclarationTable,
@@ -141,7 +142,7 @@ fn procedure_hover_text(
     )
 }
 
-/// Returns the token indexes of the identifiers that are declared after the declaration with this
+/// Returns the token indexes of the declaring identifiers that come after the declaration with this
 /// ordinal, in text order.
 fn declarations_after<'r>(names: &'r Resolved<'_>, ordinal: usize) -> &'r [usize]
     ensures { result.now
@@ -159,8 +160,8 @@ fn declarations_after<'r>(names: &'r Resolved<'_>, ordinal: usize) -> &'r [usize
     }
 }
 
-/// Returns the parameters of a procedure with their names, for its hover text. `following` has the
-/// token indexes of the identifiers that are declared after the procedure's name.
+/// Returns the parameters of a procedure for its hover text, each with its name and the text of its
+/// type. `following` has the token indexes of the declaring identifiers after the procedure's name.
 fn parameters_of<'s>(
     alloc: Global,
     known: &DeclarationTable,
@@ -179,7 +180,7 @@ fn parameters_of<'s>(
     Ok(found)
 }
 
-/// Returns a parameter with this name for hover texts, with the text of its type.
+/// Returns a parameter for a hover text, with this name and the text of its type.
 fn parameter_of<'s>(
     alloc: Global,
     known: &DeclarationTable,

@@ -1,4 +1,4 @@
-//! States a law about hover texts. The function does nothing; its contract is the law.
+//! States a law about hover texts. The function does nothing, and its contract is the law.
 
 ghost use Rattle.ob0_refs.specs.HoverLaws.{ParametersFollowProcedure};
 

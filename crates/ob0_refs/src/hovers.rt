@@ -8,7 +8,8 @@ ghost use Rattle.ob0_refs.specs.Parameters.{parameter_view};
 use ob0_language_values::Scalar;
 use std::alloc::{AllocError, Global};
 
-/// A formal parameter, with its name and the text of its type.
+/// A formal parameter: its name, the text of its type, and whether it is a VAR parameter
+/// (`by_place`).
 #[derive(Drop)]
 pub(crate) struct Parameter<'a> {
     pub(crate) by_place: bool,
@@ -16,7 +17,7 @@ pub(crate) struct Parameter<'a> {
     pub(crate) of: String,
 }
 
-/// Returns the text of an array type, given the text of its element.
+/// Returns the text of an array type, given the array's length and the text of its element type.
 pub(crate) fn array_text(alloc: Global, length: usize, element: &str) -> Result<String, AllocError>
     ensures { IfOk result (λ text. (k : ℕ) (s : Shape)
         → element.now ≡ type_text s
@@ -34,7 +35,7 @@ pub(crate) fn record_text(alloc: Global, fields: usize) -> Result<String, AllocE
     format!(in alloc; "RECORD with {fields} fields")
 }
 
-/// Returns the hover text of a constant.
+/// Returns the hover text of a constant, given its name and its value.
 pub(crate) fn constant_text(alloc: Global, name: &str, value: Scalar) -> Result<String, AllocError>
     ensures { IfOk result (λ text. string_bytes text ≡ constant_text name.now value) }
 {
@@ -47,7 +48,7 @@ pub(crate) fn constant_text(alloc: Global, name: &str, value: Scalar) -> Result<
     }
 }
 
-/// Returns the word TRUE or FALSE.
+/// Returns the word TRUE or FALSE for a truth value.
 fn truth_word(b: bool) -> &'static str
     ensures { result.now ≡ truth_text b }
 {
@@ -75,7 +76,7 @@ pub(crate) fn predeclared_text(alloc: Global, name: &str) -> Result<String, Allo
     format!(in alloc; "predeclared {name}")
 }
 
-/// Returns the hover text of a procedure.
+/// Returns the hover text of a procedure, given its name and its parameters.
 pub(crate) fn procedure_text(
     alloc: Global,
     name: &str,

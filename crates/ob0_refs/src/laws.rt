@@ -1,4 +1,4 @@
-//! States laws about fields. Each function does nothing; its contract is the law.
+//! States laws about fields. Each function does nothing, and its contract is the law.
 
 ghost use Rattle.ob0_refs.specs.Laws.{FieldsHaveDefinitions, FieldRenamingChangesReferences, FieldsHaveHovers};
 

@@ -1,4 +1,4 @@
-//! Answers a question about a name with its span and the thing it refers to.
+//! Answers a question about a name with the name's span and the thing that the name refers to.
 
 ghost use Rattle.std.specs.Prelude.{◌≡◌};
 ghost use Rattle.ob0_refs.specs.Answered.{name_answer, referent_of_ordinal};
@@ -7,7 +7,7 @@ use crate::answers::{At, Of};
 use ob0_scope::Named;
 use ob0_scope_table::{PREDECLARED_COUNT, Resolved, token_span};
 
-/// Returns the span of a name, in bytes, and the thing it refers to.
+/// Returns the span of a name, in bytes, and the thing that the name refers to.
 pub(crate) fn name_answer(names: &Resolved, name: Named) -> At
     ensures { result ≡ name_answer names.now.module_read name }
 {
@@ -17,7 +17,8 @@ pub(crate) fn name_answer(names: &Resolved, name: Named) -> At
     }
 }
 
-/// Returns Predeclared for the ordinals 0 to 6, and the declaration of the text for all others.
+/// Returns Predeclared for the ordinals 0 to 6. For any other ordinal, returns the declaration of
+/// the text that has this ordinal.
 fn referent_of_ordinal(ordinal: usize) -> Of
     ensures { result ≡ referent_of_ordinal ordinal }
 {

@@ -1,4 +1,5 @@
-//! Makes the hover text at a place. It shows the name or field that the identifier there refers to.
+//! Makes the hover text at a place. The text shows the name or field that the identifier at the
+//! place refers to.
 
 ghost use Rattle.std.specs.Prelude.{◌≡◌, IfOk, option_map};
 ghost use Rattle.ob0_refs.specs.Parts.{hover_view};
@@ -34,8 +35,8 @@ pub fn hover(
     }
 }
 
-/// Returns the hover text of an identifier with this meaning. Returns None if its declaration isn't
-/// found.
+/// Returns the hover text of an identifier with this meaning. Returns None if the declaration or
+/// field that it refers to isn't found.
 fn hover_of_identified(
     alloc: Global,
     well_typed: &WellTyped<'_>,
@@ -59,7 +60,8 @@ fn hover_of_identified(
     }
 }
 
-/// Returns the hover text of a name with its span. Returns None if the name has no declaration.
+/// Returns the hover text of a name, with the name's span. Returns None if the name has no
+/// declaration.
 fn hover_of_name(
     alloc: Global,
     well_typed: &WellTyped<'_>,
@@ -75,7 +77,7 @@ fn hover_of_name(
     }
 }
 
-/// Returns the hover text of a field identifier, with the identifier's span. Returns None if its
+/// Returns the hover text of a field identifier, with the identifier's span. Returns None if the
 /// field isn't found.
 fn field_hover(
     alloc: Global,

@@ -1,9 +1,9 @@
 //! Answers questions about the name or the field at a place.
 //!
-//! Each public function finds the meaning of the identifier at the place (`identifier_meaning_at`
-//! of `ob0_types`). It has one case for a name and one for a field. The hover text does the same
-//! (`place_hovers`). Renaming also uses this meaning, so it renames the name or field that these
-//! answers are about.
+//! Each public function first finds the meaning of the identifier at the place
+//! (`identifier_meaning_at` of `ob0_types`). Then it has one case for a name and one for a field.
+//! The hover text is made in the same way (`place_hovers`). Renaming also uses this meaning, so it
+//! renames the name or field that these answers are about.
 //!
 //! The references to a field are the identifiers that its renaming changes. References to a name
 //! take one pass over the table of ordinals, starting at the declaring token. References to a field
@@ -27,8 +27,8 @@ use ob0_types_fields::FieldName;
 use std::alloc::{AllocError, Global};
 
 /// Returns the name or field that the identifier at a byte offset refers to, with the identifier's
-/// span. The identifier contains the offset or ends there. A field's identifier may declare or
-/// select it, and a closing name refers to its procedure. Returns None if there is no such
+/// span. The identifier contains the offset or ends there. A field is found at its declaration and
+/// at each selector. A closing name refers to its procedure. Returns None if there is no such
 /// identifier, or if it is the module's name.
 pub fn at(well_typed: &WellTyped<'_>, offset: usize) -> Option<At>
     ensures { result ≡ identified_at well_typed.now offset }
@@ -67,8 +67,8 @@ fn field_answer(well_typed: &WellTyped<'_>, field: FieldName) -> At
     }
 }
 
-/// Returns the index, among the fields of its record, of the field that an identifier refers to.
-/// Returns 0 if the field isn't found.
+/// Returns the index of the field that an identifier refers to, counted from 0 among the fields of
+/// its record. Returns 0 if the field isn't found.
 fn field_index(well_typed: &WellTyped<'_>, field: FieldName) -> usize
     ensures { result ≡ field_index well_typed.now.module_read field }
 {
@@ -80,8 +80,8 @@ fn field_index(well_typed: &WellTyped<'_>, field: FieldName) -> usize
     }
 }
 
-/// Returns the span of the identifier at a place if it can be renamed: a field, or a name that
-/// isn't predeclared. Otherwise returns None.
+/// Returns the span of the identifier at a byte offset if the identifier can be renamed: a field,
+/// or a name that isn't predeclared. Otherwise returns None.
 pub fn renamable_span(well_typed: &WellTyped<'_>, offset: usize) -> Option<Span>
     ensures { result ≡ renamable_span_at well_typed.now offset }
 {
@@ -91,7 +91,7 @@ pub fn renamable_span(well_typed: &WellTyped<'_>, offset: usize) -> Option<Span>
     }
 }
 
-/// Returns the span of an identifier, or None if its name is predeclared.
+/// Returns the span of an identifier. Returns None if the identifier is a predeclared name.
 fn renamable_span_of_identified(
     well_typed: &WellTyped<'_>,
     found: ResolvedIdentifier,
@@ -111,9 +111,8 @@ fn renamable_span_of_identified(
     }
 }
 
-/// Returns the span of the identifier that declares the name or field at a place. A field is
-/// declared in its RECORD. Returns None if the place is on no name or field, or on a predeclared
-/// name.
+/// Returns the span of the identifier that declares the name or field at a byte offset. A field is
+/// declared in its RECORD. Returns None if there is neither, or if the name is predeclared.
 pub fn definition(well_typed: &WellTyped<'_>, offset: usize) -> Option<Span>
     ensures { result ≡ definition_at well_typed.now offset }
 {
@@ -124,7 +123,7 @@ pub fn definition(well_typed: &WellTyped<'_>, offset: usize) -> Option<Span>
 }
 
 /// Returns the span of the identifier that declares the name or field that an identifier refers to.
-/// Returns None for a predeclared name.
+/// Returns None for a predeclared name, and for a field that isn't found.
 fn definition_of_identified(well_typed: &WellTyped<'_>, found: ResolvedIdentifier) -> Option<Span>
     ensures { result ≡ definition_of_identified well_typed.now.module_read found.token found.means }
 {
@@ -135,8 +134,8 @@ fn definition_of_identified(well_typed: &WellTyped<'_>, found: ResolvedIdentifie
     }
 }
 
-/// Returns the span of the identifier that declares the field that `field` refers to, or None if it
-/// isn't found.
+/// Returns the span of the identifier that declares the field that `field` refers to. Returns None
+/// if the field isn't found.
 fn field_definition(well_typed: &WellTyped<'_>, field: FieldName) -> Option<Span>
     ensures { result ≡ field_definition well_typed.now.module_read field }
 {
@@ -148,9 +147,8 @@ fn field_definition(well_typed: &WellTyped<'_>, field: FieldName) -> Option<Span
     }
 }
 
-/// Returns the spans of all references to the name or field at a place, in text order. The
-/// declaring identifier is among them if `include` is true. The list is empty if the place is on no
-/// name or field.
+/// Returns the spans of all references to the name or field at a byte offset, in text order. The
+/// declaring identifier is among them if `include` is true. If there is neither, the list is empty.
 pub fn references(
     alloc: Global,
     well_typed: &WellTyped<'_>,
@@ -210,7 +208,7 @@ fn field_reference_spans(
 }
 
 /// Returns the token indexes of all identifiers that refer to the same field as `field`, in text
-/// order. The declaring one is among them if `include` is true.
+/// order. The declaring identifier is among them if `include` is true.
 fn field_reference_tokens(
     alloc: Global,
     well_typed: &WellTyped<'_>,

@@ -14,7 +14,7 @@ use ob0_types_table::{ArrayShape, DeclarationTable, Parts, TypeId};
 use std::alloc::{AllocError, Global};
 
 /// Returns the text of a type. An array shows the type of its elements, and a record the number of
-/// its fields.
+/// its fields. A type that isn't one of the module's types is shown as a record with 0 fields.
 #[cycle(types)]
 pub(crate) fn type_text(
     alloc: Global,
@@ -33,7 +33,7 @@ pub(crate) fn type_text(
     }
 }
 
-/// Returns the text of an array type, with the text of its element type.
+/// Returns the text of an array type, which contains the text of its element type.
 #[cycle(types)]
 fn array_type_text(
     alloc: Global,

@@ -21,9 +21,9 @@ use Rattle.ob0_edits_tokens.specs.Replaced.{edit_at, parts}
 use Rattle.ob0_language_fields.specs.Renaming.{IsFreeFieldName, with_renamed_field, is_duplicate_field}
 use Rattle.ob0_rename.specs.Renaming.{TargetsDeclaration, TargetsField, Renaming, field_tokens_to_rename, is_declared_as, renaming_target, module_of, nothing, occurrence_range, conflicting_field_range, conflicting_range, predeclared, text_after_renaming, tokens_to_rename, named_tree}
 
--- Holds if the edits write the new name at these tokens and change nothing else. Applied all at
--- once, they give a text with this tree that isn't too long. The tree is well-typed and has the
--- same runs as the module before.
+-- States that the edits write the new name at these tokens and change nothing else. Applied all at
+-- once, they give a text with the tree `tree` and with at most `max_text` bytes. The tree is
+-- well-typed and has the same runs as the module before the edits.
 pub record WritesName (r : Renaming) (tokens : List ℕ) (tree : Tree Name module_text)
     (edits : List Edit) : Type 0 where
   pub short : length (text_after_renaming r tokens) ≤ max_text
@@ -38,16 +38,17 @@ pub record WritesName (r : Renaming) (tokens : List ℕ) (tree : Tree Name modul
 
 -- ---- for a declaration
 
--- Holds if the new name is an identifier and is free for the declaration `d`, and the edits write
--- it at every token of `d`. The edits leave the renamed module.
+-- States that these edits rename the declaration `d`. The new name is an identifier and is free for
+-- `d`: it causes no name conflict. The edits write it at every token that declares `d`, refers to
+-- `d` or repeats its name after END. The edited text is the renamed module.
 pub record Renames (r : Renaming) (d : ℕ) (edits : List Edit) : Type 0 where
   pub identifier : IsIdentifier r.new
   pub free : Free (named_tree r) d r.new
   pub writes : WritesName r (tokens_to_rename (module_of r) d r.new)
       (renamed (named_tree r) d r.new) edits
 
--- Holds if this refusal applies to the new name of the declaration `d`. If several refusals apply,
--- it holds only for the first of them, in the order of these cases.
+-- States that this is the first refusal that applies to the new name of the declaration `d`, in the
+-- order of these cases.
 abbrev pub IsDeclarationRefusal : Renaming → ℕ → EditRefusal → Type 0
 IsDeclarationRefusal r d refusal.NoName = ⊥
 IsDeclarationRefusal r d refusal.Predeclared = ⊥
@@ -70,25 +71,25 @@ IsDeclarationRefusal r d refusal.Shadowed = ⊥
 IsDeclarationRefusal r d refusal.CommentInside = ⊥
 IsDeclarationRefusal r d refusal.Memory = ⊥
 
--- Holds if the answer is edits that rename the declaration `d`, or the refusal that applies, or
--- `Memory`.
+-- States that the answer is edits that rename the declaration `d`, or the first refusal that
+-- applies, or `Memory`.
 abbrev pub AnswersForDeclaration : Renaming → ℕ → Result (Vec Edit Global) EditRefusal → Type 0
 AnswersForDeclaration r d (Ok edits) = Renames r d edits.items
 AnswersForDeclaration r d (Err why) = (why ≡ refusal.Memory) ⊎ IsDeclarationRefusal r d why
 
 -- ---- for a field
 
--- Holds if the new name is an identifier and is free for the field `f` of the record `k`. The edits
--- write it at the field's declaration and at all its selections. They leave the module with that
--- field renamed.
+-- States that these edits rename the field `f` of the record `k`. The new name is an identifier and
+-- is free for that field: no other field of the record has it. The edits write it at the field's
+-- declaration and at all its selections. The edited text is the module with that field renamed.
 pub record RenamesField (r : Renaming) (k : ℕ) (f : Name) (edits : List Edit) : Type 0 where
   pub identifier : IsIdentifier r.new
   pub free : IsFreeFieldName (named_tree r) k f r.new
   pub writes : WritesName r (field_tokens_to_rename r.names k f r.new)
       (with_renamed_field (named_tree r) k f r.new) edits
 
--- Holds if this refusal applies to the new name of the field `f` of the record `k`. Only another
--- field of this record conflicts with the new name.
+-- States that this is the first refusal that applies to the new name of the field `f` of the record
+-- `k`, in the order of these cases. Only another field of this record conflicts with the new name.
 abbrev pub IsFieldRefusal : Renaming → ℕ → Name → EditRefusal → Type 0
 IsFieldRefusal r k f refusal.NoName = ⊥
 IsFieldRefusal r k f refusal.Predeclared = ⊥
@@ -107,22 +108,23 @@ IsFieldRefusal r k f refusal.Shadowed = ⊥
 IsFieldRefusal r k f refusal.CommentInside = ⊥
 IsFieldRefusal r k f refusal.Memory = ⊥
 
--- Holds if the answer is edits that rename the field `f` of the record `k`, or the refusal that
--- applies, or `Memory`.
+-- States that the answer is edits that rename the field `f` of the record `k`, or the first refusal
+-- that applies, or `Memory`.
 abbrev pub AnswersForField : Renaming → ℕ → Name → Result (Vec Edit Global) EditRefusal → Type 0
 AnswersForField r k f (Ok edits) = RenamesField r k f edits.items
 AnswersForField r k f (Err why) = (why ≡ refusal.Memory) ⊎ IsFieldRefusal r k f why
 
 -- ---- for a declaration or a field, whichever is at the place
 
--- Holds if this refusal applies to the new name of the declaration or field at the place.
+-- States that this refusal applies to the new name of the declaration or field at the renaming's
+-- place.
 abbrev pub IsTargetRefusal : Renaming → EditRefusal → Type 0
 IsTargetRefusal r why =
     ((d : ℕ) × TargetsDeclaration r d × IsDeclarationRefusal r d why)
     ⊎ ((k : ℕ) × ((f : Name) × TargetsField r k f × IsFieldRefusal r k f why))
 
--- Holds if this refusal applies to the renaming. Either the place is on no name and no field, or
--- the name there is predeclared, or the new name is refused.
+-- States that this refusal applies to the renaming. Either the place is on no name and no field, or
+-- the name at the place is predeclared, or the new name is refused.
 abbrev pub IsRenameRefusal : Renaming → EditRefusal → Type 0
 IsRenameRefusal r refusal.NoName = renaming_target r ≡ nothing
 IsRenameRefusal r refusal.Predeclared = renaming_target r ≡ predeclared
@@ -135,20 +137,20 @@ IsRenameRefusal r refusal.Shadowed = ⊥
 IsRenameRefusal r refusal.CommentInside = ⊥
 IsRenameRefusal r refusal.Memory = ⊥
 
--- holds if these edits rename the declaration or field at the place
+-- States that these edits rename the declaration or field at the renaming's place.
 abbrev pub AreRenameEdits : Renaming → List Edit → Type 0
 AreRenameEdits r edits =
     ((d : ℕ) × TargetsDeclaration r d × Renames r d edits)
     ⊎ ((k : ℕ) × ((f : Name) × TargetsField r k f × RenamesField r k f edits))
 
--- Holds if the answer is edits that rename the declaration or field at the place, or the refusal of
--- the renaming, or `Memory`.
+-- States that the answer is edits that rename the declaration or field at the renaming's place, or
+-- the refusal that applies to the renaming, or `Memory`.
 abbrev pub RenameAnswers : Renaming → Result (Vec Edit Global) EditRefusal → Type 0
 RenameAnswers r (Ok edits) = AreRenameEdits r edits.items
 RenameAnswers r (Err why) = (why ≡ refusal.Memory) ⊎ IsRenameRefusal r why
 
--- Holds if a declaration or a field is at the place, and the new name is an identifier. Only then
--- can an allocation fail.
+-- States that a declaration or a field is at the place, and that the new name is an identifier. An
+-- allocation can fail only in this case.
 pub record AllocatesOnly (r : Renaming) : Type 0 where
   pub identifier : IsIdentifier r.new
   pub some : ¬ (renaming_target r ≡ nothing)
@@ -156,12 +158,12 @@ pub record AllocatesOnly (r : Renaming) : Type 0 where
 
 -- ---- renaming to the present name
 
--- holds if the result is edits or a failed allocation
+-- States that the result is edits, or the refusal `Memory` because an allocation failed.
 abbrev pub FailsOnlyForMemory : Result (Vec Edit Global) EditRefusal → Type 0
 FailsOnlyForMemory result = IfErr result (λ why. why ≡ refusal.Memory)
 
--- Holds if a renaming to the present name isn't refused: the result is then edits or a failed
--- allocation.
+-- States that a renaming to the present name isn't refused: its result is edits, or the refusal
+-- `Memory` because an allocation failed.
 abbrev pub AcceptsPresentName : Renaming → Result (Vec Edit Global) EditRefusal → Type 0
 AcceptsPresentName r result =
     ((d : ℕ)

@@ -1,5 +1,5 @@
--- Defines the renaming of the declaration or record field at a place of a text: the places of the
--- new name, and its conflicts.
+-- Defines the renaming of the declaration or record field at a place in a text. Also defines the
+-- tokens at which the new name is written, and the conflicts of that name.
 -- Rule: docs/PROTOCOL.md, Requests on documents 6, Refusals of edits.
 use Rattle.std.specs.Prelude.{◌≡◌, ℕ, Bool, true, false, nat_lt, if◌then◌else◌, List, [], Option, Some, None, option_and_then, option_map, slice_get}
 use Rattle.ob0_scan.specs.TextWithTokens.{TextWithTokens}
@@ -24,8 +24,8 @@ use Rattle.ob0_types_fields.specs.declared.field_name.FieldName.{FieldName}
 use Rattle.ob0_types_fields.specs.Identifiers.{field_declaring_token, field_at, field_tokens}
 
 -- A requested renaming. `text` is the text as characters, and `unit` is the unit of its positions.
--- `names` is the text's module with its names bound. The old name is at `place`, and `new` is the
--- new name.
+-- `names` is the text's module with its names bound to declarations. The old name is at `place`,
+-- and `new` is the new name.
 pub record Renaming : Type 0 where
   pub unit : counting.Unit
   pub text : List ℕ
@@ -33,17 +33,17 @@ pub record Renaming : Type 0 where
   pub place : Position
   pub new : Name
 
--- Returns the renaming to `new` of the name at a place of a text. `names` is the text's module with
--- its names bound.
+-- Returns the renaming to `new` of the name at a place in a text. `names` is the text's module with
+-- its names bound to declarations.
 abbrev pub renaming_of : counting.Unit → List ℕ → Resolution → Position → List ℕ → Renaming
 renaming_of unit text names place new =
     record { unit = unit; text = text; names = names; place = place; new = new }
 
--- returns the module of the text
+-- Returns the parsed module of the renaming's text.
 abbrev pub module_of : Renaming → read.ParsedModule
 module_of r = r.names.module_read
 
--- returns the module's tree, in which each name is its text
+-- Returns the tree of the renaming's module, in which each name is a text.
 abbrev pub named_tree : Renaming → Tree Name module_text
 named_tree r = read.named_tree_of (module_of r)
 
@@ -59,88 +59,90 @@ pub data RenameTarget : Type 0 where
   -- the field with this name, in the record with this ordinal
   field_of : ℕ → Name → RenameTarget
 
--- Returns the target for a name with this ordinal. It is a predeclared name if the ordinal is below
--- `predeclared_count`, otherwise a declaration.
+-- Returns the target for a name that is bound to the declaration with this ordinal. The target is
+-- `predeclared` if the ordinal is below `predeclared_count`, otherwise it is the declaration.
 abbrev pub ordinal_target : ℕ → RenameTarget
 ordinal_target ordinal = if nat_lt ordinal predeclared_count then predeclared else declaration ordinal
 
--- Returns the field that this identifier declares or selects, as a target. Returns `nothing` for
--- None.
+-- Returns the target for an identifier that declares or selects a field: that field. Returns
+-- `nothing` if there is no such identifier (None).
 abbrev pub field_target : TextWithTokens → Option FieldName → RenameTarget
 field_target source None = nothing
 field_target source (Some x) = field_of x.owner (text_at source x.token)
 
--- Returns the target for the name at a place. If there is no name (None), returns the target for
--- the field at the place.
+-- Returns the target for the name at a place. If no name is at the place (None), returns the target
+-- for the field at the place.
 abbrev pub meaning_of_name_or_field : TextWithTokens → Option named.Named → Option FieldName → RenameTarget
 meaning_of_name_or_field source (Some n) f = ordinal_target n.ordinal
 meaning_of_name_or_field source None f = field_target source f
 
--- Returns the target at a byte offset: the name there, or otherwise the field there. Returns
--- `nothing` if the offset is on neither.
+-- Returns the target at a byte offset: the declaration to which the name at the offset is bound, or
+-- otherwise the field at the offset. Returns `nothing` if the offset is on neither.
 abbrev pub identifier_meaning_at : Resolution → ℕ → RenameTarget
 identifier_meaning_at names offset =
     meaning_of_name_or_field names.module_read.source (name_on names.module_read offset) (field_at names offset)
 
--- returns the target of the identifier at the renaming's place
+-- Returns the target of the renaming, from the identifier at its place.
 abbrev pub renaming_target : Renaming → RenameTarget
 renaming_target r = identifier_meaning_at r.names (offset_of (width_of r.unit) r.text r.place)
 
--- holds if the renaming's target is the declaration with this ordinal
+-- States that the renaming's target is the declaration with the ordinal `d`.
 abbrev pub TargetsDeclaration : Renaming → ℕ → Type 0
 TargetsDeclaration r d = renaming_target r ≡ declaration d
 
--- holds if the renaming's target is the field `f` of the record with the ordinal `k`
+-- States that the renaming's target is the field `f` of the record with the ordinal `k`.
 abbrev pub TargetsField : Renaming → ℕ → Name → Type 0
 TargetsField r k f = renaming_target r ≡ field_of k f
 
 -- ---- the places of the new name
 
--- Returns the token that declares the object with this ordinal, or None for a predeclared name.
+-- Returns the index of the token that declares the object with this ordinal. Returns None if no
+-- token declares it, as for a predeclared name.
 abbrev pub declaring_token : read.ParsedModule → ℕ → Option ℕ
 declaring_token m ordinal =
     declaration_token (declaring_names (identifiers role.Declaring (read.tree_of m))) ordinal
 
--- returns true if the declaration `d` has the name `new`
+-- Returns whether the declaration with the ordinal `d` has the name `new`. For a predeclared name
+-- the result is false.
 abbrev pub is_declared_as : read.ParsedModule → ℕ → Name → Bool
 is_declared_as m d new =
     elim (declaring_token m d)
     [ Some token ↦ same_name (text_at m.source token) new | None ↦ false ]
 
--- Returns the tokens at which the declaration's name is declared, used or repeated as a closing
--- name. The list is empty if the declaration already has the name `new`.
+-- Returns the indexes of the tokens at which the name of the declaration `d` is declared, used or
+-- repeated as a closing name. The list is empty if the declaration already has the name `new`.
 abbrev pub tokens_to_rename : read.ParsedModule → ℕ → Name → List ℕ
 tokens_to_rename m d new = if is_declared_as m d new then [] else tokens_bound_to m d true
 
--- Returns the tokens that declare or select the field `f` of the record `k`. The list is empty if
--- the field already has the name `new`.
+-- Returns the indexes of the tokens that declare or select the field `f` of the record with the
+-- ordinal `k`. The list is empty if `new` is equal to `f`.
 abbrev pub field_tokens_to_rename : Resolution → ℕ → Name → Name → List ℕ
 field_tokens_to_rename names k f new = if same_name new f then [] else field_tokens names k f
 
--- returns the text in bytes after the new name is written at these tokens
+-- Returns the text, in bytes, after the new name is written in place of these tokens.
 abbrev pub text_after_renaming : Renaming → List ℕ → List ℕ
 text_after_renaming r tokens = text_after_replacement (module_of r).source tokens r.new
 
 -- ---- conflicts of the new name
 
--- returns the range of a token
+-- Returns the range of the token with this index.
 abbrev pub token_range : Renaming → ℕ → Range
 token_range r token = range_of (width_of r.unit) r.text (span_at (module_of r).source token)
 
 -- Returns the range of the identifier that declares another object with the new name in the block
--- of `d`. Returns None if there is no such object.
+-- that declares `d`. Returns None if there is no such object.
 abbrev pub conflicting_range : Renaming → ℕ → Option Range
 conflicting_range r d =
     option_map (token_range r)
     (option_and_then (declaring_token (module_of r)) (namesake (named_tree r) d r.new))
 
--- Returns the range of the identifier that declares a field of the record `k` with the new name, or
--- None if no field has it.
+-- Returns the range of the identifier that declares a field with the new name in the record with
+-- the ordinal `k`. Returns None if the record has no such field.
 abbrev pub conflicting_field_range : Renaming → ℕ → Option Range
 conflicting_field_range r k = option_map (token_range r) (field_declaring_token (module_of r) k r.new)
 
--- Returns the range of the occurrence with this number, counted from 0 in text order, or None if
--- the text has fewer occurrences.
+-- Returns the range of the occurrence with the number `k`, counted from 0 in text order. Returns
+-- None if the text has no occurrence with that number.
 abbrev pub occurrence_range : Renaming → ℕ → Option Range
 occurrence_range r k =
     option_map (token_range r) (slice_get (occurrences (read.tree_of (module_of r))) k)

@@ -1,4 +1,4 @@
-//! Renames a declaration or a field by edits.
+//! Makes the edits that rename a declaration or a field.
 
 ghost use Rattle.std.specs.Prelude.{◌≡◌, ℕ, Err, Some, slice_get, true};
 ghost use Rattle.std.specs.Str.{chars};
@@ -26,16 +26,17 @@ use ob0_text::{Edit, EditRefusal, Position, TextStore};
 use ob0_types::{IdentifierMeaning, WellTyped};
 use std::alloc::Global;
 
-/// Returns the edits that rename the declaration or field at a place to `new`, in text order. There
-/// is one edit for each identifier that declares, closes or is bound to the declaration, or that
-/// declares or selects the field. If the present name is already `new`, there are no edits. The
-/// place may be in the name or at its end.
+/// Returns the edits that rename the declaration or field at `place` to `new`, in text order. For a
+/// declaration, there is one edit for each identifier that declares it, refers to it or repeats its
+/// name after END. For a field, there is one edit for each identifier that declares or selects it.
+/// If the present name is already `new`, there are no edits. The place may be in the name or at its
+/// end.
 ///
-/// If several refusals apply, the first in this order is returned: `NoName` (no name, or the
-/// module's name), `Predeclared`, `BadName`, `Duplicate`, `Captures`, `TooLong`. `Duplicate` has
-/// the range of the other declaration, or of the other field of the record. `Captures` has the
-/// range of the first occurrence that would be bound to another declaration. A field is never
-/// refused with `Captures`.
+/// If several refusals apply, the first in this order is returned: `NoName` (the place is on no
+/// name, or on the module's name), `Predeclared`, `BadName`, `Duplicate`, `Captures`, `TooLong`.
+/// `Duplicate` has the range of the other declaration's name, or of the other field's name in the
+/// record. `Captures` has the range of the first occurrence that would be bound to another
+/// declaration. A field is never refused with `Captures`.
 pub fn rename<T: TextStore>(
     alloc: Global,
     store: &T,
@@ -68,8 +69,8 @@ pub fn rename<T: TextStore>(
     }
 }
 
-/// Returns the edits that rename the declaration with this ordinal to `new`, in text order, or the
-/// refusal.
+/// Returns the edits that rename the declaration with the ordinal `declaration` to `new`, in text
+/// order, or the first refusal that applies.
 fn rename_declaration<T: TextStore>(
     alloc: Global,
     store: &T,
@@ -102,8 +103,9 @@ fn rename_declaration<T: TextStore>(
     }
 }
 
-/// Returns the refusal for a conflict of the new name. It is `Duplicate` with the range of the
-/// other declaration, or `Captures` with the range of the occurrence.
+/// Returns the refusal for a conflict of the new name. A conflict with a declaration gives
+/// `Duplicate` with the range of that declaration's name. A conflict at an occurrence gives
+/// `Captures` with the range of the occurrence, which would be bound to another declaration.
 fn refusal_of<T: TextStore>(store: &T, names: &Resolved, capture: FirstConflict) -> EditRefusal
     ensures duplicate { (other token : ℕ) → capture ≡ Duplicate other
         → declaring_token names.now.module_read other ≡ Some token

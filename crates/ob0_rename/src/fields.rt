@@ -1,4 +1,4 @@
-//! Renames a record's field by edits.
+//! Makes the edits that rename a record's field.
 
 ghost use Rattle.std.specs.Prelude.{◌≡◌, Err, IfOk, None, if◌then◌else◌};
 ghost use Rattle.std.specs.Str.{chars};
@@ -23,8 +23,10 @@ use ob0_types::{WellTyped, field_declaring_token, field_tokens};
 use ob0_types_fields::laws::{duplicate_has_declaring_token, renaming_changes_field_tokens};
 use std::alloc::{AllocError, Global};
 
-/// Returns the edits that rename a field to `new`, or the refusal. The field's name is at the token
-/// `token`. `owner` is the ordinal of its record among the words ARRAY and RECORD of the text.
+/// Returns the edits that rename a field to `new`, in text order, or the first refusal that
+/// applies. The token with the index `token` declares or selects the field. `owner` is the ordinal
+/// of the field's record: the number of words ARRAY and RECORD that precede the record's word
+/// RECORD in the text.
 pub(crate) fn rename_field<T: TextStore>(
     alloc: Global,
     store: &T,
@@ -71,8 +73,8 @@ pub(crate) fn rename_field<T: TextStore>(
     }
 }
 
-/// Returns the token that declares another field in the record `owner`, with the name `new`.
-/// Returns None if no field has that name, or if `new` is the present name `old`.
+/// Returns the index of the token that declares another field of the record `owner` with the name
+/// `new`. Returns None if no field has that name, or if `new` is the present name `old`.
 fn conflicting_field(
     well_typed: &WellTyped<'_>,
     owner: usize,
@@ -90,8 +92,8 @@ fn conflicting_field(
     field_declaring_token(well_typed, owner, new)
 }
 
-/// Returns the tokens that declare or select the field `old` of the record `owner`, in text order.
-/// The list is empty if `new` is the same name.
+/// Returns the indexes of the tokens that declare or select the field `old` of the record `owner`,
+/// in text order. The list is empty if `new` is equal to `old`.
 fn field_tokens_to_rename(
     alloc: Global,
     well_typed: &WellTyped<'_>,

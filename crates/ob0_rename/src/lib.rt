@@ -1,6 +1,6 @@
-//! Renames a declaration or a field of a well-typed module. Returns the edits, which leave a module
-//! with the same runs, or the refusal. (docs/PROTOCOL.md, Requests on documents and Refusals of
-//! edits.)
+//! Renames a declaration or a field of a well-typed module. The result is the edits, which give a
+//! module with the same runs, or a refusal (docs/PROTOCOL.md, Requests on documents and Refusals of
+//! edits).
 #![tactic(auto)]
 
 mod declaration_edits;

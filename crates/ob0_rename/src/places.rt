@@ -1,5 +1,5 @@
-//! Finds the identifier at a place and its meaning, the tokens that a renaming changes, and ranges
-//! of tokens.
+//! Finds the identifier at a place and its meaning, the tokens that a renaming changes, and the
+//! ranges of tokens.
 
 ghost use Rattle.std.specs.Prelude.{◌≡◌, ℕ, IfOk, IfSome, Some};
 ghost use Rattle.ob0_scan.specs.Classes.{IsIdentifier};
@@ -19,8 +19,9 @@ use ob0_text::{Range, TextStore};
 use ob0_types::{ResolvedIdentifier, WellTyped, identifier_meaning_at};
 use std::alloc::{AllocError, Global};
 
-/// Returns the identifier at a byte offset with its meaning, or None if the offset is on no name
-/// and no field. The contract adds that a field's name is an identifier by the scanner's rules.
+/// Returns the identifier at a byte offset with its meaning. Returns None if the offset is on no
+/// name and no field. The contract also promises that a field's name is an identifier by the
+/// scanner's rules.
 pub(crate) fn identifier_with_meaning(
     well_typed: &WellTyped<'_>,
     offset: usize,
@@ -34,8 +35,8 @@ pub(crate) fn identifier_with_meaning(
     identifier_meaning_at(well_typed, offset)
 }
 
-/// Returns the tokens at which a renaming of the declaration writes `new`, in text order. The list
-/// is empty if the declaration already has that name.
+/// Returns the indexes of the tokens at which a renaming of the declaration writes `new`, in text
+/// order. The list is empty if the declaration already has the name `new`.
 pub(crate) fn tokens_to_rename(
     alloc: Global,
     names: &Resolved,
@@ -53,8 +54,8 @@ pub(crate) fn tokens_to_rename(
     tokens_changed_by_rename(alloc, names, declaration)
 }
 
-/// Returns true if the declaration with this ordinal has this name. Returns false if no token
-/// declares it, because it is predeclared.
+/// Returns whether the declaration with the ordinal `declaration` has the name `name`. For a
+/// predeclared name the result is false, because no token declares it.
 fn is_declared_as(names: &Resolved, declaration: usize, name: &str) -> bool
     ensures { result ≡ is_declared_as names.now.module_read declaration name.now }
 {
@@ -66,7 +67,8 @@ fn is_declared_as(names: &Resolved, declaration: usize, name: &str) -> bool
     }
 }
 
-/// Returns the range of a token, or for None an empty range at the text's start.
+/// Returns the range of the token with this index. For None, returns an empty range at the start of
+/// the text.
 pub(crate) fn token_range<T: TextStore>(store: &T, tokens: &Tokens, token: Option<usize>) -> Range
     ensures { (index : ℕ)
         → token ≡ Some index

@@ -1,4 +1,4 @@
--- States that a rename has an answer for each text.
+-- States that requests for a rename have an answer for each text.
 -- Rule: docs/PROTOCOL.md, Requests on documents 6.
 use Rattle.std.specs.Prelude.{ℕ, List}
 use Rattle.ob0_text.specs.declared.position_types.Position.{Position}
@@ -9,13 +9,14 @@ use Rattle.ob0_world_rules.specs.Asks.{rename}
 use Rattle.ob0_world_rules.specs.Language.{WellTypedText}
 use Rattle.ob0_world_rules.specs.Laws.{HasAnswers}
 
--- states that the code has a module with bound names for each well-typed text
+-- States that each well-typed text has a module in which each name is bound to its declaration.
 abbrev pub EachHasNames : Type 0
 EachHasNames =
     (text : List ℕ) → WellTypedText text → (names : Resolution) × IsModuleIn (utf8 text) names
 
--- States that for each text, unit, position and new name it can't be that nothing answers a request
--- for a rename.
+-- States that a request for a rename has an answer for each text, unit, position and new name,
+-- under one condition. The condition is that each well-typed text has a module with bound names.
+-- `HasAnswers` is a double negation: it says that an answer can't be missing.
 abbrev pub RenamingHasAnswers : Type 0
 RenamingHasAnswers =
     EachHasNames → (position : Position) (name : List ℕ) → HasAnswers (rename position name)

@@ -1,4 +1,4 @@
-//! Proves a law that a rename has answers.
+//! Proves that requests for a rename have answers.
 
 ghost use Rattle.ob0_rename_answers.specs.RenameAnswers.{RenamingHasAnswers};
 
@@ -7,7 +7,8 @@ use ob0_language_field_laws::laws::free_field_renaming_keeps_typing_and_runs;
 use ob0_language_runs::laws::free_renaming_keeps_typing_and_runs;
 use ob0_types_fields::laws::{duplicate_has_declaring_token, renaming_changes_field_tokens};
 
-/// Proves that a request for a rename has an answer for each text, if the code has bound names for each well-typed text.
+/// Proves that a request for a rename has an answer for each text, if each well-typed text has a
+/// module with bound names.
 pub fn renaming_has_answers()
     ensures { RenamingHasAnswers }
 {

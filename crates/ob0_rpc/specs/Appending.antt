@@ -1,4 +1,4 @@
--- Defines when the texts of JSON values are appended to bytes.
+-- Defines facts about writers that append the texts of JSON values to the bytes of an output.
 -- Rule: none; for contracts of writers.
 use Rattle.std.specs.Prelude.{◌≡◌, ◌++◌, ℕ, List, [], ◌∷◌, Bool, true, Option, Some, None, ⊤}
 use Rattle.std.specs.Str.{IsUtf8}
@@ -7,14 +7,14 @@ use Rattle.serde_json.specs.Data.{Data, Members, member, no_members, null}
 use Rattle.serde_json.specs.Read.{of_json}
 use Rattle.serde_json.specs.Written.{comma_if, compact_text, outline}
 
--- Holds if the value's text reads back as the value. For that, whole numbers must fit in 64 bits,
--- members must occur once and in order, and texts must be UTF-8.
+-- States that the value's text reads back as the value. For that, whole numbers must fit in 64
+-- bits, members must occur once and in order, and texts must be UTF-8.
 pub record ReadsBack (value : Data) : Type 0 where
   pub reads : of_json (outline value) ≡ Some value
   pub numbers : HasNumbers (outline value)
   pub utf8 : IsUtf8 (compact_text value)
 
--- Holds if each of these values reads back from its text.
+-- States that each of these values reads back from its text.
 abbrev pub AllReadBack : List Data → Type 0
 AllReadBack [] = ⊤
 AllReadBack (value ∷ values) = ReadsBack value × AllReadBack values
@@ -25,38 +25,40 @@ abbrev pub comma_separated_texts : Bool → List Data → List ℕ
 comma_separated_texts later [] = []
 comma_separated_texts later (value ∷ values) = comma_if later ++ (compact_text value ++ comma_separated_texts true values)
 
--- Holds if the value's text is appended to `old`, and that text reads back as the value.
+-- States that `new` is `old` followed by the value's text, and that this text reads back as the
+-- value.
 pub record Appends (value : Data) (old new : List ℕ) : Type 0 where
   pub text : new ≡ old ++ compact_text value
   pub reads : ReadsBack value
 
--- Holds if the texts of these values are appended with commas between them, and each text reads
--- back as its value. If `later` is true, a comma also precedes the first text.
+-- States that `new` is `old` followed by the texts of these values, with commas between them. If
+-- `later` is true, a comma also precedes the first text. Each text reads back as its value.
 pub record AppendsEach (later : Bool) (values : List Data) (old new : List ℕ) : Type 0 where
   pub text : new ≡ old ++ comma_separated_texts later values
   pub reads : AllReadBack values
 
--- Holds if the value's text is appended, after a comma if `later` is true. The text reads back as
--- the value.
+-- States that `new` is `old` followed by the value's text, with a comma between the two if `later`
+-- is true. The value's text reads back as the value.
 pub record AppendsItem (later : Bool) (value : Data) (old new : List ℕ) : Type 0 where
   pub text : new ≡ old ++ (comma_if later ++ compact_text value)
   pub reads : ReadsBack value
 
--- Holds if the byte `before` (a bracket or a comma), a name in quotes, a colon and the value's text
--- are appended. The value reads back from its text.
+-- States that one member of an object is appended to `old`: the byte `before` (a bracket or a
+-- comma), the name in quotes, a colon and the value's text. The value's text reads back as the
+-- value.
 pub record AppendsMember (before : ℕ) (name : List ℕ) (value : Data)
     (old new : List ℕ) : Type 0 where
   pub text : new ≡ old ++ before ∷ 34 ∷ (name ++ 34 ∷ 58 ∷ compact_text value)
   pub reads : ReadsBack value
 
--- Holds if these members and the closing bracket of an object are appended. The byte `before`
--- precedes the first member, and commas precede the others.
+-- States that these members of an object and the closing bracket are appended to `old`. The byte
+-- `before` precedes the first member, and commas precede the others.
 abbrev pub AppendsMembers : ℕ → Members → List ℕ → List ℕ → Type 0
 AppendsMembers before no_members old new = new ≡ old ++ 125 ∷ []
 AppendsMembers before (member name value members) old new =
     (mid : List ℕ) × AppendsMember before name value old mid × AppendsMembers 44 members mid new
 
--- Returns the JSON value of an optional value, which is null for None.
+-- Returns the JSON value of an optional value. None becomes null.
 abbrev pub or_null : {A : Type 0} → (A → Data) → Option A → Data
 or_null value (Some a) = value a
 or_null value None = null

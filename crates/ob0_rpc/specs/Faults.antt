@@ -1,4 +1,4 @@
--- Defines the error that reports the fault of a message (JSON-RPC 2.0, error objects).
+-- Defines the error that reports the fault of a message: an error code and a text.
 -- Rule: docs/PROTOCOL.md, Order of checks, and errors; JSON-RPC 2.0, error object.
 use Rattle.std.specs.Prelude.{◌-◌, ℕ, ℤ, negsuc, List, codes}
 use Rattle.ob0_rpc.specs.declared.incoming.RpcFault.{RpcFault}
@@ -8,7 +8,7 @@ use Rattle.ob0_rpc.specs.declared.incoming.RpcFault.TheVariants.{NotJson, NotAMe
 abbrev pub minus : ℕ → ℤ
 minus n = negsuc (n - 1)
 
--- Returns the code of the error that reports a fault. A failed allocation is never reported.
+-- Returns the error code that reports a fault. `Memory` has a code, but is never reported.
 abbrev pub error_code : RpcFault → ℤ
 error_code NotJson = minus 32700
 error_code NotAMessage = minus 32600

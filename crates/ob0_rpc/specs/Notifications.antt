@@ -17,18 +17,18 @@ pub data Notification : Type 0 where
   -- A change: the uri, the version and the changes in order.
   changes : List ℕ → ℤ → List TextChange → Notification
   closes : List ℕ → Notification
-  -- An open, a change or a close that can't be read, with its uri or None if the uri can't be
-  -- read.
+  -- An open, a change or a close whose params can't be read. The argument is the uri, or None if
+  -- the uri can't be read either.
   unreadable : Option (List ℕ) → Notification
   other : Notification
 
--- Returns the range of a change. Some None means that the change has no range, and None that the
--- range can't be read.
+-- Reads the member `range` of a change. Some None means that the change has no range. None means
+-- that the range can't be read.
 abbrev pub range_of_change : Option Data → Option (Option Range)
 range_of_change found =
     if is_absent_or_null found then Some None else option_map Some (option_and_then json_range found)
 
--- Returns the change with this range and this text, or None if one of the two is None.
+-- Returns the change with this range and this text, or None if either is None.
 abbrev pub change_with : Option (Option Range) → Option (List ℕ) → Option TextChange
 change_with (Some range) (Some text) = Some (record { range = range; text = chars text })
 change_with (Some range) None = None
@@ -40,28 +40,29 @@ abbrev pub content_change : Data → Option TextChange
 content_change entry =
     change_with (range_of_change (get (codes "range") entry)) (text_member (codes "text") entry)
 
--- Returns all changes of a list, or None if one of them can't be read.
+-- Returns all changes in a list of entries, in order. Returns None if an entry can't be read.
 abbrev pub all_changes : Items → Option (List TextChange)
 all_changes no_items = Some []
 all_changes (item entry later) =
     option_and_then (λ change. option_map (λ changes. change ∷ changes) (all_changes later))
     (content_change entry)
 
--- Returns the changes in params, or None if the list or one of its entries can't be read.
+-- Returns the changes in the list `contentChanges` of params. Returns None if the list or one of
+-- its entries can't be read.
 abbrev pub changes_of : Data → Option (List TextChange)
 changes_of params =
     option_and_then all_changes (option_and_then as_array (get (codes "contentChanges") params))
 
--- Returns the meaning of `textDocument/didOpen` with this uri, version and text. If one of them is
--- None, returns `unreadable` with the uri.
+-- Returns the meaning of `textDocument/didOpen` with this uri, version and text. If one of the
+-- three is None, returns `unreadable` with the uri.
 abbrev pub open_or_unreadable : Option (List ℕ) → Option ℤ → Option (List ℕ) → Notification
 open_or_unreadable None version text = unreadable None
 open_or_unreadable (Some uri) (Some version) (Some text) = opens uri version text
 open_or_unreadable (Some uri) (Some version) None = unreadable (Some uri)
 open_or_unreadable (Some uri) None text = unreadable (Some uri)
 
--- Returns the meaning of `textDocument/didChange` with this uri, version and changes. If one of
--- them is None, returns `unreadable` with the uri.
+-- Returns the meaning of `textDocument/didChange` with this uri, version and changes. If one of the
+-- three is None, returns `unreadable` with the uri.
 abbrev pub change_or_unreadable : Option (List ℕ) → Option ℤ → Option (List TextChange) → Notification
 change_or_unreadable None version all = unreadable None
 change_or_unreadable (Some uri) (Some version) (Some all) = changes uri version all

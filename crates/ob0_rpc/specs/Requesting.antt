@@ -37,31 +37,33 @@ pub data ClientRequest : Type 0 where
 
 -- ---- the capabilities of a client
 
--- Returns the value at the end of a path of member names, or None if there is none.
+-- Follows a path of member names from `d`, and returns the value at its end. Returns None if a
+-- member on the path is absent.
 abbrev pub member_at_path : List (List ℕ) → Data → Option Data
 member_at_path [] d = Some d
 member_at_path (name ∷ names) d = option_and_then (member_at_path names) (get name d)
 
--- Returns true if the member is the JSON value `true`, and false if it is absent or anything else.
+-- Returns whether the member is the JSON value `true`. Any other member, and an absent member,
+-- gives false.
 abbrev pub is_true : Option Data → Bool
 is_true found = unwrap_or (option_and_then as_bool found) false
 
--- Returns true if there is a text and it equals `text`.
+-- Returns whether the second text exists and equals the first.
 abbrev pub is_equal_text : List ℕ → Option (List ℕ) → Bool
 is_equal_text text None = false
 is_equal_text text (Some other) = bytes_eq other text
 
--- Returns true if one of the items is this text.
+-- Returns whether one of the items is this text.
 abbrev pub has_text : List ℕ → Items → Bool
 has_text text no_items = false
 has_text text (item d ds) = is_equal_text text (as_str d) || has_text text ds
 
--- Returns true if there is a list and it contains this text.
+-- Returns whether the list exists and contains this text.
 abbrev pub list_has_text : List ℕ → Option Items → Bool
 list_has_text text None = false
 list_has_text text (Some items) = has_text text items
 
--- Returns the capabilities of a client, from the params of `initialize`.
+-- Returns the capabilities that a client announces in the params of `initialize`.
 abbrev pub client_features : Data → ClientFeatures
 client_features params = record {
   offers_utf8 =
@@ -85,68 +87,69 @@ client_features params = record {
       ∷ []) params);
 }
 
--- Returns the request `initialize`, or None if its params aren't an object.
+-- Returns the request `initialize` with these params, or None if the params aren't an object.
 abbrev pub initialize_request_of : Data → Option ClientRequest
 initialize_request_of params =
     if is_some (as_object params) then Some (initialize (client_features params)) else None
 
 -- ---- requests about a document
 
--- Returns the document with this uri and this position in it, or None if one of the two is None.
+-- Returns this uri and this position as a `DocumentPlace`, or None if either is None.
 abbrev pub document_place_with : Option (List ℕ) → Option Position → Option DocumentPlace
 document_place_with (Some uri) (Some position) = Some (record { uri = uri; position = position })
 document_place_with (Some uri) None = None
 document_place_with None position = None
 
--- Returns the document and the position in params, or None if one of the two can't be read.
+-- Returns the document's uri and the position that params contain, or None if either can't be read.
 abbrev pub document_place_of : Data → Option DocumentPlace
 document_place_of params = document_place_with (document_uri params) (position_member (codes "position") params)
 
--- Returns the request for references with this position and this value of `includeDeclaration`.
--- Returns None if one of the two is None.
+-- Returns the request for references at this position, with this value of `includeDeclaration`.
+-- Returns None if either is None.
 abbrev pub references_request_with : Option DocumentPlace → Option Bool → Option ClientRequest
 references_request_with (Some at) (Some include) = Some (references at include)
 references_request_with (Some at) None = None
 references_request_with None include = None
 
--- Returns the request `textDocument/references` with these params, or None if they can't be read.
+-- Returns the request `textDocument/references` with these params, or None if the params can't be
+-- read.
 abbrev pub references_request_of : Data → Option ClientRequest
 references_request_of params =
     references_request_with (document_place_of params)
     (option_and_then (bool_member (codes "includeDeclaration")) (get (codes "context") params))
 
--- Returns the request for renaming with this position and this new name. Returns None if one of the
--- two is None.
+-- Returns the request to rename at this position, with this new name. Returns None if either is
+-- None.
 abbrev pub rename_request_with : Option DocumentPlace → Option (List ℕ) → Option ClientRequest
 rename_request_with (Some at) (Some name) = Some (rename at name)
 rename_request_with (Some at) None = None
 rename_request_with None name = None
 
--- Returns the request `textDocument/rename` with these params, or None if they can't be read.
+-- Returns the request `textDocument/rename` with these params, or None if the params can't be read.
 abbrev pub rename_request_of : Data → Option ClientRequest
 rename_request_of params = rename_request_with (document_place_of params) (text_member (codes "newName") params)
 
--- Returns the texts of a list, or None if an item isn't a text.
+-- Returns the items of a list as texts, or None if an item isn't a text.
 abbrev pub texts_of : Items → Option (List (List ℕ))
 texts_of no_items = Some []
 texts_of (item d ds) =
     option_and_then (λ text. option_map (λ texts. text ∷ texts) (texts_of ds)) (as_str d)
 
--- Returns the texts of a list that may be missing. Some None means that the list is absent or null,
--- and None that the list or one of its items can't be read.
+-- Returns the texts of a list that may be missing. Some None means that the list is absent or null.
+-- None means that the list or one of its items can't be read.
 abbrev pub optional_texts : Option Data → Option (Option (List (List ℕ)))
 optional_texts found =
     if is_absent_or_null found
     then Some None
     else option_map Some (option_and_then texts_of (option_and_then as_array found))
 
--- Returns the kinds that a context requests. Some None means that all kinds are requested, and None
--- that the kinds can't be read or the context isn't an object.
+-- Returns the kinds of code actions that the object `context` requests. Some None means that all
+-- kinds are requested. None means that the kinds can't be read or the context isn't an object.
 abbrev pub requested_kinds : Data → Option (Option (List (List ℕ)))
 requested_kinds context = if is_some (as_object context) then optional_texts (get (codes "only") context) else None
 
--- Returns the request for code actions with this uri, this range and these kinds. Returns None if
--- one of them is None.
+-- Returns the request for code actions in this document and this range, of these kinds. Returns
+-- None if one of the three is None.
 abbrev pub code_action_request_with : Option (List ℕ)
     → Option Range
     → Option (Option (List (List ℕ)))
@@ -156,44 +159,47 @@ code_action_request_with (Some uri) (Some range) None = None
 code_action_request_with (Some uri) None only = None
 code_action_request_with None range only = None
 
--- Returns the request `textDocument/codeAction` with these params, or None if they can't be read.
+-- Returns the request `textDocument/codeAction` with these params, or None if the params can't be
+-- read.
 abbrev pub code_action_request_of : Data → Option ClientRequest
 code_action_request_of params =
     code_action_request_with (document_uri params) (range_member (codes "range") params)
     (option_and_then requested_kinds (get (codes "context") params))
 
--- Returns the indentation for these values of `tabSize` and `insertSpaces`, or None if one of them
--- is None. A level is `level_spaces size` spaces if the Bool is true, otherwise a tab.
+-- Returns the indentation for these values of `tabSize` and `insertSpaces`, or None if either is
+-- None. If `insertSpaces` is true, a level is `level_spaces size` spaces, otherwise a tab.
 abbrev pub indent_with : Option ℕ → Option Bool → Option Indent
 indent_with (Some size) (Some spaces) = Some (if spaces then Spaces (level_spaces size) else Tab)
 indent_with (Some size) None = None
 indent_with None spaces = None
 
--- Returns the indentation that formatting options request, or None if they can't be read.
+-- Returns the indentation that formatting options request, or None if the options can't be read.
 abbrev pub indent_of : Data → Option Indent
 indent_of options =
     indent_with (unsigned_member (codes "tabSize") options) (bool_member (codes "insertSpaces") options)
 
--- Returns the request for formatting with this uri and this indentation. Returns None if one of the
--- two is None.
+-- Returns the request to format the document with this uri, with this indentation. Returns None if
+-- either is None.
 abbrev pub formatting_request_with : Option (List ℕ) → Option Indent → Option ClientRequest
 formatting_request_with (Some uri) (Some indent) = Some (formatting uri indent)
 formatting_request_with (Some uri) None = None
 formatting_request_with None indent = None
 
--- Returns the request `textDocument/formatting` with these params, or None if they can't be read.
+-- Returns the request `textDocument/formatting` with these params, or None if the params can't be
+-- read.
 abbrev pub formatting_request_of : Data → Option ClientRequest
 formatting_request_of params =
     formatting_request_with (document_uri params) (option_and_then indent_of (get (codes "options") params))
 
 -- ---- requests
 
--- Returns the request, or the error `bad params` for None.
+-- Returns the request as an `Ok` result. For None, returns the error `BadParams`.
 abbrev pub or_bad_params : Option ClientRequest → Result ClientRequest RpcFault
 or_bad_params (Some ask) = Ok ask
 or_bad_params None = Err BadParams
 
--- Returns the request about a document with this method and these params, or an error.
+-- Returns the request about a document with this method and these params. Returns `UnknownMethod`
+-- if the method is unknown, and `BadParams` if the params can't be read.
 abbrev pub document_request_by_method : List ℕ → Data → Result ClientRequest RpcFault
 document_request_by_method method params =
     if bytes_eq method (codes "textDocument/hover") then or_bad_params (option_map hover (document_place_of params))
@@ -207,8 +213,8 @@ document_request_by_method method params =
     else if bytes_eq method (codes "textDocument/formatting") then or_bad_params (formatting_request_of params)
     else Err UnknownMethod
 
--- Returns the request with this method and these params, or an error. `shutdown` accepts any
--- params.
+-- Returns the request with this method and these params. Returns `UnknownMethod` if the method is
+-- unknown, and `BadParams` if the params can't be read. `shutdown` accepts any params.
 abbrev pub request_by_method : List ℕ → Data → Result ClientRequest RpcFault
 request_by_method method params =
     if bytes_eq method (codes "initialize") then or_bad_params (initialize_request_of params)

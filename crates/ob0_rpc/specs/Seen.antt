@@ -1,5 +1,4 @@
--- Defines which message, request or notification of the definitions each value of the code stands
--- for.
+-- Translates the code's messages, requests and notifications into the types of the specs.
 -- Rule: none; for contracts: what values of the code mean.
 use Rattle.std.specs.Prelude.{◌≡◌, ℕ, List, Option, Some, None, Result, Ok, Err, string_bytes, String, Vec, map, option_map}
 use Rattle.std.specs.Str.{chars}
@@ -27,20 +26,21 @@ id_data (Signed z) = number (of_integer z)
 id_data (Unsigned n) = number (unsigned n)
 id_data (Text t) = string (string_bytes t)
 
--- Returns the JSON value of an error's id, which is null for None.
+-- Returns the JSON value of the id in an error response. None becomes null.
 abbrev pub id_or_null : Option Id → Data
 id_or_null (Some id) = id_data id
 id_or_null None = null
 
--- Returns the meaning of the code's message: a request, a notification or a response. Its id,
--- method and params become values of the definitions.
+-- Returns the meaning of a message that the code has read. Ids and params become JSON values, and
+-- methods become bytes of UTF-8. An ignored message is a response.
 abbrev pub message_view : Incoming → MessageMeaning
 message_view (Request id method params) = request (id_data id) (string_bytes method) (view params)
 message_view (Notice method params) = notice (string_bytes method) (view params)
 message_view Ignored = response
 
--- Holds if reading the JSON value may have this result: the message that the value means, or
--- `NotAMessage` if it isn't a message. `Memory` is always allowed, and other errors never.
+-- States that reading this JSON value may give this result. The result is the message that the
+-- value means, or `NotAMessage` if the value isn't a message. `Memory` is always allowed, and other
+-- errors never.
 abbrev pub HasMeaning : Data → Result Incoming RpcFault → Type 0
 HasMeaning d (Ok incoming) = meaning_of d ≡ message_view incoming
 HasMeaning d (Err NotAMessage) = meaning_of d ≡ not_a_message
@@ -49,22 +49,25 @@ HasMeaning d (Err NotJson) = ⊥
 HasMeaning d (Err UnknownMethod) = ⊥
 HasMeaning d (Err BadParams) = ⊥
 
--- Holds if reading the content may have this result: `NotJson` if the content isn't JSON, otherwise
--- a result that `HasMeaning` allows for its JSON value. `Memory` is always allowed.
+-- States that reading this content may give this result. The result is `NotJson` if the content
+-- isn't JSON. Otherwise `HasMeaning` must hold for the content's JSON value and the result.
+-- `Memory` is always allowed.
 abbrev pub ReadsMessage : List ℕ → Result Incoming RpcFault → Type 0
 ReadsMessage content (Err NotJson) = ReadsContent content None
 ReadsMessage content (Err Memory) = Unit {0}
 ReadsMessage content r = (d : Data) × ReadsContent content (Some d) × HasMeaning d r
 
--- Returns the code's `DocumentPosition` as a value of the definitions.
+-- Translates the code's `DocumentPosition` into a `DocumentPlace`. The uri becomes bytes of UTF-8.
 abbrev pub document_place_view : DocumentPosition → DocumentPlace
 document_place_view place = record { uri = string_bytes place.uri; position = place.position }
 
--- Returns the code's list of requested kinds as texts, or None if all kinds are requested.
+-- Translates the code's list of requested kinds. Each kind becomes bytes of UTF-8. None means that
+-- all kinds are requested.
 abbrev pub kinds_view : Option (Vec (String Global) Global) → Option (List (List ℕ))
 kinds_view kinds = option_map (λ texts. map string_bytes texts.items) kinds
 
--- Returns the code's request as a request of the definitions.
+-- Translates the code's `ClientRequest` into the `ClientRequest` of the specs. Texts become bytes
+-- of UTF-8.
 abbrev pub request_view : called.ClientRequest → ClientRequest
 request_view (called.TheVariants.Initialize client) = initialize client
 request_view called.TheVariants.Shutdown = shutdown
@@ -77,8 +80,8 @@ request_view (called.TheVariants.CodeAction uri range only) =
     code_action (string_bytes uri) range (kinds_view only)
 request_view (called.TheVariants.Formatting uri indent) = formatting (string_bytes uri) indent
 
--- Holds if the code's result stands for `requested`, a request or an error of the definitions.
--- `Memory` is always allowed, and `NotJson` and `NotAMessage` never.
+-- States that the code's result agrees with `requested`, the request or error that the specs
+-- define. `Memory` is always allowed, and `NotJson` and `NotAMessage` never.
 abbrev pub ReadsClientRequest : Result ClientRequest RpcFault → Result called.ClientRequest RpcFault → Type 0
 ReadsClientRequest requested (Ok call) = requested ≡ Ok (request_view call)
 ReadsClientRequest requested (Err UnknownMethod) = requested ≡ Err UnknownMethod
@@ -87,7 +90,8 @@ ReadsClientRequest requested (Err Memory) = Unit {0}
 ReadsClientRequest requested (Err NotJson) = ⊥
 ReadsClientRequest requested (Err NotAMessage) = ⊥
 
--- Returns the code's notification as a notification of the definitions.
+-- Translates the code's `ClientNotification` into a `Notification`. Uris become bytes of UTF-8, and
+-- texts of documents become characters.
 abbrev pub notification_view : noted.ClientNotification → Notification
 notification_view noted.TheVariants.Exit = exits
 notification_view (noted.TheVariants.Open uri version text) =
@@ -98,8 +102,8 @@ notification_view (noted.TheVariants.Close uri) = closes (string_bytes uri)
 notification_view (noted.TheVariants.Unreadable uri) = unreadable (option_map string_bytes uri)
 notification_view noted.TheVariants.Other = other
 
--- Holds if the code's result stands for the notification with this method and these params.
--- `Memory` is always allowed, and other errors never.
+-- States that the code's result is the notification with this method and these params. `Memory` is
+-- always allowed, and other errors never.
 abbrev pub ReadsNotification : List ℕ → Data → Result noted.ClientNotification RpcFault → Type 0
 ReadsNotification method params (Ok note) = notification_by_method method params ≡ notification_view note
 ReadsNotification method params (Err Memory) = Unit {0}

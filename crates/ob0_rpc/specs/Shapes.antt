@@ -1,4 +1,5 @@
--- Defines the written messages, as JSON values. Members are in byte order of their names.
+-- Defines the JSON values of the messages that the server writes. The members of an object are in
+-- byte order of their names.
 -- Rule: docs/PROTOCOL.md, JSON shapes 2; JSON-RPC 2.0, response object.
 use Rattle.std.specs.Prelude.{ℕ, ℤ, List, codes, string_bytes}
 use Rattle.serde_json.specs.Data.{Data, number, string, object, unsigned, member, no_members}
@@ -24,7 +25,7 @@ result_message id value =
     object (member (codes "id") id
     (member (codes "jsonrpc") jsonrpc_version (member (codes "result") value no_members)))
 
--- Returns the error in a refusal, {"code":c,"message":m}.
+-- Returns the error object of a refused request, {"code":c,"message":m}.
 abbrev pub error_value : ℤ → List ℕ → Data
 error_value code said =
     object

@@ -1,16 +1,16 @@
--- Defines the form in which a message is written.
+-- Defines the text in which a message is written.
 -- Rule: docs/PROTOCOL.md, JSON shapes 1.
 use Rattle.std.specs.Prelude.{◌≡◌, ◌≤◌, ℕ, List, Some}
 use Rattle.serde_json.specs.Data.{Data, depth}
 use Rattle.serde_json.specs.Written.{compact_text}
 use Rattle.ob0_rpc.specs.Messages.{ReadsContent}
 
--- Holds if these bytes are the message's compact text, and read back as the message.
+-- States that these bytes are the message's compact text, and that they read back as the message.
 pub record Writes (message : Data) (bytes : List ℕ) : Type 0 where
   pub text : bytes ≡ compact_text message
   pub reads : ReadsContent bytes (Some message)
 
--- Holds if a message can contain this value: the value's nesting is at most 126, and the message
--- adds a level.
+-- States that a message can contain this value. The value is nested at most 126 deep, because a
+-- message may be nested 127 deep and adds one level.
 pub record CanBeSent (value : Data) : Type 0 where
   pub shallow : depth value ≤ 126

@@ -1,10 +1,10 @@
 //! Reads the changes of a document from the params of a notification.
 //!
-//! The text of a change isn't copied: the params are moved out of the message, and the text out of
-//! the params. This happens last, after everything that is borrowed from the same map has been
-//! read. A uri and a method are copied, because they are short and the value that contains them is
-//! still needed. A range that is null counts as absent: the change replaces the whole text. If a
-//! range can't be read, the whole notification can't be read.
+//! The text of a change isn't copied. The params are moved out of the message, and the text is
+//! moved out of the params. A member is moved out of an object only after the other members of the
+//! object have been read. A uri and a method are copied, because they are short and the value that
+//! contains them is still needed. A range that is null counts as absent: the change replaces the
+//! whole text. If a range can't be read, the whole notification can't be read.
 ghost use Rattle.std.specs.Prelude.{◌≡◌, IfOk, codes, option_and_then, option_map, map};
 ghost use Rattle.ob0_text.specs.OpenDocuments.{text_change_of};
 ghost use Rattle.serde_json.specs.Find.{get, as_array};
@@ -16,7 +16,8 @@ use ob0_text::{Change, Range};
 use serde_json::Value;
 use std::alloc::{AllocError, Global};
 
-/// Returns the changes in params, or None if the list or one of its entries can't be read.
+/// Returns the changes in the list `contentChanges` of params, in order. Returns None if the list
+/// or one of its entries can't be read.
 pub fn read_changes(alloc: Global, params: Value) -> Result<Option<Vec<Change>>, AllocError>
     ensures { IfOk result (λ found. option_map (λ cs. map text_change_of cs.items) found
         ≡ changes_in (view params)) }
@@ -34,7 +35,8 @@ pub fn read_changes(alloc: Global, params: Value) -> Result<Option<Vec<Change>>,
     Ok(Some(changes))
 }
 
-/// Moves the list of changes out of params. Returns None if there is no such list.
+/// Moves the entries of the list `contentChanges` out of params. Returns None if there is no such
+/// list.
 fn into_content_changes(params: Value) -> Option<Vec<Value>>
     ensures { option_map (λ v. items_view v.items) result
         ≡ option_and_then as_array (get (codes "contentChanges") (view params)) }
@@ -42,7 +44,7 @@ fn into_content_changes(params: Value) -> Option<Vec<Value>>
     into_list(into_member(params, "contentChanges")?)
 }
 
-/// Moves the items out of a list. Returns None if the value isn't a list.
+/// Moves the items out of a JSON list. Returns None if the value isn't a list.
 fn into_list(value: Value) -> Option<Vec<Value>>
     ensures { option_map (λ v. items_view v.items) result ≡ as_array (view value) }
 {
@@ -56,8 +58,8 @@ fn into_list(value: Value) -> Option<Vec<Value>>
     }
 }
 
-/// Reads an entry of the list as a change of a range or of the whole text. Returns None if the
-/// entry can't be read.
+/// Reads an entry of `contentChanges` as a change of a range or of the whole text. Returns None if
+/// the entry can't be read.
 fn read_content_change(entry: Value) -> Option<Change>
     ensures { option_map text_change_of result ≡ content_change (view entry) }
 {
@@ -66,8 +68,8 @@ fn read_content_change(entry: Value) -> Option<Change>
     Some(Change { range, text })
 }
 
-/// Returns the range of a change. `Some(None)` means that the change has no range, and `None` that
-/// the range can't be read.
+/// Reads the member `range` of a change. `Some(None)` means that the change has no range. `None`
+/// means that the range can't be read.
 fn read_range(member: Option<&Value>) -> Option<Option<Range>>
     ensures { result ≡ range_of_change (option_map (λ v. view v.now) member.entry) }
 {

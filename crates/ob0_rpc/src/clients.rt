@@ -1,6 +1,7 @@
 //! Reads the capabilities of clients.
 //!
-//! A capability counts as absent if its value, or an object on the path to it, has another JSON type than expected.
+//! A capability counts as absent if its value, or an object on the path to it, has another JSON
+//! type than expected.
 ghost use Rattle.std.specs.Prelude.{◌≡◌, ◌∷◌, [], codes, is_some, option_map, option_and_then};
 ghost use Rattle.serde_json.specs.Find.{as_object, as_str};
 ghost use Rattle.serde_json.specs.View.{view, items_view};
@@ -21,8 +22,8 @@ pub struct ClientFeatures {
     pub accepts_document_changes: bool,
 }
 
-/// Returns a client's capabilities from the params of `initialize`. Members with another JSON type than expected count
-/// as absent.
+/// Returns the capabilities that a client announces in the params of `initialize`. Members with
+/// another JSON type than expected count as absent.
 pub fn client_features(params: &Value) -> ClientFeatures
     ensures { result ≡ client_in (view params.now) }
 {
@@ -79,7 +80,8 @@ fn position_encodings(params: &Value) -> Option<&Value>
         .get("positionEncodings")
 }
 
-/// Returns true if the member is the JSON value `true`, and false if it is absent or anything else.
+/// Returns whether the member is the JSON value `true`. Any other member, and an absent member,
+/// gives false.
 fn is_true(member: Option<&Value>) -> bool
     ensures { result ≡ truth_of (option_map (λ v. view v.now) member.entry) }
 {
@@ -89,7 +91,7 @@ fn is_true(member: Option<&Value>) -> bool
     }
 }
 
-/// Returns true if the member is an object.
+/// Returns whether the member is a JSON object.
 fn is_object(member: Option<&Value>) -> bool
     ensures { result
         ≡ is_some (option_and_then as_object (option_map (λ v. view v.now) member.entry)) }
@@ -112,7 +114,7 @@ fn offers_utf8(params: &Value) -> bool
     }
 }
 
-/// Returns true if one of the items is this text.
+/// Returns whether one of the items is this text.
 fn has_text(items: &[Value], text: &str) -> bool
     ensures { result ≡ has_text text.now (items_view items.now) }
 {
@@ -124,7 +126,7 @@ fn has_text(items: &[Value], text: &str) -> bool
     false
 }
 
-/// Returns true if the item is this text.
+/// Returns whether the item is this text.
 fn is_equal_text(item: &Value, text: &str) -> bool
     ensures { result ≡ is_that_text text.now (as_str (view item.now)) }
 {

@@ -1,4 +1,4 @@
-//! Reads the content of a message into its id, method and params. The params stay a JSON value.
+//! Reads the content of a message: the id, the method and the params. The params stay a JSON value.
 ghost use Rattle.std.specs.Prelude.{◌≡◌, true, false, IfOk, MatchOption};
 ghost use Rattle.serde_json.specs.View.{view, number_view};
 ghost use Rattle.serde_json.specs.Data.{number};
@@ -46,7 +46,7 @@ impl RpcFault {
     ghost use Rattle.std.specs.Prelude.{◌≡◌};
     ghost use Rattle.ob0_rpc.specs.Faults.{error_code, error_text};
 
-    /// Returns the code of the error that reports this fault (JSON-RPC 2.0).
+    /// Returns the JSON-RPC 2.0 error code that reports this fault.
     pub fn code(self) -> i32
         ensures { result ≡ error_code self }
     {
@@ -95,8 +95,9 @@ impl<T: Drop> From<AllocFailed<T>> for RpcFault {
     }
 }
 
-/// Reads a content as a message. The content must be one JSON value in UTF-8, nested at most 127
-/// deep.
+/// Reads the content of one message: the bytes after the header. The content must be one JSON value
+/// in UTF-8, nested at most 127 deep. Otherwise the fault is `NotJson`. If the JSON value isn't a
+/// message, the fault is `NotAMessage`.
 pub fn read(alloc: Global, content: &[u8]) -> Result<Incoming, RpcFault>
     ensures { ReadsMessage content.now result }
 {
@@ -135,7 +136,7 @@ fn interpret_message(alloc: Global, message: Value) -> Result<Incoming, RpcFault
     Ok(Incoming::Request(id, method, into_params(message)))
 }
 
-// Moves the params out of a message, or returns null if they are absent.
+// Moves the params out of a message. Returns null if the message has no params.
 fn into_params(message: Value) -> Value
     ensures { view result ≡ params_of (view message) }
 {
@@ -145,7 +146,7 @@ fn into_params(message: Value) -> Value
     }
 }
 
-// Returns the value as an id, or None if the value is neither a whole number of 64 bits nor a
+// Reads a JSON value as an id. Returns None if the value is neither a whole number of 64 bits nor a
 // text.
 fn read_id(alloc: Global, value: &Value) -> Result<Option<Id>, AllocError>
     ensures { IfOk result (λ found. MatchOption found
@@ -161,7 +162,7 @@ fn read_id(alloc: Global, value: &Value) -> Result<Option<Id>, AllocError>
     }
 }
 
-/// Returns the number as an id, or None if it isn't a whole number of 64 bits.
+/// Reads a JSON number as an id. Returns None if the number isn't a whole number of 64 bits.
 fn id_of_number(n: &Number) -> Option<Id>
     ensures { MatchOption result
         (is_id (number (number_view n.now)) ≡ false)

@@ -14,16 +14,16 @@ ghost use Rattle.ob0_rpc.specs.Appending.{Appends, AppendsEach, AppendsItem, or_
 
 use std::alloc::AllocError;
 
-/// The greatest capacity in bytes that is reserved at once for the items of a list.
+/// The most bytes that are reserved at once for the items of a list.
 const MAX_RESERVED_BYTES: usize = 1 << 26;
 
-/// A type whose values are written as JSON. If a writing function fails, it may leave any bytes in
+/// A type whose values are written as JSON. A writing function that fails may leave any bytes in
 /// `out`.
 pub trait WriteJson {
-    /// Returns the JSON value as which a value of this type is written.
+    /// Returns the JSON value that is written for a value of this type.
     ghost value: { Self → Data };
 
-    /// Appends the value's text to `out`. Fails only if an allocation fails.
+    /// Appends the text of the JSON value to `out`. Fails only if an allocation fails.
     fn write(&self, out: &mut Vec<u8>) -> Result<(), AllocError>
         ensures { OnOk result (Appends (value self.now) out.old.items out.new.items) };
 }
@@ -114,8 +114,9 @@ fn write_list_items<W: WriteJson>(out: &mut Vec<u8>, values: &[W]) -> Result<(),
     Ok(())
 }
 
-/// Writes an item of a list of `count` items, after a comma if `later` is true. If `later` is
-/// false, reserves capacity for the other items, as if each were about as long as this one.
+/// Writes one item of a list of `count` items. If `later` is true, a comma is written first. If
+/// `later` is false, this item is the first. Capacity is then reserved for the other items, as if
+/// each were about as long as this one.
 fn write_item_and_reserve<W: WriteJson>(
     out: &mut Vec<u8>,
     count: usize,
@@ -150,7 +151,8 @@ pub fn begin_list(out: &mut Vec<u8>) -> Result<(), AllocError>
     write_piece(out, b"[")
 }
 
-/// Writes an item of a list, after a comma if `later` is true.
+/// Writes one item of a list. If `later` is true, the item isn't the first, and a comma is written
+/// before it.
 #[inline(always)]
 pub fn write_item<W: WriteJson>(out: &mut Vec<u8>, later: bool, value: &W) -> Result<(), AllocError>
     ensures { OnOk result (AppendsItem later (W.value value.now) out.old.items out.new.items) }
@@ -175,7 +177,7 @@ pub(crate) fn write_piece(out: &mut Vec<u8>, piece: &[u8]) -> Result<(), AllocEr
     out.extend_from_slice(piece)
 }
 
-/// Writes a text as a JSON string, in quotes. Characters that need it are written as escapes.
+/// Writes a text as a JSON string, in quotes. Characters that need an escape are escaped.
 fn write_json_string(out: &mut Vec<u8>, text: &str) -> Result<(), AllocError>
     ensures { OnOk result (Appends (string text.now) out.old.items out.new.items) }
 {
@@ -184,7 +186,7 @@ fn write_json_string(out: &mut Vec<u8>, text: &str) -> Result<(), AllocError>
     write_piece(out, b"\"")
 }
 
-/// Writes the bytes of a text. Characters that need it are written as escapes.
+/// Writes the bytes of a text without quotes. Characters that need an escape are escaped.
 pub(crate) fn write_escaped(out: &mut Vec<u8>, text: &[u8]) -> Result<(), AllocError>
     ensures { OnOk result (out.new.items ≡ out.old.items ++ escape text.now) }
 {
@@ -194,7 +196,7 @@ pub(crate) fn write_escaped(out: &mut Vec<u8>, text: &[u8]) -> Result<(), AllocE
     write_escaped_bytes(out, text)
 }
 
-/// Returns whether the text can be written unchanged: true only if no byte needs an escape.
+/// Returns whether the text can be written unchanged because no byte needs an escape.
 fn needs_no_escape(text: &[u8]) -> bool
     ensures plain { result ≡ true → escape text.now ≡ text.now }
 {
@@ -206,7 +208,7 @@ fn needs_no_escape(text: &[u8]) -> bool
     true
 }
 
-/// Writes the bytes of a text one by one, as escapes if necessary.
+/// Writes the bytes of a text one by one, each as an escape if it needs one.
 fn write_escaped_bytes(out: &mut Vec<u8>, text: &[u8]) -> Result<(), AllocError>
     ensures { OnOk result (out.new.items ≡ out.old.items ++ escape text.now) }
 {
@@ -216,7 +218,7 @@ fn write_escaped_bytes(out: &mut Vec<u8>, text: &[u8]) -> Result<(), AllocError>
     Ok(())
 }
 
-/// Writes a byte of a text. Quotes, backslashes and control characters are written as escapes.
+/// Writes one byte of a text. A quote, a backslash or a control character is written as an escape.
 fn write_escaped_byte(out: &mut Vec<u8>, byte: u8) -> Result<(), AllocError>
     ensures { OnOk result (out.new.items ≡ out.old.items ++ escape_byte byte) }
 {
@@ -241,7 +243,8 @@ fn write_escaped_byte(out: &mut Vec<u8>, byte: u8) -> Result<(), AllocError>
     Ok(())
 }
 
-/// Returns the letter of a byte's short escape, or 0 if it has none.
+/// Returns the character after the backslash in the short escape of a byte: `n` for a line feed.
+/// Returns 0 if the byte has no short escape.
 fn short_escape_letter(byte: u8) -> u8
     ensures { result ≡ escape_letter byte }
 {
@@ -256,7 +259,7 @@ fn short_escape_letter(byte: u8) -> u8
     }
 }
 
-/// Returns the hexadecimal digit of a value below 16.
+/// Returns the hexadecimal digit of a value below 16, as an ASCII character.
 fn hexadecimal_digit(value: u8) -> u8
     requires { value < 16 }
     ensures { result ≡ digit_char value }

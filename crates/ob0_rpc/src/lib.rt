@@ -19,7 +19,7 @@ pub use incoming::{Id, Incoming, RpcFault, read};
 pub use json_text::{WriteJson, begin_list, end_list, write_item};
 pub use members::{range_in, text_in};
 pub use notifications::{ClientNotification, notice};
-/// The short name of a client's notification.
+/// A short name for `ClientNotification`.
 pub use notifications::ClientNotification as Note;
 pub use objects::{OneMemberObject, end_object, write_first_member, write_next_member};
 pub use outgoing::{
@@ -28,6 +28,6 @@ pub use outgoing::{
 };
 pub use ranges::{write_piece_before, write_range_before};
 pub use requests::{ClientRequest, DocumentPosition, request};
-/// The short name of a client's request.
+/// A short name for `ClientRequest`.
 pub use requests::ClientRequest as Call;
 pub use values::{notification, result};

@@ -1,4 +1,4 @@
-//! Reads the members of params and results.
+//! Reads the members of JSON objects, such as params, and the positions and ranges in them.
 ghost use Rattle.std.specs.Prelude.{◌≡◌, option_map, string_bytes};
 ghost use Rattle.std.specs.Str.{chars};
 ghost use Rattle.serde_json.specs.Find.{as_str, get};
@@ -8,7 +8,7 @@ ghost use Rattle.ob0_rpc.specs.Members.{is_absent_or_null as absent, text_member
 use ob0_text::{Position, Range};
 use serde_json::Value;
 
-/// Returns true if a member is absent or null.
+/// Returns whether a member is absent or null.
 pub fn is_absent_or_null(member: Option<&Value>) -> bool
     ensures { result ≡ absent (option_map (λ v. view v.now) member.entry) }
 {
@@ -18,58 +18,62 @@ pub fn is_absent_or_null(member: Option<&Value>) -> bool
     }
 }
 
-/// Returns the text of a member, or None if the member is absent or isn't a text.
+/// Returns the text of the member `name`, or None if the member is absent or isn't a text.
 pub fn text_in<'v>(value: &'v Value, name: &str) -> Option<&'v str>
     ensures { option_map (λ s. s.now) result ≡ text_member name.now (view value.now) }
 {
     value.get(name)?.as_str()
 }
 
-/// Returns the truth value of a member, or None if the member is absent or isn't a truth value.
+/// Returns the value of the boolean member `name`, or None if the member is absent or isn't a
+/// boolean.
 pub fn bool_in(value: &Value, name: &str) -> Option<bool>
     ensures { result ≡ bool_member name.now (view value.now) }
 {
     value.get(name)?.as_bool()
 }
 
-/// Returns the number of a member, or None if the member is absent or isn't a whole number from 0
-/// to 2^64-1.
+/// Returns the value of the member `name`, a whole number from 0 to 2^64-1. Returns None if the
+/// member is absent or isn't such a number.
 pub fn unsigned_in(value: &Value, name: &str) -> Option<u64>
     ensures { result ≡ unsigned_member name.now (view value.now) }
 {
     value.get(name)?.as_u64()
 }
 
-/// Returns the uri of the document in params, or None if it can't be read.
+/// Returns the uri of the document in params (`textDocument.uri`). Returns None if the uri is
+/// missing or isn't a text.
 pub fn uri_of(params: &Value) -> Option<&str>
     ensures { option_map (λ s. s.now) result ≡ document_uri (view params.now) }
 {
     params.get("textDocument")?.get("uri")?.as_str()
 }
 
-/// Returns the version of the document in params, or None if it isn't a signed whole number of 64
-/// bits.
+/// Returns the version of the document in params (`textDocument.version`). Returns None if the
+/// version is missing or isn't a signed whole number of 64 bits.
 pub fn version_of(params: &Value) -> Option<i64>
     ensures { result ≡ document_version (view params.now) }
 {
     params.get("textDocument")?.get("version")?.as_i64()
 }
 
-/// Moves the text of the document out of params. Returns None if it can't be read.
+/// Moves the text of the document (`textDocument.text`) out of params. Returns None if the text is
+/// missing or isn't a JSON text.
 pub fn into_document_text(params: Value) -> Option<String>
     ensures { option_map (λ s. chars (string_bytes s)) result ≡ document_text (view params) }
 {
     into_text_member(into_member(params, "textDocument")?, "text")
 }
 
-/// Moves the text of a member out of a value. Returns None if the member is absent or isn't a text.
+/// Moves the text of the member `name` out of a value. Returns None if the member is absent or
+/// isn't a text.
 pub fn into_text_member(value: Value, name: &str) -> Option<String>
     ensures { option_map string_bytes result ≡ text_member name.now (view value) }
 {
     into_text(into_member(value, name)?)
 }
 
-/// Moves a member out of a value. Returns None if there is no such member.
+/// Moves the member `name` out of a value. Returns None if the value has no such member.
 pub fn into_member(value: Value, name: &str) -> Option<Value>
     ensures { option_map view result ≡ get name.now (view value) }
 {
@@ -98,7 +102,7 @@ fn into_text(value: Value) -> Option<String>
 }
 
 /// Reads a value as a position: a line and a character, both whole numbers from 0 to 2^64-1.
-/// Returns None if one of them can't be read.
+/// Returns None if either can't be read.
 pub fn position_of(value: &Value) -> Option<Position>
     ensures { result ≡ json_position (view value.now) }
 {
@@ -107,15 +111,15 @@ pub fn position_of(value: &Value) -> Option<Position>
     Some(Position { line, character })
 }
 
-/// Returns the position of a member, or None if it can't be read.
+/// Returns the position in the member `name`, or None if the member is absent or isn't a position.
 pub fn position_in(value: &Value, name: &str) -> Option<Position>
     ensures { result ≡ position_member name.now (view value.now) }
 {
     position_of(value.get(name)?)
 }
 
-/// Reads a value as a range: a start and an end, which may be before the start. Returns None if one
-/// of them can't be read.
+/// Reads a value as a range: a start and an end. The end may lie before the start. Returns None if
+/// either can't be read.
 pub fn range_of(value: &Value) -> Option<Range>
     ensures { result ≡ json_range (view value.now) }
 {
@@ -124,7 +128,7 @@ pub fn range_of(value: &Value) -> Option<Range>
     Some(Range { start, end })
 }
 
-/// Returns the range of a member, or None if it can't be read.
+/// Returns the range in the member `name`, or None if the member is absent or isn't a range.
 pub fn range_in(value: &Value, name: &str) -> Option<Range>
     ensures { result ≡ range_member name.now (view value.now) }
 {

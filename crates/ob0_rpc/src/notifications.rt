@@ -1,4 +1,4 @@
-//! Reads a client's notifications.
+//! Reads the notifications of a client from their methods and params.
 ghost use Rattle.std.specs.Prelude.{◌≡◌, IfOk};
 ghost use Rattle.serde_json.specs.View.{view};
 ghost use Rattle.ob0_rpc.specs.Members.{document_uri, document_version, document_text};
@@ -29,15 +29,16 @@ pub enum ClientNotification {
     Close {
         uri: String,
     },
-    /// An open, change or close whose params can't be read.
+    /// An open, change or close whose params can't be read. `uri` is None if not even the uri can
+    /// be read.
     Unreadable {
         uri: Option<String>,
     },
     Other,
 }
 
-/// Returns the notification with this method and these params. Texts of documents are moved out of
-/// the params, not copied. The only error is a failed allocation.
+/// Reads a notification from its method and its params. Texts of documents are moved out of the
+/// params, not copied. The only possible fault is `Memory`.
 pub fn notice(alloc: Global, method: &str, params: Value) -> Result<ClientNotification, RpcFault>
     ensures { ReadsNotification method.now (view params) result }
 {

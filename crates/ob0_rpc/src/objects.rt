@@ -1,4 +1,5 @@
-//! Writes objects member by member. Names are written without escapes, so they must not need any.
+//! Writes JSON objects member by member. `write_first_member` and `write_next_member` write a
+//! member's name unchanged, so the name must not need escapes.
 ghost use Rattle.std.specs.Prelude.{◌≡◌, ◌++◌, [], ◌∷◌, OnOk};
 ghost use Rattle.serde_json.specs.Data.{member, no_members, object};
 ghost use Rattle.ob0_rpc.specs.Appending.{AppendsMember};
@@ -46,7 +47,7 @@ pub fn end_object(out: &mut Vec<u8>) -> Result<(), AllocError>
     write_piece(out, b"}")
 }
 
-/// An object with one member. The member's name may need escapes.
+/// A JSON object with exactly one member. The member's name may need escapes.
 #[derive(Drop)]
 pub struct OneMemberObject<'a, W> {
     pub key: &'a str,

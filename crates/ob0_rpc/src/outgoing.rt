@@ -10,7 +10,7 @@ use crate::json_text::WriteJson;
 use crate::objects::{end_object, write_first_member, write_next_member};
 use std::alloc::{AllocError, Global};
 
-/// The answer to a request.
+/// The answer to a request that succeeds: the id of the request, and the result.
 #[derive(Drop)]
 pub struct Response<'a, W> {
     pub id: &'a Id,
@@ -28,7 +28,7 @@ impl<'a, W: WriteJson> WriteJson for Response<'a, W> {
     }
 }
 
-/// The error in a refusal: its code and its message.
+/// The error that an error response contains: a code and a message.
 #[derive(Drop)]
 pub struct ResponseError<'a> {
     pub code: i32,
@@ -45,8 +45,8 @@ impl<'a> WriteJson for ResponseError<'a> {
     }
 }
 
-/// The refusal of a request, or of a content that isn't a message. In the second case the id is
-/// None.
+/// An error response. It refuses a request, or a content that isn't a message. `id` is None if the
+/// content isn't a message.
 #[derive(Drop)]
 pub struct ErrorResponse<'a> {
     pub error: ResponseError<'a>,
@@ -103,8 +103,8 @@ impl<'a> WriteJson for &'a Id {
     }
 }
 
-/// Returns the text of a message. If the message is nested at most 127 deep, the text reads back as
-/// that message.
+/// Returns the JSON text of a message. If the message is nested at most 127 deep, the text reads
+/// back as that message.
 pub fn content_of<W: WriteJson>(alloc: Global, message: &W) -> Result<Vec<u8>, AllocError>
     ensures { IfOk result
         (λ bytes. depth (W.value message.now) ≤ 127 → Writes (W.value message.now) bytes.items) }
@@ -114,8 +114,8 @@ pub fn content_of<W: WriteJson>(alloc: Global, message: &W) -> Result<Vec<u8>, A
     Ok(out)
 }
 
-/// Returns the text of the answer to a request. If the value is nested at most 126 deep, the text
-/// reads back as that answer.
+/// Returns the JSON text of the answer to a request, with this result. If the result is nested at
+/// most 126 deep, the text reads back as that answer.
 pub fn answer_text<W: WriteJson>(alloc: Global, id: &Id, value: &W) -> Result<Vec<u8>, AllocError>
     ensures { IfOk result (λ bytes. CanBeSent (W.value value.now)
         → Writes (result_message (id_data id.now) (W.value value.now)) bytes.items) }
@@ -123,7 +123,7 @@ pub fn answer_text<W: WriteJson>(alloc: Global, id: &Id, value: &W) -> Result<Ve
     content_of(alloc, &Response { id, result: value })
 }
 
-/// Returns the text of an error response. The id is None if the refused content isn't a message.
+/// Returns the JSON text of an error response. `id` is None if the refused content isn't a message.
 pub fn error(
     alloc: Global,
     id: Option<&Id>,
@@ -138,8 +138,8 @@ pub fn error(
     content_of(alloc, &ErrorResponse { error, id })
 }
 
-/// Returns the text of a notification. If the params are nested at most 126 deep, the text reads
-/// back as that notification.
+/// Returns the JSON text of a notification. If the params are nested at most 126 deep, the text
+/// reads back as that notification.
 pub fn notification_of<W: WriteJson>(
     alloc: Global,
     method: &str,

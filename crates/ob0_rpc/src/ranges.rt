@@ -1,8 +1,9 @@
-//! Writes positions, ranges and edits. The text of a range is built backwards, from its last byte
-//! to its first. So each digit is written directly into its final place.
+//! Writes positions, ranges and edits as JSON. The text of a range is built backwards, from its
+//! last byte to its first. A number yields its last digit first, so each digit is written directly
+//! into its final place.
 //!
 //! The text of a range is built in a fixed array on the stack and copied once. If it were appended
-//! piece by piece, each of its sixteen pieces would cost a capacity check and a copy.
+//! piece by piece, each piece would cost a capacity check and a copy.
 
 ghost use Rattle.std.specs.Prelude.{◌≡◌, ◌++◌, ◌∷◌, [], ◌+◌, ◌<◌, ◌≤◌, ◌^◌, OnOk, codes, decimal, drop, length};
 ghost use Rattle.serde_json.specs.Written.{compact_text};
@@ -15,7 +16,8 @@ use itoa::write_digits;
 use ob0_text::{Edit, Position, Range};
 use std::alloc::AllocError;
 
-/// The length in bytes of a buffer. A range's text and the text around it always fit into it.
+/// The size in bytes of the buffer in which the text of a range is built. The range takes at most
+/// 160 bytes. The other 16 are for the text around the range in an edit.
 const RANGE_CAPACITY: usize = 176;
 
 impl WriteJson for Position {
@@ -46,7 +48,8 @@ impl WriteJson for Edit {
     }
 }
 
-/// Writes the part of an edit that follows its new text: the range and the closing bracket.
+/// Writes the part of an edit that follows its new text: the closing quote of the new text, the
+/// member `range` and the closing bracket.
 fn write_edit_range(out: &mut Vec<u8>, start: Position, end: Position) -> Result<(), AllocError>
     ensures text { OnOk result (out.new.items ≡ out.old.items
         ++ (codes "\",\"range\":" ++ (compact_text (range_value start end) ++ 125 ∷ []))) }
@@ -59,7 +62,7 @@ fn write_edit_range(out: &mut Vec<u8>, start: Position, end: Position) -> Result
     write_piece(out, &buffer[at..])
 }
 
-/// Writes a range.
+/// Appends the JSON text of a range to `out`.
 fn write_range(out: &mut Vec<u8>, start: Position, end: Position) -> Result<(), AllocError>
     ensures { OnOk result (Appends (range_value start end) out.old.items out.new.items) }
 {
@@ -68,8 +71,8 @@ fn write_range(out: &mut Vec<u8>, start: Position, end: Position) -> Result<(), 
     write_piece(out, &buffer[at..])
 }
 
-/// Writes a range's text into the buffer so that it ends right before the index `at`. Returns the index at which the
-/// text begins.
+/// Writes a range's JSON text into the buffer. The text ends right before the index `at`. Returns
+/// the index of the first byte written.
 pub fn write_range_before(buffer: &mut [u8], at: usize, start: Position, end: Position) -> usize
     requires { (160 ≤ at) × (at ≤ length buffer.old) }
     ensures within { (at ≤ result + 160) × (result ≤ at) }
@@ -84,8 +87,8 @@ pub fn write_range_before(buffer: &mut [u8], at: usize, start: Position, end: Po
     write_piece_before(buffer, at_end, b"{\"end\":")
 }
 
-/// Writes a position's text into the buffer so that it ends right before the index `at`. Returns the index at which the
-/// text begins.
+/// Writes a position's JSON text into the buffer. The text ends right before the index `at`.
+/// Returns the index of the first byte written.
 fn write_position_before(buffer: &mut [u8], at: usize, position: Position) -> usize
     requires { (62 ≤ at) × (at ≤ length buffer.old) }
     ensures within { (at ≤ result + 62) × (result ≤ at) }
@@ -100,8 +103,8 @@ fn write_position_before(buffer: &mut [u8], at: usize, position: Position) -> us
     write_piece_before(buffer, at_character, b"{\"character\":")
 }
 
-/// Writes a whole number's digits into the buffer so that they end right before the index `at`. Returns the index at
-/// which they begin.
+/// Writes the decimal digits of `count` into the buffer. The digits end right before the index
+/// `at`. Returns the index of the first digit.
 #[inline(always)]
 fn write_digits_before(buffer: &mut [u8], at: usize, count: u64) -> usize
     requires { (20 ≤ at) × (at ≤ length buffer.old) }
@@ -112,8 +115,8 @@ fn write_digits_before(buffer: &mut [u8], at: usize, count: u64) -> usize
     write_digits(count, buffer, at)
 }
 
-/// Writes a piece of text into the buffer so that it ends right before the index `at`. Returns the index at which the
-/// piece begins.
+/// Writes a piece of text into the buffer. The piece ends right before the index `at`. Returns the
+/// index at which the piece begins.
 #[inline(always)]
 pub fn write_piece_before(buffer: &mut [u8], at: usize, piece: &[u8]) -> usize
     requires { (length piece.now ≤ at) × (at ≤ length buffer.old) }

@@ -1,4 +1,4 @@
-//! Reads a client's requests (LSP 3.17) by method and params.
+//! Reads the requests of a client (LSP 3.17) from their methods and params.
 ghost use Rattle.std.specs.Prelude.{◌≡◌, IfOk, option_map, option_and_then, map, string_bytes, codes};
 ghost use Rattle.serde_json.specs.Find.{get};
 ghost use Rattle.serde_json.specs.View.{view, items_view};
@@ -50,8 +50,8 @@ pub enum ClientRequest {
     },
 }
 
-/// Returns the request with this method and these params, or an error. The params of an initialize
-/// request must be an object; a shutdown request accepts any params.
+/// Reads a request from its method and its params. The fault is `UnknownMethod` or `BadParams` if
+/// that fails. The params of `initialize` must be an object. `shutdown` accepts any params.
 pub fn request(alloc: Global, method: &str, params: &Value) -> Result<ClientRequest, RpcFault>
     ensures { ReadsClientRequest (request_by_method method.now (view params.now)) result }
 {
@@ -64,7 +64,8 @@ pub fn request(alloc: Global, method: &str, params: &Value) -> Result<ClientRequ
     }
 }
 
-/// Returns the request about a document with this method and these params, or an error.
+/// Reads a request about a document from its method and its params. The fault is `UnknownMethod` or
+/// `BadParams` if that fails.
 fn read_document_request(
     alloc: Global,
     method: &str,
@@ -185,7 +186,8 @@ fn read_formatting(alloc: Global, params: &Value) -> Result<ClientRequest, RpcFa
     Ok(ClientRequest::Formatting { uri, indent })
 }
 
-/// Returns the document and the position in params, or None if one of the two can't be read.
+/// Returns the document's uri and the position that params contain. Returns None if either can't be
+/// read.
 fn document_position(alloc: Global, params: &Value) -> Result<Option<DocumentPosition>, AllocError>
     ensures { IfOk result (λ found. option_map document_place_view found ≡ document_place_of (view params.now)) }
 {
@@ -199,7 +201,8 @@ fn document_position(alloc: Global, params: &Value) -> Result<Option<DocumentPos
     }
 }
 
-/// Returns the value of `includeDeclaration` in params, or None if it can't be read.
+/// Returns the member `includeDeclaration` of the object `context` in params. Returns None if the
+/// object is missing or the member isn't a boolean.
 fn includes_declaration(params: &Value) -> Option<bool>
     ensures { result
         ≡ option_and_then (bool_member (codes "includeDeclaration"))
@@ -208,8 +211,8 @@ fn includes_declaration(params: &Value) -> Option<bool>
     bool_in(params.get("context")?, "includeDeclaration")
 }
 
-/// Returns the indentation that the formatting options in params request, or None if they can't be
-/// read.
+/// Returns the indentation that the object `options` in params requests. Returns None if the
+/// options can't be read.
 fn indent_of(params: &Value) -> Option<Indent>
     ensures { result ≡ option_and_then indent_in (get (codes "options") (view params.now)) }
 {
@@ -223,16 +226,16 @@ fn indent_of(params: &Value) -> Option<Indent>
     })
 }
 
-/// Returns the number of spaces for one level of indentation if `size` spaces are requested. It is
-/// at least 1 and at most [`MAX_INDENT`].
+/// Returns the number of spaces for one level of indentation. That is the requested number `size`,
+/// raised to 1 or lowered to [`MAX_INDENT`] if it lies outside that range.
 fn spaces_per_level(size: u64) -> u8
     ensures { result ≡ level_spaces size }
 {
     size.min(MAX_INDENT as u64).max(1) as u8
 }
 
-/// Returns the kinds of actions that a context requests. `Some(None)` means that all kinds are
-/// requested, and `None` that the context is missing or can't be read.
+/// Returns the kinds of code actions that the object `context` requests. `Some(None)` means that
+/// all kinds are requested. `None` means that the context is missing or can't be read.
 fn read_requested_kinds(
     alloc: Global,
     context: Option<&Value>,
@@ -249,8 +252,8 @@ fn read_requested_kinds(
     read_optional_texts(alloc, context.get("only"))
 }
 
-/// Returns the texts of the member `only`. `Some(None)` means that the member is absent or null,
-/// and `None` that the member or one of its items can't be read.
+/// Returns the texts of the member `only`, a list. `Some(None)` means that the member is absent or
+/// null. `None` means that the member or one of its items can't be read.
 fn read_optional_texts(
     alloc: Global,
     only: Option<&Value>,
@@ -273,7 +276,7 @@ fn read_optional_texts(
     }
 }
 
-/// Returns the texts of a list, or None if an item isn't a text.
+/// Returns the items of a list as texts, or None if an item isn't a text.
 fn texts_of(alloc: Global, items: &[Value]) -> Result<Option<Vec<String>>, AllocError>
     ensures { IfOk result (λ found. option_map (λ texts. map string_bytes texts.items) found
         ≡ texts_in (items_view items.now)) }

@@ -11,8 +11,8 @@ use crate::incoming::Id;
 use serde_json::{Value, json};
 use std::alloc::{AllocError, Global};
 
-/// Returns the text of the answer to a request. The text reads back as that answer if the value is
-/// nested at most 126 deep and has only whole numbers.
+/// Returns the JSON text of the answer to a request, with `value` as its result. The text reads
+/// back as that answer if `value` is nested at most 126 deep and has only whole numbers.
 pub fn result(alloc: Global, id: &Id, value: Value) -> Result<Vec<u8>, AllocError>
     ensures { IfOk result (λ bytes. has_float (view value) ≡ false
         → CanBeSent (view value)
@@ -22,8 +22,8 @@ pub fn result(alloc: Global, id: &Id, value: Value) -> Result<Vec<u8>, AllocErro
     text_of(alloc, &message)
 }
 
-/// Returns the text of a notification. The text reads back as that notification if the params are
-/// nested at most 126 deep and have only whole numbers.
+/// Returns the JSON text of a notification. The text reads back as that notification if `params`
+/// are nested at most 126 deep and have only whole numbers.
 pub fn notification(alloc: Global, method: &str, params: Value) -> Result<Vec<u8>, AllocError>
     ensures { IfOk result (λ bytes. has_float (view params) ≡ false
         → CanBeSent (view params)
@@ -33,7 +33,7 @@ pub fn notification(alloc: Global, method: &str, params: Value) -> Result<Vec<u8
     text_of(alloc, &message)
 }
 
-/// Returns the JSON value of the message that answers a request with this result.
+/// Returns the JSON value of the answer to a request, with `value` as its result.
 fn result_value(alloc: Global, id: &Id, value: Value) -> Result<Value, AllocError>
     ensures { IfOk result (λ v. view v ≡ result_message (id_data id.now) (view value)) }
 {
@@ -59,8 +59,8 @@ fn id_value(alloc: Global, id: &Id) -> Result<Value, AllocError>
     }
 }
 
-/// Returns the text of a message. The text reads back as the message if the message is nested at
-/// most 127 deep and has only whole numbers.
+/// Returns the JSON text of a message. The text reads back as the message if the message is nested
+/// at most 127 deep and has only whole numbers.
 fn text_of(alloc: Global, message: &Value) -> Result<Vec<u8>, AllocError>
     ensures { IfOk result (λ bytes. has_float (view message.now) ≡ false
         → depth (view message.now) ≤ 127

@@ -1,4 +1,4 @@
--- Converts what the machine returns to the output, the end and the run of a module.
+-- Converts the results of the machine to the output, the end and the run of a module.
 -- Rule: none; for contracts: what values of the code mean.
 use Rattle.std.specs.Prelude.{List, map}
 use Rattle.ob0_language_runs.specs.Runs.{Run, PrintedItem}
@@ -12,18 +12,18 @@ use Rattle.ob0_run_cells.specs.ActivationLaws as cells
 use Rattle.ob0_run_cells.specs.LoweredStatements.{written_of}
 use Rattle.ob0_run_cells.specs.Lowering.{end_of}
 
--- returns the item of a module's output for an item that the machine returns
+-- converts an item that the machine returns to an item of a module's output
 abbrev pub item_of : Item → PrintedItem
 item_of i = written_of (machine.item_of i)
 
--- returns the output of a module for a list of items that the machine returns
+-- converts the items that the machine returns to the output of a module
 abbrev pub output_items : List Item → List PrintedItem
 output_items is = map written_of (machine.output_items is)
 
--- returns the end of a module's run for an end that the machine returns
+-- converts an end that the machine returns to an end of a module's run
 abbrev pub meaning_of_end : End → values.End
 meaning_of_end e = end_of (outcomes.meaning_of_end e)
 
--- returns the run of a module for an outcome that the machine returns
+-- converts an outcome that the machine returns to a run of a module
 abbrev pub run_of : Outcome → Run
 run_of o = cells.run_of (outcomes.run_of o)

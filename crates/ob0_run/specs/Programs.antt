@@ -9,8 +9,9 @@ use Rattle.ob0_run_machine.specs.View.{program_of}
 use Rattle.ob0_run_cells.specs.ActivationLaws.{run_of}
 use Rattle.ob0_run_lowering.specs.declared.programs.Program.{Program}
 
--- Holds if a program has the module's run, for each input and all bounds: `c` open calls, and `t`
--- iterations of a loop. If the machine has no room for a run, nothing is stated about this run.
+-- States that a program has the module's run, for each input and for all bounds: `c` on open calls,
+-- and `t` on the iterations of a loop. If the machine has no room for a run, nothing is claimed
+-- about this run.
 abbrev pub RunsAs : Tree Name module_text → Program → Type 0
 RunsAs m p =
     (input : List ℤ) (c t : ℕ)

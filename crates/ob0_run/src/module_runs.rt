@@ -1,9 +1,9 @@
-//! Runs of well-typed modules.
+//! Lowers and runs well-typed modules.
 //!
-//! The contract of `lower` follows from two facts. The program means the module (`ProgramMeans`). A
-//! program that means a well-typed module has the module's run, if there is room for that run
-//! (`lowering_keeps_runs`). So `lower` ensures `RunsAs`, and `execute` returns the run of any
-//! module for which its program has `RunsAs`.
+//! The contract of `lower` follows from two facts. First, the lowered program means the module
+//! (`ProgramMeans`). Second, a program that means a well-typed module has the module's run, if the
+//! machine has room for the run's cells (`lowering_keeps_runs`). So `lower` ensures `RunsAs`.
+//! `execute` returns the run of each module for which the program has `RunsAs`.
 
 ghost use Rattle.std.specs.Prelude.{◌≡◌, IfOk};
 ghost use Rattle.ob0_tree.specs.ParsedModule.{named_tree_of};
@@ -26,7 +26,7 @@ use std::alloc::{AllocError, Global};
 ///
 /// # Errors
 ///
-/// An allocation failed, or a count (for example of cells) doesn't fit 64 bits.
+/// An allocation failed, or a count, for example of cells, has more than 64 bits.
 pub fn lower(alloc: Global, checked: &WellTyped<'_>) -> Result<Program, AllocError>
     ensures runs { IfOk result (RunsAs (named_tree_of checked.now.module_read)) }
     ensures means { IfOk result (λ made. ProgramMeans naming_by_label
@@ -56,8 +56,8 @@ pub fn execute(
     ob0_run_machine::run(alloc, &program.code, input, calls, turns)
 }
 
-/// Runs a module on an input: lowers it and executes the program, with the same bounds as
-/// `execute`.
+/// Runs a module on an input: lowers the module, and executes the program with these bounds on open
+/// calls and on iterations, as `execute` does.
 ///
 /// # Errors
 ///

@@ -12,12 +12,13 @@ use Rattle.ob0_run_cells.specs.Activations.{ProgramMeans}
 use Rattle.ob0_run_cells.specs.LoweredStatements.{written_of}
 use Rattle.ob0_run_cells.specs.Lowering.{end_of}
 
--- the run of a module for a run of the machine: with the same output and the same end
+-- converts a run of the machine to a run of a module, with the same output and the same end
 abbrev pub run_of : execution.MachineRun → Run
 run_of r = record { output = map written_of r.output; ending = end_of r.ending }
 
--- States that a program lowered from a well-typed module has the run of the module, for each input
--- and all bounds. Claims nothing if there is no room for the program's cells.
+-- States that a program lowered from a well-typed module has the run of the module. This holds for
+-- each input and for all bounds `c` on open calls and `t` on iterations. Nothing is claimed if the
+-- machine has no room for the program's cells.
 abbrev pub LoweringKeepsRuns : Type 0
 LoweringKeepsRuns =
     (m : Tree Name module_text) (program : lowered.LoweredCode) (c t : ℕ) (input : List ℤ)

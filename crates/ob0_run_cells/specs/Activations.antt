@@ -1,14 +1,15 @@
 -- States where lowered code finds the variables and procedures of a module, and when a program
--- means a module. A placement gives each name of an environment its place: a slot for a variable, a
--- target for a procedure. `BlockIsPlaced` is the meaning of a block, `HasRoutine` the meaning of a
--- procedure. In both the recursive part is a parameter. `IsPlaced` keeps the placement at a
--- procedure's declaration with the procedure's binding. `PlacementFits` recurses over the bindings
+-- means a module. A placement has the place of each name of an environment: a slot for a variable,
+-- a target for a procedure. `BlockIsPlaced` is the meaning of a block, and `HasRoutine` the meaning
+-- of a procedure. Both have the recursive part as a parameter. `IsPlaced` keeps, with a procedure's
+-- binding, the placement at the procedure's declaration. `PlacementFits` recurses over the bindings
 -- of the activation with that placement. So no slot has to be translated back to an outer level.
--- The code of a module has to meet `ProgramMeans` for its numbered tree. This is shown by the laws
--- of productions and by the recursion of `BlockMeans` over declarations. A procedure may have any
--- index whose entry in the table means the procedure's block. Variables of the module are
--- `of_module` at offsets that begin with 0. Variables of a procedure are `held 0`, after its value
--- parameters. VAR parameters are `by_reference 0`, by their index among the VAR parameters.
+-- The code of a module has to meet `ProgramMeans` for the module's numbered tree. The laws of
+-- productions and the recursion of `BlockMeans` over declarations show this. A procedure may have
+-- any index, if the entry of the table at this index means the procedure's block. Variables of the
+-- module are `of_module`, at offsets that begin with 0. Variables of a procedure are `held 0`,
+-- after its value parameters. VAR parameters are `by_reference 0`, by their index among the VAR
+-- parameters.
 -- Rule: none; for contracts of lowering, against docs/LANGUAGE.md, Runs 6.
 use Rattle.std.specs.Prelude.{◌≡◌, ℕ, suc, ◌+◌, ◌≤◌, true, false, List, [], ◌∷◌, drop, slice_get, Some, Option, option_and_then}
 use Rattle.ob0_tree.specs.Tree.{Tree, begins, block, body, declares, declares_procedure, declares_variable, end, has_body, item, items, maybe, module_text, more, none, one, procedure, variable}
@@ -28,78 +29,84 @@ use Rattle.ob0_run_cells.specs.Cells.{address, size}
 use Rattle.ob0_run_cells.specs.LoweredStatements.{SequenceMeans, Target}
 use Rattle.ob0_run_cells.specs.Lowering.{Slot, held, by_reference, of_module, slot_address}
 
--- the place of a declaration in lowered code: a slot for a variable, a target for a procedure, or
--- nowhere for anything else
+-- The place of a declaration in lowered code: a slot for a variable, a target for a procedure, or
+-- `nowhere` for any other declaration.
 pub data BindingPlace : Type 0 where
   nowhere : BindingPlace
   in_slot : Slot → BindingPlace
   at_target : Target → BindingPlace
 
--- the place of each bound name in lowered code, the newest name first, as in an environment
+-- The type of a list of names with their places in lowered code. The name that was bound last is
+-- first, as in an environment.
 abbrev pub Placement : Type 0 → Type 0
 Placement N = List (N × BindingPlace)
 
--- the suffix of a placement that begins with the newest binding of a name; empty if there is none
+-- Returns the suffix of a placement that begins with the latest binding of a name. The suffix is
+-- empty if the name isn't bound.
 abbrev pub suffix_from_name : {N : Type 0} → Naming N → Placement N → N → Placement N
 suffix_from_name naming [] x = []
 suffix_from_name naming (b ∷ placement) x =
     elim (naming.same x b.0) [ true ↦ b ∷ placement | false ↦ suffix_from_name naming placement x ]
 
--- the slot of a variable; the module's first cell for anything else
+-- returns the slot of a variable, or the module's first cell if the place isn't a slot
 abbrev pub slot_of : BindingPlace → Slot
 slot_of nowhere = of_module 0
 slot_of (in_slot s) = s
 slot_of (at_target t) = of_module 0
 
--- the target of a procedure; index 0 and level 0 for anything else
+-- returns the target of a procedure, or index 0 and 0 levels out if the place isn't a target
 abbrev pub target_of : BindingPlace → Target
 target_of nowhere = record { procedure = 0; up = 0 }
 target_of (in_slot s) = record { procedure = 0; up = 0 }
 target_of (at_target t) = t
 
--- the slot of the first binding of a placement; the module's first cell if the placement is empty
+-- returns the slot of the first binding of a placement, or the module's first cell if this binding
+-- has no slot or the placement is empty
 abbrev pub first_slot : {N : Type 0} → Placement N → Slot
 first_slot [] = of_module 0
 first_slot (b ∷ placement) = slot_of b.1
 
--- the target of the first binding of a placement; index 0 and level 0 if the placement is empty
+-- returns the target of the first binding of a placement, or index 0 and 0 levels out if this
+-- binding has no target or the placement is empty
 abbrev pub first_target : {N : Type 0} → Placement N → Target
 first_target [] = record { procedure = 0; up = 0 }
 first_target (b ∷ placement) = target_of b.1
 
--- the slot that a name has in a placement; the module's first cell if the name has no slot
+-- returns the slot of a name in a placement, or the module's first cell if the name has no slot
 abbrev pub slot_in_placement : {N : Type 0} → Naming N → Placement N → N → Slot
 slot_in_placement naming placement x = first_slot (suffix_from_name naming placement x)
 
--- the target that a name has in a placement; index 0 and level 0 if the name has no target
+-- returns the target of a name in a placement, or index 0 and 0 levels out if the name has no
+-- target
 abbrev pub target_in_placement : {N : Type 0} → Naming N → Placement N → N → Target
 target_in_placement naming placement x = first_target (suffix_from_name naming placement x)
 
--- the same slot, as seen from an activation one level further in
+-- returns the same slot, as seen from an activation one level further in
 abbrev pub inward_slot : Slot → Slot
 inward_slot (of_module at) = of_module at
 inward_slot (held up at) = held (suc up) at
 inward_slot (by_reference up at) = by_reference (suc up) at
 
--- the same place of a declaration, as seen from an activation one level further in
+-- returns the same place of a declaration, as seen from an activation one level further in
 abbrev pub inward_binding_place : BindingPlace → BindingPlace
 inward_binding_place nowhere = nowhere
 inward_binding_place (in_slot s) = in_slot (inward_slot s)
 inward_binding_place (at_target t) = at_target record t { up = suc t.up }
 
--- the same placement, as seen from an activation one level further in
+-- returns the same placement, as seen from an activation one level further in
 abbrev pub inward_placement : {N : Type 0} → Placement N → Placement N
 inward_placement [] = []
 inward_placement (b ∷ placement) = (b.0, inward_binding_place b.1) ∷ inward_placement placement
 
--- the state while the names of an activation are placed: the placement so far, the number of its
--- cells, and the number of its VAR parameters
+-- The state while the names of an activation are placed: the placement so far, the number of cells
+-- so far, and the number of VAR parameters so far.
 pub record Placed (N : Type 0) : Type 0 where
   pub placement : Placement N
   pub cells : ℕ
   pub reference_places : ℕ
 
--- Adds a name to a placement. A value gets n new cells, a VAR parameter gets the next index.
+-- Adds the name `x` to a placement. A variable or a value parameter gets `n` cells, a VAR parameter
+-- gets the next index.
 abbrev pub place_name : {N : Type 0} → (ℕ → Slot) → Mode → N → ℕ → Placed N → Placed N
 place_name at by_value x n p =
     record p { placement = (x, in_slot (at p.cells)) ∷ p.placement; cells = p.cells + n }
@@ -109,13 +116,13 @@ place_name at by_place x n p =
       reference_places = suc p.reference_places;
     }
 
--- Adds names of one type to a placement, each with n new cells.
+-- Adds the names of variables with one type to a placement. Each variable gets `n` cells.
 abbrev pub place_names : {N : Type 0} → (ℕ → Slot) → List N → ℕ → Placed N → Placed N
 place_names at [] n p = p
 place_names at (x ∷ xs) n p = place_names at xs n (place_name at by_value x n p)
 
--- Adds the variables of a block to a placement. None if one of their type expressions denotes no
--- type.
+-- Adds the variables of a block to a placement. Returns None if the type expression of a variable
+-- denotes no type. `k` is the number of words ARRAY and RECORD before these variables.
 unfoldable pub place_variables : {N : Type 0}
     → Naming N
     → (ℕ → Slot)
@@ -131,29 +138,30 @@ place_variables naming at checked k (more (declares_variable ns u) gs) p =
     (bind_names (names_in_list ns) (a_variable s) checked) (k + constructor_count u) gs
     (place_names at (names_in_list ns) (size s) p)) (denoted (meanings naming checked) k u)
 
--- Adds parameters to a placement.
+-- Adds the parameters of a procedure to a placement.
 abbrev pub place_parameters : {N : Type 0} → List (TypedParameter N) → Placed N → Placed N
 place_parameters [] p = p
 place_parameters (q ∷ ps) p =
     place_parameters ps (place_name (held 0) q.formal.mode q.name (size q.formal.shape) p)
 
--- Adds names without a place to a placement, such as the names of constants and types.
+-- Adds names that have no place to a placement, such as the names of constants and types.
 abbrev pub bind_to_nowhere : {N : Type 0} → List N → Placement N → Placement N
 bind_to_nowhere [] placement = placement
 bind_to_nowhere (x ∷ xs) placement = bind_to_nowhere xs ((x, nowhere) ∷ placement)
 
--- the target of a procedure with this index, seen from the activation in which it is declared
+-- returns the target of the procedure with this index, as seen from the activation in which the
+-- procedure is declared
 abbrev pub local_target : ℕ → BindingPlace
 local_target i = at_target record { procedure = i; up = 0 }
 
--- the placement in a procedure: its parameters, then the names around the procedure, as seen from
--- one level further in
+-- returns the placement in a procedure: its parameters, then the names around the procedure, as
+-- seen from one level further in
 abbrev pub parameter_placement : {N : Type 0} → List (TypedParameter N) → Placement N → Placed N
 parameter_placement ps placement =
     place_parameters ps record { placement = inward_placement placement; cells = 0; reference_places = 0 }
 
--- states that code means a body, in the environment in which its statements are checked; without a
--- body there is no code
+-- States that code means a body, in the environment in which the body's statements are checked. If
+-- there is no body, the code has to be empty.
 abbrev pub BodyMeans : {N : Type 0}
     → Naming N
     → TypeEnvironment N
@@ -166,17 +174,17 @@ BodyMeans naming checked placement code (one (begins statements)) =
     SequenceMeans (meanings naming checked) (slot_in_placement naming placement) (target_in_placement naming placement)
     code statements
 
--- the lowered procedures of a module, and the naming, which says when two names are the same
+-- The lowered procedures of a module, and the naming, which decides whether two names are the same.
 pub record RoutineTable (N : Type 0) : Type 0 where
   pub routines : List lowered.Routine
   pub naming : Naming N
 
--- the routine table of a module whose names are labels
+-- returns the routine table of a module whose names are labels, with these procedures
 abbrev pub label_table : List lowered.Routine → RoutineTable Label
 label_table routines = record { routines = routines; naming = naming_by_label }
 
--- Runs 6: states that the routine at an index of the table means a procedure, which is declared in
--- the environment `checked` with the placement `placement`
+-- Runs 6: states that the routine at an index of the table means a procedure. The procedure is
+-- declared in the environment `checked`, with the placement `placement`.
 pub record HasRoutine {N : Type 0} (table : RoutineTable N) (checked : TypeEnvironment N)
     (placement : Placement N) (x : N) (k : ℕ) (text : Tree N (item procedure)) (index : ℕ)
     (Means : TypeEnvironment N → Placed N → lowered.Routine → Type 0) : Type 0 where
@@ -188,8 +196,9 @@ pub record HasRoutine {N : Type 0} (table : RoutineTable N) (checked : TypeEnvir
   pub means : Means (bind_typed_parameters parameters (bind_procedure x parameters checked))
       (parameter_placement parameters ((x, local_target index) ∷ placement)) routine
 
--- Runs 1 and 6: states that the variables of a block are placed in `cells` cells after the cells of
--- p; `Inside` is what has to hold for its procedures and statements
+-- Runs 1 and 6: states that the variables of a block have `cells` cells, which are placed after the
+-- cells of `p`. `Inside` is the fact that has to hold for the procedures and statements of the
+-- block.
 pub record BlockIsPlaced {N : Type 0} (table : RoutineTable N) (at : ℕ → Slot)
     (checked : TypeEnvironment N) (p : Placed N) (k cells : ℕ) (b : Tree N block)
     (Inside : TypeEnvironment N → Placement N → Type 0) : Type 0 where
@@ -209,11 +218,12 @@ pub record BlockIsPlaced {N : Type 0} (table : RoutineTable N) (at : ℕ → Slo
   pub cells_counted : p.cells + cells ≡ placed.cells
   pub inside : Inside inner placed.placement
 
--- states that a table has the code of the procedures of a block and of the procedures inside them;
--- `cells` is the number of cells of the block's own variables
+-- States that code means a block, its procedures and the procedures inside them. `cells` is the
+-- number of cells of the block's own variables.
 abbrev mutual
-  -- Runs 1 and 6: states that the variables of a block are placed after the cells of p, and that
-  -- `code` means the statements of the block
+  -- Runs 1 and 6: states that the variables of a block are placed after the cells of `p`. Also
+  -- states that the table has the code of the block's procedures, and that `code` means the block's
+  -- statements.
   pub BlockMeans : {N : Type 0}
       → RoutineTable N
       → (ℕ → Slot)
@@ -229,8 +239,8 @@ abbrev mutual
       (λ inner placement. ProceduresMean table inner placement
       (constructor_after_variables k (has_body (declares cs ts vs ps) statements)) code statements ps)
 
-  -- Runs 6: states that each procedure has code in the table, and that `code` means the statements
-  -- of the block
+  -- Runs 6: states that the table has the code of each of these procedures, and that `code` means
+  -- the statements of the block in which they are declared
   pub ProceduresMean : {N : Type 0}
       → RoutineTable N
       → TypeEnvironment N
@@ -250,7 +260,7 @@ abbrev mutual
       ((procedure_name p, local_target index) ∷ placement) (k + procedure_constructor_count p) code
       statements rest
 
-  -- Runs 6: states that a routine means the block of this procedure
+  -- Runs 6: states that a routine means the block of a procedure
   pub ProcedureMeans : {N : Type 0}
       → RoutineTable N
       → TypeEnvironment N
@@ -263,9 +273,9 @@ abbrev mutual
       BlockMeans table (held 0) checked p (k + formals_constructor_count (formal_sections fs))
       routine.cells routine.body b
 
--- states that one binding is placed, in front of older ones: a variable's slot has the address of
--- the variable's place (Runs 1), and a procedure's routine means its block at the place of its
--- declaration (Runs 6)
+-- States that one binding is placed right, as seen from the activations `ls`. A variable's slot has
+-- the address of the variable's place (Runs 1). A procedure's routine means the procedure's block
+-- at the place of its declaration (Runs 6). Other bindings have no place.
 abbrev pub IsPlaced : {N : Type 0}
     → RoutineTable N
     → StoreTyping
@@ -292,8 +302,9 @@ IsPlaced table typing ls checked Fits x (a_constant v) nowhere (a_constant w) = 
 IsPlaced table typing ls checked Fits x (a_standard p) nowhere (a_standard q) = Unit {0}
 IsPlaced table typing ls checked Fits x _ _ _ = ⊥
 
--- states that the first bindings of an environment, a placement and an activation have the same
--- name; `Here` is the fact about these, and `Further` the fact about the older bindings
+-- States that the first bindings of an environment, a placement and an activation have the same
+-- name. `Here` is the fact about these bindings, and `Further` is the fact about the older
+-- bindings.
 pub record FitsFirst {N : Type 0} (checked placed active : N) (Here Further : Type 0)
     : Type 0 where
   pub same_active : checked ≡ active
@@ -302,7 +313,8 @@ pub record FitsFirst {N : Type 0} (checked placed active : N) (Here Further : Ty
   pub further : Further
 
 -- Runs 1 and 6: states that each binding of an activation is placed right (`IsPlaced`), as seen
--- from the activations `ls`; environment, placement and activation have to bind the same names
+-- from the activations `ls`. The environment, the placement and the activation have to bind the
+-- same names.
 abbrev pub PlacementFits : {N : Type 0}
     → RoutineTable N
     → StoreTyping
@@ -319,7 +331,7 @@ PlacementFits table typing ls (b ∷ checked) (w ∷ placement) (d ∷ active) =
     (PlacementFits table typing ls checked placement active)
 PlacementFits table typing ls _ _ _ = ⊥
 
--- the placement of the predeclared names, which are nowhere
+-- returns the placement of the predeclared names, each with the place `nowhere`
 abbrev pub outermost_placement : {N : Type 0} → Naming N → Placement N
 outermost_placement naming =
     (naming.predeclared 6, nowhere)

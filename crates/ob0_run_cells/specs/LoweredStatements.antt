@@ -1,5 +1,5 @@
--- The meaning of lowered statements: they change cells, input and output as the statements of a
--- module change its state.
+-- States the meaning of lowered statements: they change cells, input and output as the statements
+-- of a module change its state.
 -- Rule: none; for contracts of lowering, against docs/LANGUAGE.md, Runs 5 to 9.
 use Rattle.std.specs.Prelude.{◌≡◌, ℕ, ◌^◌, ◌<◌, true, List, [], ◌∷◌, ◌++◌, length, map, ℤ, Some}
 use Rattle.ob0_tree.specs.Tree.{Tree, else_part, elsif_part, expression, further_statement, items, maybe, selector, sequence, statement}
@@ -16,13 +16,13 @@ use Rattle.ob0_run_machine.specs.Lowered as lowered
 use Rattle.ob0_run_cells.specs.Cells.{address, all_cells, cells_of, size, store_size}
 use Rattle.ob0_run_cells.specs.Lowering.{NumberMeans, PlaceMeans, Slot, TruthMeans, HoldsValue, end_of, place_of_designator, slot_address, value_of_expression}
 
--- the item of a module's output for an item of the machine's output
+-- converts an item of the machine's output to an item of a module's output
 abbrev pub written_of : execution.OutputItem → PrintedItem
 written_of (execution.number_out n) = number_out n
 written_of execution.line_out = line_out
 
--- states that a state of lowered code has the cells of a store with these types, and the same input
--- and output
+-- States that the state `low` of the machine represents the state `s` of the module. It has the
+-- cells of the store of `s`, whose variables have these types, and the same input and output.
 pub record Represents (typing : StoreTyping) (low : execution.MachineState) (s : State)
     : Type 0 where
   pub store_fits : StoreFits typing s.store
@@ -31,8 +31,8 @@ pub record Represents (typing : StoreTyping) (low : execution.MachineState) (s :
   pub same_output : map written_of low.output ≡ s.output
 
 -- States that a run of the machine and a run of the module agree. They continue in states that
--- represent each other, or have ended with the same end and output. Holds also if the machine has
--- no room for its cells.
+-- represent each other, or have ended with the same end and output. If the machine has no room for
+-- its cells, nothing is claimed.
 abbrev pub ProgressRepresents : StoreTyping → execution.MachineProgress → Progress → Type 0
 ProgressRepresents typing execution.no_room q = Unit {0}
 ProgressRepresents typing (execution.running low) (running s) = Represents typing low s
@@ -40,26 +40,27 @@ ProgressRepresents typing (execution.stopped e out) (stopped f written) =
     (end_of e ≡ f) × (map written_of out ≡ written)
 ProgressRepresents typing _ _ = ⊥
 
--- the cells of arguments that are passed by value
+-- returns the cells of the arguments that are passed by value
 abbrev pub argument_cells : List Argument → List ℤ
 argument_cells [] = []
 argument_cells (place_argument p ∷ args) = argument_cells args
 argument_cells (value_argument v ∷ args) = cells_of v ++ argument_cells args
 
--- the addresses of the arguments for VAR parameters
+-- returns the addresses of the arguments for VAR parameters, in order
 abbrev pub argument_addresses : StoreTyping → List Argument → List ℕ
 argument_addresses typing [] = []
 argument_addresses typing (place_argument p ∷ args) =
     address typing p ∷ argument_addresses typing args
 argument_addresses typing (value_argument v ∷ args) = argument_addresses typing args
 
--- the target of a call: a procedure's index, and how many levels out the procedure is declared
+-- The target of a call: the index of the procedure, and the number of levels out. `up` counts the
+-- levels from the caller's activation to the activation in which the procedure is declared.
 pub record Target : Type 0 where
   pub procedure : ℕ
   pub up : ℕ
 
--- the facts that don't change while the statements of a body run: the types of the store, the
--- meanings of names, the activations that lowered code sees, and the effects of calls
+-- The facts that don't change while the statements of a body run. These are the types of the store,
+-- the meanings of names, the activations that the body can see, and the effects of calls.
 pub record Body (N : Type 0) : Type 0 where
   pub typing : StoreTyping
   pub active : Meanings N Place (List Mode)
@@ -67,7 +68,7 @@ pub record Body (N : Type 0) : Type 0 where
   pub enters : CallFunction N
   pub lowered_enters : execution.CallEffect
 
--- states that lowered calls have the effect of the module's calls with the same arguments
+-- states that lowered calls have the effect of the module's calls, if both have the same arguments
 abbrev pub CallsRepresent : {N : Type 0} → TypeMeanings N → (N → Target) → Body N → Type 0
 CallsRepresent {N} checked targets b =
     (x : N) (signature : Signature)
@@ -81,8 +82,8 @@ CallsRepresent {N} checked targets b =
     (execution.levels_in_call b.levels (length low.cells) (targets x).up p) record low
     { cells = p.cells }) (b.enters x args s)
 
--- states that a body belongs to a checked module: its variables are in their slots, its procedures
--- have their targets, and its store has fewer than 2^64 cells
+-- States that a body belongs to a checked module. Its variables are in their slots, its procedures
+-- have their targets, and its store has fewer than 2^64 cells.
 pub record ShowsBody {N : Type 0} (checked : TypeMeanings N) (slots : N → Slot) (targets : N → Target)
     (b : Body N) : Type 0 where
   pub names_fit : MeaningsFit b.typing checked b.active
@@ -93,7 +94,7 @@ pub record ShowsBody {N : Type 0} (checked : TypeMeanings N) (slots : N → Slot
   pub calls_represent : CallsRepresent checked targets b
 
 -- states that a lowered step has the effect of a step of the module, in each body and for each
--- bound t on the iterations of a loop
+-- bound `t` on the iterations of a loop
 abbrev pub StepRepresents : {N : Type 0}
     → TypeMeanings N
     → (N → Slot)
@@ -132,7 +133,7 @@ SequenceMeans checked slots targets cs a =
     StepRepresents checked slots targets (λ b t. execution.execute_all b.lowered_enters t b.levels cs)
     (λ b t. execute_all b.active b.enters t a)
 
--- States that instructions have the effect of the statements after the first of a sequence.
+-- States that instructions have the effect of the statements after the first one of a sequence.
 abbrev pub FurtherStatementsMean : {N : Type 0}
     → TypeMeanings N
     → (N → Slot)
@@ -144,7 +145,8 @@ FurtherStatementsMean checked slots targets cs rest =
     StepRepresents checked slots targets (λ b t. execution.execute_all b.lowered_enters t b.levels cs)
     (λ b t. execute_further b.active b.enters t rest)
 
--- States that instructions have the effect of an ELSE part, or no effect if there is none.
+-- States that instructions have the effect of an ELSE part. If there is no ELSE part, the
+-- instructions have no effect.
 abbrev pub ElseMeans : {N : Type 0}
     → TypeMeanings N
     → (N → Slot)
@@ -156,8 +158,8 @@ ElseMeans checked slots targets cs last =
     StepRepresents checked slots targets (λ b t. execution.execute_all b.lowered_enters t b.levels cs)
     (λ b t. execute_else b.active b.enters t last)
 
--- States that branches, and instructions that run if no condition is TRUE, have the effect of ELSIF
--- parts and the ELSE part after them.
+-- States that branches have the effect of ELSIF parts, followed by an ELSE part. The instructions
+-- `cs` run if no condition is TRUE.
 abbrev pub ElsifsMean : {N : Type 0}
     → TypeMeanings N
     → (N → Slot)
@@ -173,7 +175,7 @@ ElsifsMean checked slots targets bs cs rest last =
     (λ b t. execute_elsifs b.active b.enters t rest (execute_else b.active b.enters t last))
 
 -- States that an expression is only a designator of a variable, and that a place of lowered code
--- means the designator's place.
+-- means the place of this designator.
 pub record IsAt {N : Type 0} (checked : TypeMeanings N) (slots : N → Slot) (q : lowered.Place) (s : Shape)
     (e : Tree N expression) : Type 0 where
   pub name : N
@@ -183,8 +185,9 @@ pub record IsAt {N : Type 0} (checked : TypeMeanings N) (slots : N → Slot) (q 
   pub is_variable : checked.object_for name ≡ Some (a_variable shape)
   pub place_means : PlaceMeans checked slots q s (place_of_designator name path)
 
--- states that a lowered argument means an argument for a parameter: a place for a VAR parameter,
--- otherwise a number, a truth, or the cells of an array or a record
+-- States that a lowered argument means an argument for a parameter. The lowered argument is a place
+-- for a VAR parameter. For any other parameter, it is a number, a truth, or the cells of an array
+-- or a record.
 abbrev pub ArgumentMeans : {N : Type 0}
     → TypeMeanings N
     → (N → Slot)
@@ -207,7 +210,8 @@ ArgumentMeans checked slots f (lowered.by_block q n) e =
     × (n ≡ size f.shape)
     × HoldsValue checked slots q f.shape (value_of_expression e)
 
--- states that lowered arguments mean the arguments of a call, one by one
+-- States that lowered arguments mean the arguments of a call, one by one. The numbers of
+-- parameters, of lowered arguments and of arguments have to be the same.
 abbrev pub ArgumentsMean : {N : Type 0}
     → TypeMeanings N
     → (N → Slot)

@@ -1,12 +1,12 @@
--- States the meaning of lowered places, numbers and truths: they give the places and values of a
+-- States the meaning of lowered places, numbers and truths. They have the places and values of a
 -- module's designators and expressions, at each moment of a run. A meaning is a relation between
--- lowered code and a function of the moment (`OutcomeByMoment`). It doesn't mention the tree of the
--- expression. So operators need no types: a number of lowered code means a number. Only places and
--- variables need types. The value of an array or a record is in the cells at a place
+-- lowered code and a function of the moment (`OutcomeByMoment`). This relation doesn't mention the
+-- tree of the expression. So operators need no types: a number of lowered code means a number. Only
+-- places and variables need types. The value of an array or a record is in the cells at a place
 -- (`HoldsValue`), even if its expression is in parentheses. Only a VAR argument has to be a
 -- designator without operators (`IsAt`). While arguments are passed, their cells follow the cells
--- of the store (`passed` of a moment), so a meaning also holds then. A sign `+` is lowered to a sum
--- with 0, which is in range exactly if the number is.
+-- of the store (`passed` of a moment). So a meaning also holds while arguments are passed. A sign
+-- `+` is lowered to a sum with 0, which is in range exactly if the number is.
 -- Rule: none; for contracts of lowering, against docs/LANGUAGE.md, Runs 2 to 4.
 use Rattle.std.specs.Prelude.{◌≡◌, ℕ, zero, suc, ◌+◌, ◌^◌, ◌<◌, true, List, ◌++◌, ℤ, slice_index_or, Some}
 use Rattle.ob0_tree.specs.declared.tree.Relation.{Relation}
@@ -21,27 +21,29 @@ use Rattle.ob0_run_machine.specs.Evaluation.{Levels, level_at}
 use Rattle.ob0_run_machine.specs.Lowered as lowered
 use Rattle.ob0_run_cells.specs.Cells.{address, all_cells, store_size}
 
--- the slot of a variable: an offset in the cells of the module or of the activation `up` levels
--- out; or a VAR parameter of the activation `up` levels out, by its index among the VAR parameters
+-- The slot of a variable: an offset in the cells of the module or of the activation `up` levels
+-- out. The slot of a VAR parameter has the number of levels out and the parameter's index among the
+-- VAR parameters.
 pub data Slot : Type 0 where
   of_module : (offset : ℕ) → Slot
   held : (up offset : ℕ) → Slot
   by_reference : (up index : ℕ) → Slot
 
--- the address of the variable in a slot, as seen from the running activation
+-- returns the address of the variable in a slot, as seen from the running activation
 abbrev pub slot_address : Levels → Slot → ℕ
 slot_address ls (of_module offset) = offset
 slot_address ls (held up offset) = (level_at ls up).base + offset
 slot_address ls (by_reference up index) = slice_index_or (level_at ls up).addresses index 0
 
--- the place in lowered code of the variable in a slot
+-- returns the place in lowered code of the variable in a slot
 abbrev pub slot_place : Slot → lowered.Place
 slot_place (of_module offset) = lowered.in_module offset
 slot_place (held zero offset) = lowered.here offset
 slot_place (held (suc up) offset) = lowered.outside (suc up) offset
 slot_place (by_reference up index) = lowered.passed up index 0
 
--- the place at an offset within another place
+-- Returns the place that is `k` cells after the start of a place. The sum of the offsets wraps at
+-- 64 bits.
 abbrev pub part_at : lowered.Place → ℕ → lowered.Place
 part_at (lowered.in_module at) k = lowered.in_module (machine.add_offset at k)
 part_at (lowered.here at) k = lowered.here (machine.add_offset at k)
@@ -49,8 +51,8 @@ part_at (lowered.outside up at) k = lowered.outside up (machine.add_offset at k)
 part_at (lowered.passed up index at) k = lowered.passed up index (machine.add_offset at k)
 part_at (lowered.element q i n s at) k = lowered.element q i n s (machine.add_offset at k)
 
--- a moment of a run: the store and its types, the cells of arguments that are being passed, the
--- meanings of names, and the activations that lowered code sees
+-- A moment of a run. It has the store and its types, the cells of arguments that are being passed,
+-- the meanings of names, and the activations that lowered code can see.
 pub record Moment (N : Type 0) : Type 0 where
   pub typing : StoreTyping
   pub store : Store
@@ -58,12 +60,13 @@ pub record Moment (N : Type 0) : Type 0 where
   pub active : Meanings N Place (List Mode)
   pub levels : Levels
 
--- all cells at a moment, the cells of passed arguments last
+-- returns all cells at a moment: the cells of the store, then the cells of the arguments that are
+-- being passed
 abbrev pub cells_in : {N : Type 0} → Moment N → List ℤ
 cells_in m = all_cells m.store ++ m.passed
 
--- states that a moment belongs to a checked module: its store and names fit, its variables are in
--- their slots, and its store has fewer than 2^64 cells
+-- States that a moment belongs to a checked module. Its store and names fit, its variables are in
+-- their slots, and its store has fewer than 2^64 cells.
 pub record Shows {N : Type 0} (checked : TypeMeanings N) (slots : N → Slot) (m : Moment N) : Type 0 where
   pub store_fits : StoreFits m.typing m.store
   pub names_fit : MeaningsFit m.typing checked m.active
@@ -72,7 +75,7 @@ pub record Shows {N : Type 0} (checked : TypeMeanings N) (slots : N → Slot) (m
       → slot_address m.levels (slots x) ≡ address m.typing p
   pub has_addresses : store_size m.typing < 2 ^ 64
 
--- the end of a module's run for an end of the machine's run
+-- converts an end of the machine's run to an end of a module's run
 abbrev pub end_of : machine.Halt → End
 end_of machine.Done = Done
 end_of machine.Overflow = Overflow
@@ -82,17 +85,17 @@ end_of machine.InputEnd = InputEnd
 end_of machine.CallBound = CallBound
 end_of machine.TurnBound = TurnBound
 
--- the outcome in the module for an outcome of the machine; `f` converts the value
+-- Converts an outcome of the machine to an outcome of a module. `f` converts the value.
 abbrev pub outcome_of : {A B : Type 0} → (A → B) → machine.StepResult A → Outcome B
 outcome_of f (machine.gives a) = gives (f a)
 outcome_of f (machine.ends e) = ends (end_of e)
 
--- an evaluation: the outcome at each moment
+-- The type of an evaluation: a function that returns the outcome at each moment.
 abbrev pub OutcomeByMoment : Type 0 → Type 0 → Type 0
 OutcomeByMoment N A = Moment N → Outcome A
 
--- states that a number of lowered code and an evaluation have the same outcome at each moment of
--- the module
+-- states that a number of lowered code and the evaluation `value` have the same outcome, at each
+-- moment of the module
 abbrev pub NumberMeans : {N : Type 0}
     → TypeMeanings N
     → (N → Slot)
@@ -104,8 +107,8 @@ NumberMeans {N} checked slots n value =
     → Shows checked slots m
     → outcome_of number (machine.number m.levels (cells_in m) n) ≡ value m
 
--- states that a truth of lowered code and an evaluation have the same outcome at each moment of the
--- module
+-- states that a truth of lowered code and the evaluation `value` have the same outcome, at each
+-- moment of the module
 abbrev pub TruthMeans : {N : Type 0}
     → TypeMeanings N
     → (N → Slot)
@@ -122,8 +125,9 @@ abbrev pub PlaceOutcomeFits : StoreTyping → Shape → Outcome Place → Type 0
 PlaceOutcomeFits typing s (gives p) = PlaceFits typing p s
 PlaceOutcomeFits typing s (ends e) = Unit {0}
 
--- states that a place of lowered code has the address of the place that an evaluation gives, and
--- that this place holds values of a type
+-- States that a place of lowered code and the evaluation `value` agree at each moment of the
+-- module. Both have the same address, or end the run with the same end. Also states that the place
+-- that `value` returns holds values of a type.
 abbrev pub PlaceMeans : {N : Type 0}
     → TypeMeanings N
     → (N → Slot)
@@ -137,8 +141,9 @@ PlaceMeans {N} checked slots q s value =
     ≡ (value m >>= (λ p. gives (address m.typing p))))
     × PlaceOutcomeFits m.typing s (value m)
 
--- states that an evaluation gives the value in the store at the place that a place of lowered code
--- means, which holds values of a type
+-- States that the evaluation `value` returns the value that is stored at a place, at each moment of
+-- the module. The place is the one that the place `q` of lowered code means, and it holds values of
+-- a type.
 abbrev pub HoldsValue : {N : Type 0}
     → TypeMeanings N
     → (N → Slot)
@@ -153,51 +158,51 @@ HoldsValue {N} checked slots q s value =
     → Shows checked slots m
     → value m ≡ (place m >>= (λ p. or_stuck (read_place m.store p))))
 
--- the value of an expression at a moment
+-- returns the value of an expression at a moment
 abbrev pub value_of_expression : {N : Type 0} → Tree N expression → OutcomeByMoment N Value
 value_of_expression e m = evaluate m.active m.store e
 
--- the value of a simple expression at a moment
+-- returns the value of a simple expression at a moment
 abbrev pub value_of_simple : {N : Type 0} → Tree N simple → OutcomeByMoment N Value
 value_of_simple e m = evaluate_simple m.active m.store e
 
--- the value of a term at a moment
+-- returns the value of a term at a moment
 abbrev pub value_of_term : {N : Type 0} → Tree N term → OutcomeByMoment N Value
 value_of_term e m = evaluate_term m.active m.store e
 
--- the value of a factor at a moment
+-- returns the value of a factor at a moment
 abbrev pub value_of_factor : {N : Type 0} → Tree N factor → OutcomeByMoment N Value
 value_of_factor e m = evaluate_factor m.active m.store e
 
--- the place of a designator at a moment
+-- returns the place of a designator at a moment
 abbrev pub place_of_designator : {N : Type 0} → N → Tree N (items selector) → OutcomeByMoment N Place
 place_of_designator x path m = designate m.active m.store x path
 
--- the rest of a chain: the outcome of the remaining operators or selectors, as a function of the
--- moment and the value so far
+-- The type of the rest of a chain, which has the remaining operators or selectors. It is a function
+-- that returns their outcome, given the moment and the value so far.
 abbrev pub RestOfChain : Type 0 → Type 0 → Type 0
 RestOfChain N A = Moment N → A → Outcome A
 
--- the outcome of the remaining addends at a moment, from the value so far
+-- returns the outcome of the remaining addends at a moment, given the value so far
 abbrev pub remaining_addends : {N : Type 0} → Tree N (items addend) → RestOfChain N Value
 remaining_addends rest m v = evaluate_addends m.active m.store v rest
 
--- the outcome of the remaining factors at a moment, from the value so far
+-- returns the outcome of the remaining factors at a moment, given the value so far
 abbrev pub remaining_multipliers : {N : Type 0} → Tree N (items multiplier) → RestOfChain N Value
 remaining_multipliers rest m v = evaluate_multipliers m.active m.store v rest
 
--- a place with more steps at the end of its path
+-- returns a place with more steps at the end of its path
 abbrev pub extended_place : Place → List Step → Place
 extended_place p steps = record { variable = p.variable; path = p.path ++ steps }
 
--- the outcome of the remaining selectors at a moment, from the place so far
+-- returns the outcome of the remaining selectors at a moment, given the place so far
 abbrev pub remaining_selectors : {N : Type 0} → Tree N (items selector) → RestOfChain N Place
 remaining_selectors rest m p =
     or_stuck (read_place m.store p) >>=
     (λ v. follow m.active m.store v rest >>= (λ steps. gives (extended_place p steps)))
 
--- states that there is an evaluation for which `Means` holds, and which, followed by the rest of a
--- chain, is the evaluation of the whole chain
+-- States that there is an evaluation `so_far` for which `Means` holds. Followed by the rest of a
+-- chain, it is the evaluation of the whole chain.
 abbrev pub StartsChain : {N A : Type 0}
     → TypeMeanings N
     → (N → Slot)
@@ -210,8 +215,8 @@ StartsChain {N} {A} checked slots Means rest whole =
     × Means so_far
     × ((m : Moment N) → Shows checked slots m → (so_far m >>= rest m) ≡ whole m)
 
--- States that a place of lowered code means the first part of a designator. From this place the
--- remaining selectors give the place of the whole designator.
+-- States that a place of lowered code means the first part of a designator. From there, the
+-- remaining selectors lead to the place of the whole designator.
 abbrev pub PlaceStartsChain : {N : Type 0}
     → TypeMeanings N
     → (N → Slot)
@@ -223,8 +228,8 @@ abbrev pub PlaceStartsChain : {N : Type 0}
 PlaceStartsChain checked slots q s rest =
     StartsChain checked slots (PlaceMeans checked slots q s) (remaining_selectors rest)
 
--- States that a number of lowered code means the first part of a chain. From this number the rest
--- of the chain gives the value of the whole.
+-- States that a number of lowered code means the first part of a chain. Given this number, the rest
+-- of the chain has the value of the whole chain.
 abbrev pub NumberStartsChain : {N : Type 0}
     → TypeMeanings N
     → (N → Slot)
@@ -234,8 +239,8 @@ abbrev pub NumberStartsChain : {N : Type 0}
     → Type 0
 NumberStartsChain checked slots n = StartsChain checked slots (NumberMeans checked slots n)
 
--- States that a truth of lowered code means the first part of a chain. From this truth the rest of
--- the chain gives the value of the whole.
+-- States that a truth of lowered code means the first part of a chain. Given this truth, the rest
+-- of the chain has the value of the whole chain.
 abbrev pub TruthStartsChain : {N : Type 0}
     → TypeMeanings N
     → (N → Slot)
@@ -245,7 +250,7 @@ abbrev pub TruthStartsChain : {N : Type 0}
     → Type 0
 TruthStartsChain checked slots t = StartsChain checked slots (TruthMeans checked slots t)
 
--- the machine's comparator for a relation of the language
+-- converts a relation of the language to the machine's comparator
 abbrev pub relation_of : Relation → lowered.Comparator
 relation_of relation.Equal = lowered.equal
 relation_of relation.NotEqual = lowered.not_equal

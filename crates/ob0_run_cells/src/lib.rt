@@ -1,6 +1,6 @@
-//! Defines the store of a run as one list of cells, and states the law that a lowered program runs
-//! as its module does. The lemmas in `proofs/` relate values, places, stores and each production to
-//! their cells.
+//! Defines the store of a run as one list of cells. States the law that a lowered program runs as
+//! its module does. The lemmas in `proofs/` relate values, places and stores to their cells, and
+//! each production of the grammar to its lowered code.
 #![tactic(auto)]
 
 pub mod activation_laws;

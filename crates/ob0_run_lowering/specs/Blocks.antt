@@ -1,10 +1,10 @@
 -- States that each procedure and each block of a well-typed module is lowered to code that means
--- it. A procedure gets an index at its heading, with a placeholder in the table of procedures. At
--- the procedure's end its code is stored there. Clauses hold for any later table that has the same
--- code from an index to the end (`HasRoutinesFrom`). So earlier code keeps its meaning, and no
--- clause mentions the final table. `LowersProcedures` holds for any statements and any further
--- procedures of a block. The loop over the procedures of a block composes these clauses
--- (`goes_then`).
+-- this procedure or block. A procedure gets an index at its heading, with a placeholder in the
+-- table of procedures. At the procedure's end, its code is stored there. Clauses hold for any later
+-- table that has the same code at each index from a given one to the end (`HasRoutinesFrom`). So
+-- earlier code keeps its meaning, and no clause mentions the final table. `LowersProcedures` holds
+-- for any statements and any further procedures of a block. The loop over the procedures of a block
+-- composes these clauses (`goes_then`).
 -- Rule: none; for contracts of lowering.
 use Rattle.std.specs.Prelude.{◌≡◌, ℕ, ◌≤◌, true, List, length, Some, slice_get}
 use Rattle.ob0_tree.specs.Tree.{Tree, block, body, items, maybe, procedure}
@@ -22,7 +22,8 @@ use Rattle.ob0_run_lowering.specs.Placed.{Follows, LocatesAll, IsFrame, Placemen
 use Rattle.ob0_run_lowering.specs.declared.programs.Lowering.{Lowering}
 use Rattle.ob0_run_lowering.specs.declared.visible_sites.Frame.{Frame}
 
--- states that a table has the code of the procedures `ps`, at each index of `ps` that is at least n
+-- states that a table has the code of the procedures `ps`, at each index of `ps` that is at least
+-- `n`
 abbrev pub HasRoutinesFrom : List lowered.Routine → ℕ → List Routine → Type 0
 HasRoutinesFrom table n ps =
     (i : ℕ) (e : Routine)
@@ -30,19 +31,20 @@ HasRoutinesFrom table n ps =
     → slice_get ps i ≡ Some e
     → slice_get table i ≡ Some (procedure_of e)
 
--- States that a later table of procedures has the same code at each index of an earlier one.
+-- States that a later table of procedures (`now`) has the same code as an earlier one (`before`),
+-- at each index of the earlier one.
 abbrev pub KeepsRoutines : List Routine → List Routine → Type 0
 KeepsRoutines before now = (i : ℕ) (e : Routine) → slice_get before i ≡ Some e → slice_get now i ≡ Some e
 
--- the state before the remaining procedures of a block: the environment, the placement of its
--- names, and the ordinal of the next ARRAY or RECORD
+-- The state before the remaining procedures of a block are lowered. It has the environment, the
+-- placement of the names in scope, and the ordinal of the next ARRAY or RECORD.
 pub record BlockState : Type 0 where
   pub env : TypeEnvironment Label
   pub placement : Placement Label
   pub next : ℕ
 
--- states that the remaining procedures and the statements of a block fit in a state, and that all
--- names in scope are declared and located
+-- States that the remaining procedures `ps` and the statements of a block fit in a state. All names
+-- in scope have the objects of the table of declarations, and the places of the table of sites.
 pub record Ready (t : Tables) (sites : List Site) (depth : ℕ) (s : BlockState)
     (statements : Tree Label (maybe body)) (ps : Tree Label (items procedure)) : Type 0 where
   pub declared_there : AreDeclared (declared_object_in t) s.env
@@ -51,8 +53,8 @@ pub record Ready (t : Tables) (sites : List Site) (depth : ℕ) (s : BlockState)
   pub fits : procedures_fit naming_by_label s.env s.next statements ps ≡ true
   pub declared_following : ProceduresAreDeclared (declared_object_in t) s.env s.next ps
 
--- States that the code in a table means the remaining procedures of a block, and that `code` means
--- the block's statements.
+-- States that the routines of a table mean the remaining procedures of a block, and that `code`
+-- means the block's statements.
 abbrev pub RestOfBlockMeans : List lowered.Routine
     → BlockState
     → lowered.Instructions
@@ -62,9 +64,9 @@ abbrev pub RestOfBlockMeans : List lowered.Routine
 RestOfBlockMeans table s code statements ps =
     ProceduresMean (label_table table) s.env s.placement s.next code statements ps
 
--- States that the procedures `ps` of a block are lowered from a state, up to the procedures `left`.
--- If a table has code that means `left` in the state reached, this code means `ps` in the state
--- before.
+-- States that the procedures `ps` of a block are lowered from a state, except the procedures `left`
+-- at their end. This results in the state `now`. If a table has code that means `left` in the state
+-- `now`, then this code means `ps` in the state before.
 pub record LowersFromState (t : Tables) (w v : Lowering) (depth : ℕ) (s : BlockState)
     (statements : Tree Label (maybe body)) (ps left : Tree Label (items procedure)) : Type 0 where
   pub now : BlockState
@@ -74,9 +76,9 @@ pub record LowersFromState (t : Tables) (w v : Lowering) (depth : ℕ) (s : Bloc
       → RestOfBlockMeans table now code statements left
       → RestOfBlockMeans table s code statements ps
 
--- States that the procedures `ps` of a block are lowered up to the procedures `left`. This holds
--- from each state and for any statements (`LowersFromState`). The tables of sites and of procedures
--- only grow.
+-- States that the procedures `ps` of a block are lowered, except the procedures `left` at their
+-- end. This holds from each state and for any statements (`LowersFromState`). The tables of sites
+-- and of procedures only grow.
 pub record LowersProcedures (t : Tables) (w v : Lowering) (depth : ℕ) (ps left : Tree Label (items procedure))
     : Type 0 where
   pub on : (s : BlockState) (statements : Tree Label (maybe body))
@@ -86,8 +88,8 @@ pub record LowersProcedures (t : Tables) (w v : Lowering) (depth : ℕ) (ps left
   pub longer : length w.procedures.items ≤ length v.procedures.items
   pub grown : KeepsRoutines w.procedures.items v.procedures.items
 
--- states that `entry` means a block, in each table with the procedures that were added while the
--- block was lowered
+-- States that the routine `entry` means a block, in each table that has the procedures that were
+-- added while the block was lowered.
 pub record MeansBlock (w v : Lowering) (f : Frame) (b : Tree Label block) (entry : Routine)
     (env : TypeEnvironment Label) (p : Placed Label) (k : ℕ) : Type 0 where
   pub means : (table : List lowered.Routine)
@@ -95,8 +97,8 @@ pub record MeansBlock (w v : Lowering) (f : Frame) (b : Tree Label block) (entry
       → BlockMeans (label_table table) (variable_slot f.depth) env p k entry.cells
       (sequence_of entry.body.items) b
 
--- states that `entry` means a block if the block fits, and that the tables of sites and of
--- procedures only grow
+-- States that the routine `entry` means a block if the block fits, and that the tables of sites and
+-- of procedures only grow.
 pub record LowersBlock (t : Tables) (w v : Lowering) (f : Frame) (b : Tree Label block)
     (entry : Routine) : Type 0 where
   pub on : (env : TypeEnvironment Label) (p : Placed Label) (k : ℕ)

@@ -1,5 +1,5 @@
--- Defines the code of values by their types: of the value at a place, of an operation, and of a
--- field or an element.
+-- Defines the code of a value by the value's type: the code of the value at a place, of an
+-- operation, of a field, and of an element.
 -- Rule: none; for contracts of lowering.
 use Rattle.std.specs.Prelude.{◌≡◌, ℕ, ◌*◌, ◌%◌, ◌^◌, pos, Some, None, Option, option_map, if◌then◌else◌, nat_lt}
 use Rattle.ob0_tree.specs.declared.tree.Relation.{Relation}
@@ -18,16 +18,16 @@ use Rattle.ob0_run_machine.specs.Lowered as lowered
 use Rattle.ob0_run_cells.specs.Cells.{size, step_offset}
 use Rattle.ob0_run_cells.specs.Lowering.{OutcomeByMoment, NumberMeans, Slot, TruthMeans, HoldsValue, part_at, relation_of}
 
--- the code of an expression: a number, a truth, or the cells of an array or a record; or no code,
--- which no expression of a well-typed module has
+-- The code of an expression: a number, a truth, or the cells of an array or a record. The last case
+-- is no code, which no expression of a well-typed module has.
 pub data ExpressionCode : Type 0 where
   a_number : lowered.Number → ExpressionCode
   a_truth : lowered.Truth → ExpressionCode
   a_block : lowered.Place → (cells : ℕ) → ExpressionCode
   no_code : ExpressionCode
 
--- states that code means an evaluated value of a type; never true if the code is for a value of
--- another type, or is `no_code`
+-- States that code means an evaluated value of a type. This is never true if the code is for a
+-- value of another type, or is `no_code`.
 abbrev pub CodeMeans : TypeMeanings Label → (Label → Slot) → ExpressionCode → Shape
     → OutcomeByMoment Label Value
     → Type 0
@@ -39,42 +39,42 @@ CodeMeans checked slots (a_block q n) (record_shape k fs) value =
     (n ≡ size (record_shape k fs)) × HoldsValue checked slots q (record_shape k fs) value
 CodeMeans checked slots _ _ value = ⊥
 
--- a place of lowered code, and the type of the value there
+-- A place of lowered code, and the type of the value there.
 pub record FoundPlace : Type 0 where
   pub place : lowered.Place
   pub shape : Shape
 
--- the code of the value at a place, by its type
+-- returns the code of the value at a place, which depends on the value's type
 abbrev pub code_at_place : lowered.Place → Shape → ExpressionCode
 code_at_place q integer_shape = a_number (lowered.cell q)
 code_at_place q boolean_shape = a_truth (lowered.flag q)
 code_at_place q (array_shape k n s) = a_block q (size (array_shape k n s))
 code_at_place q (record_shape k fs) = a_block q (size (record_shape k fs))
 
--- the code of the value at a place; no code for None
+-- returns the code of the value at a place, or `no_code` for None
 abbrev pub code_at : Option FoundPlace → ExpressionCode
 code_at None = no_code
 code_at (Some f) = code_at_place f.place f.shape
 
--- the code of a constant's value; no code for an array or a record
+-- returns the code of a constant's value, or `no_code` for an array or a record
 abbrev pub constant_code : Value → ExpressionCode
 constant_code (number n) = a_number (lowered.literal n)
 constant_code (truth b) = a_truth (lowered.constant b)
 constant_code (elements vs) = no_code
 constant_code (members k ms) = no_code
 
--- the code of a designator: the code of a constant's value if it is a constant, otherwise the code
--- of the value at its place
+-- returns the code of a designator: of the constant's value if there is one, otherwise of the value
+-- at the place that was found
 abbrev pub named_code : Option Value → Option FoundPlace → ExpressionCode
 named_code (Some v) found = constant_code v
 named_code None found = code_at found
 
--- the code of an operation on two numbers; no code if an operand isn't a number
+-- returns the code of an operation on two numbers, or `no_code` if an operand isn't a number
 abbrev pub number_operation : lowered.Operator → ExpressionCode → ExpressionCode → ExpressionCode
 number_operation o (a_number m) (a_number n) = a_number (lowered.operation o m n)
 number_operation _ _ _ = no_code
 
--- the code of an operation on two truth values; no code if an operand isn't a truth
+-- returns the code of an operation on two truths, or `no_code` if an operand isn't a truth
 abbrev pub truth_operation : (lowered.Truth → lowered.Truth → lowered.Truth)
     → ExpressionCode
     → ExpressionCode
@@ -82,22 +82,23 @@ abbrev pub truth_operation : (lowered.Truth → lowered.Truth → lowered.Truth)
 truth_operation operation (a_truth t) (a_truth u) = a_truth (operation t u)
 truth_operation _ _ _ = no_code
 
--- the code of a sum, a difference or an OR
+-- returns the code of a sum, a difference or an OR, or `no_code` if an operand has the wrong type
 abbrev pub addition_code : AddOperator → ExpressionCode → ExpressionCode → ExpressionCode
 addition_code add_operator.Add = number_operation lowered.sum
 addition_code add_operator.Subtract = number_operation lowered.difference
 addition_code add_operator.Or = truth_operation lowered.either
 
--- the code of a product, a quotient, a remainder or an `&`
+-- returns the code of a product, a quotient, a remainder or an `&`, or `no_code` if an operand has
+-- the wrong type
 abbrev pub multiplication_code : MultiplyOperator → ExpressionCode → ExpressionCode → ExpressionCode
 multiplication_code multiply_operator.Multiply = number_operation lowered.product
 multiplication_code multiply_operator.Divide = number_operation lowered.quotient
 multiplication_code multiply_operator.Modulo = number_operation lowered.remainder
 multiplication_code multiply_operator.And = truth_operation lowered.both
 
--- The code of a term with its sign. Without a sign, this is the code of the term. There is no code
--- if a term with a sign isn't a number. `+x` is lowered to `x + 0`, which is in range exactly if
--- `x` is.
+-- Returns the code of a term with its sign, or the code of the term if there is no sign. Returns
+-- `no_code` if a term with a sign isn't a number. `+x` is lowered to `x + 0`, which is in range
+-- exactly if `x` is.
 abbrev pub signed_code : Option Sign → ExpressionCode → ExpressionCode
 signed_code None c = c
 signed_code (Some sign.Plus) (a_number n) =
@@ -105,53 +106,55 @@ signed_code (Some sign.Plus) (a_number n) =
 signed_code (Some sign.Minus) (a_number n) = a_number (lowered.negative n)
 signed_code _ _ = no_code
 
--- the code of a negation `~`; no code if the operand isn't a truth
+-- returns the code of a negation `~`, or `no_code` if the operand isn't a truth
 abbrev pub negation_code : ExpressionCode → ExpressionCode
 negation_code (a_truth t) = a_truth (lowered.negation t)
 negation_code _ = no_code
 
--- the code of a relation between two numbers, or of `=` or `#` between two truth values; no code
--- for other operands
+-- Returns the code of a relation between two numbers, or of `=` or `#` between two truths. Returns
+-- `no_code` for any other operands or relation.
 abbrev pub related : Relation → ExpressionCode → ExpressionCode → ExpressionCode
 related r (a_number m) (a_number n) = a_truth (lowered.related (relation_of r) m n)
 related relation.Equal (a_truth t) (a_truth u) = a_truth (lowered.same t u)
 related relation.NotEqual (a_truth t) (a_truth u) = a_truth (lowered.different t u)
 related _ _ _ = no_code
 
--- the offset of an array's element if its index is a literal below the array's length, otherwise
--- None
+-- Returns the offset of an array's element, in cells, if the index is a literal below the array's
+-- length. Returns None for any other index.
 abbrev pub known_offset : lowered.Number → (length stride : ℕ) → Option ℕ
 known_offset (lowered.literal (pos i)) n s =
     if nat_lt i n then Some ((i * s) % 2 ^ 64) else None
 known_offset _ n s = None
 
--- the place of an array's element: a part of the array if its offset is known, otherwise the
--- element at an index
+-- Returns the place of an array's element. If the offset of the element is known, this is a part of
+-- the array. Otherwise it is the element at an index that is evaluated during the run.
 abbrev pub element_or_part : Option ℕ → lowered.Place → lowered.Number → (length stride : ℕ)
     → lowered.Place
 element_or_part None q i n s = lowered.element q i n s 0
 element_or_part (Some k) q i n s = part_at q k
 
--- the place of an element of the array at a place, with an index, a length and a stride
+-- returns the place of an element, given the place of the array, the index, the array's length, and
+-- the number of cells of an element
 abbrev pub element_at_place : lowered.Place → lowered.Number → (length stride : ℕ) → lowered.Place
 element_at_place q i n s = element_or_part (known_offset i n s) q i n s
 
--- the place and type of a field of the value at a place; None if there is no such field
+-- Returns the place and the type of a field of the value at a place. Returns None if the value has
+-- no such field.
 abbrev pub record_field_place : Name → FoundPlace → Option FoundPlace
 record_field_place x f =
     option_map
     (λ t. record { place = part_at f.place (step_offset f.shape (at_field x)); shape = t })
     (field_type f.shape x)
 
--- the place and type of an element of the array at a place; None if the index isn't a number, or
--- the type isn't an array type
+-- Returns the place and the type of an element of the array at a place. Returns None if the index
+-- isn't a number, or the value at the place isn't an array.
 abbrev pub element_place : ExpressionCode → lowered.Place → Shape → Option FoundPlace
 element_place (a_number i) q (array_shape k n s) =
     Some (record { place = element_at_place q i n (size s); shape = s })
 element_place _ _ _ = None
 
--- the place and type of an element of a found array; None if no place was found, the index isn't a
--- number, or the type isn't an array type
+-- Returns the place and the type of an element of the array at a place that was found. Returns None
+-- if no place was found, the index isn't a number, or the value at the place isn't an array.
 abbrev pub indexed_place : ExpressionCode → Option FoundPlace → Option FoundPlace
 indexed_place c None = None
 indexed_place c (Some f) = element_place c f.place f.shape

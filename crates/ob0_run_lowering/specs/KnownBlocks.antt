@@ -1,9 +1,9 @@
--- States that the bindings of a module agree with the table of its declarations by ordinal.
--- `BlockIsDeclared` recurses over the tree. It says about each environment in which procedures or
--- statements of a block are checked: each binding has an ordinal, and the object that is declared
--- under this ordinal. A well-typed module has this property (`module-declared`). In its numbered
--- tree ordinals descend in each environment, so each binding is the one that a look-up finds. No
--- other fact about the order of ordinals is used.
+-- States that the bindings of a module agree with the table of its declarations. `BlockIsDeclared`
+-- recurses over the tree, and is about each environment in which procedures or statements of a
+-- block are checked. Each binding in this environment has an ordinal, and the object that the table
+-- has at this ordinal. A well-typed module has this property (`module-declared`). In its numbered
+-- tree ordinals descend in each environment, so a look-up of a name finds this binding. No other
+-- fact about the order of ordinals is used.
 -- Rule: none; for contracts of lowering.
 use Rattle.std.specs.Prelude.{◌≡◌, ℕ, [], ◌∷◌, Some, Option}
 use Rattle.ob0_tree.specs.Tree.{Tree, block, items, procedure}
@@ -13,11 +13,12 @@ use Rattle.ob0_language_types.specs.Expressions.{Object}
 use Rattle.ob0_language_types.specs.WellTyped.{Signature, TypeEnvironment}
 use Rattle.ob0_language_values.specs.Values.{Shape}
 
--- the objects of declarations, by their ordinals
+-- The type of a module's declarations as a function: from an ordinal to the declaration's object,
+-- or to None if no object has this ordinal.
 abbrev pub Objects : Type 0
 Objects = ℕ → Option (Object Shape Signature)
 
--- States that each binding of an environment binds an ordinal to the object that is declared under
+-- States that each binding of an environment binds an ordinal to the object of the declaration with
 -- this ordinal.
 abbrev pub AreDeclared : Objects → TypeEnvironment Label → Type 0
 AreDeclared objects [] = Unit {0}

@@ -1,10 +1,11 @@
 -- States that statements are lowered to code that means them in a scene. `HoldsInScene` is the form
--- of every clause about statements except the clause of `body`. It says: for all checked names,
--- slots and targets that the scene sees, a tree that fits has its meaning. Each law of
--- `ob0_run_cells` is lifted to this form once (`proofs/HoldsInScene`): if the whole fits, its parts
--- fit. The clause of `body` states the meaning of a body by `BodyMeans` of `ob0_run_cells`. It does
--- so in each environment and at each placement that the scene sees, if the body fits. A tree that
--- occurs in no well-typed module doesn't fit, so its clause holds for any code.
+-- of every clause about statements except the clause of `body`. A clause of this form is about all
+-- checked names, slots and targets that the scene sees. It says that the code of a tree means the
+-- tree, if the tree fits. Each law of `ob0_run_cells` is lifted to this form once
+-- (`proofs/HoldsInScene`): if the whole fits, its parts fit. The clause of `body` states the
+-- meaning of a body by `BodyMeans` of `ob0_run_cells`. This clause is about each environment and
+-- each placement that the scene sees, if the body fits. A tree that occurs in no well-typed module
+-- doesn't fit, so a clause about this tree holds for any code.
 -- Rule: none; for contracts of lowering.
 use Rattle.std.specs.Prelude.{◌≡◌, ◌&&◌, Bool, List, [], IsTrue, Option, Some, None}
 use Rattle.std.specs.declared.alloc.Global.{Global}
@@ -21,7 +22,7 @@ use Rattle.ob0_run_cells.specs.Lowering.{Slot, TruthMeans, value_of_expression}
 use Rattle.ob0_run_lowering.specs.declared.scene.Scene.{Scene}
 use Rattle.ob0_run_lowering.specs.Scenes.{Sees}
 
--- States `Means` for all checked names, slots and targets that a scene sees, if the tree fits by
+-- States `Means` for all checked names, slots and targets that a scene sees, if the tree fits with
 -- these names.
 abbrev pub HoldsInScene : Scene
     → (TypeMeanings Label → Bool)
@@ -55,13 +56,13 @@ StatementLowers scene c a =
     HoldsInScene scene (λ checked. statement_fits checked a)
     (λ checked slots targets. StatementMeans checked slots targets c a)
 
--- the arguments of a call, or no arguments if the call has no argument list
+-- Returns the arguments of a call. Returns the empty list if the call has no argument list.
 abbrev pub given_arguments : Option (Vec Expression Global) → List Expression
 given_arguments None = []
 given_arguments (Some es) = es.items
 
--- States that an instruction means a statement in a scene. Without an instruction, the statement
--- has to be empty.
+-- States that an instruction means a statement in a scene. For None, states that the statement is
+-- empty.
 abbrev pub OptionalStatementLowers : Scene → Option lowered.Instruction → Tree Label statement → Type 0
 OptionalStatementLowers scene None a = a ≡ empty
 OptionalStatementLowers scene (Some c) a = StatementLowers scene c a
@@ -72,20 +73,22 @@ SequenceLowers scene cs a =
     HoldsInScene scene (λ checked. sequence_fits checked a)
     (λ checked slots targets. SequenceMeans checked slots targets cs a)
 
--- States that instructions mean the statements after the first of a sequence in a scene.
+-- States that instructions mean the statements after the first one of a sequence, in a scene.
 abbrev pub FurtherStatementsLower : Scene → lowered.Instructions → Tree Label (items further_statement)
     → Type 0
 FurtherStatementsLower scene cs rest =
     HoldsInScene scene (λ checked. statements_fit checked rest)
     (λ checked slots targets. FurtherStatementsMean checked slots targets cs rest)
 
--- States that instructions mean an ELSE part in a scene. The ELSE part may be missing.
+-- States that instructions mean an ELSE part in a scene. If there is no ELSE part, the instructions
+-- have no effect.
 abbrev pub ElseLowers : Scene → lowered.Instructions → Tree Label (maybe else_part) → Type 0
 ElseLowers scene cs last =
     HoldsInScene scene (λ checked. else_fits checked last)
     (λ checked slots targets. ElseMeans checked slots targets cs last)
 
--- States that branches and instructions mean ELSIF parts and the ELSE part after them in a scene.
+-- States that branches mean ELSIF parts, and that instructions mean the ELSE part after them, in a
+-- scene.
 abbrev pub ElsifsLower : Scene
     → lowered.Branches
     → lowered.Instructions

@@ -1,5 +1,5 @@
--- States that expressions, designators and arguments are lowered to code that means them, if a
--- scene is right.
+-- States that expressions, designators and arguments are lowered to code that means them. This
+-- holds for all checked names and slots that the scene sees.
 -- Rule: none; for contracts of lowering.
 use Rattle.std.specs.Prelude.{◌≡◌, ℕ, true, Some}
 use Rattle.ob0_tree.specs.Tree.{Tree, expression, items, selector}
@@ -24,25 +24,27 @@ use Rattle.ob0_run_lowering.specs.declared.lowered.TypedPlace.{TypedPlace}
 use Rattle.ob0_run_lowering.specs.declared.lowered.Lowered.{Lowered}
 use Rattle.ob0_run_lowering.specs.declared.scene.Scene.{Scene}
 
--- States that a `Lowered` means an evaluated value of a type.
+-- States that the code `l` means an evaluated value of a type.
 abbrev pub LoweredMeans : TypeMeanings Label → (Label → Slot) → Lowered → Shape → OutcomeByMoment Label Value → Type 0
 LoweredMeans checked slots l s value = CodeMeans checked slots (code_of l) s value
 
--- States P for all checked names and slots that a scene sees.
+-- States `P` for all checked names and slots that a scene sees.
 abbrev pub ForAllSeen : Scene → (TypeMeanings Label → (Label → Slot) → Type 0) → Type 0
 ForAllSeen scene P =
     (checked : TypeMeanings Label) (slots : Label → Slot) (targets : Label → Target)
     → Sees scene checked slots targets
     → P checked slots
 
--- States that code means an expression in a scene. Claims nothing if the expression has no type.
+-- States that code means an expression in a scene. If the expression has no type, nothing is
+-- claimed.
 abbrev pub Lowers : Scene → Tree ℕ expression → Lowered → Type 0
 Lowers scene e l =
     ForAllSeen scene (λ checked slots. (s : Shape)
     → type_of checked (tree_with_labels scene.resolved.now e) ≡ Some s
     → LoweredMeans checked slots l s (value_of_expression (tree_with_labels scene.resolved.now e)))
 
--- states that a number means an expression in a scene, if the expression is an INTEGER
+-- States that a number means an expression in a scene. If the expression isn't of type INTEGER,
+-- nothing is claimed.
 abbrev pub LowersNumber : Scene → Tree ℕ expression → Number → Type 0
 LowersNumber scene e n =
     ForAllSeen scene (λ checked slots. type_of checked (tree_with_labels scene.resolved.now e)
@@ -50,7 +52,8 @@ LowersNumber scene e n =
     → NumberMeans checked slots (number_of n)
     (value_of_expression (tree_with_labels scene.resolved.now e)))
 
--- states that a truth means an expression in a scene, if the expression is a BOOLEAN
+-- States that a truth means an expression in a scene. If the expression isn't of type BOOLEAN,
+-- nothing is claimed.
 abbrev pub LowersTruth : Scene → Tree ℕ expression → Truth → Type 0
 LowersTruth scene e t =
     ForAllSeen scene (λ checked slots. type_of checked (tree_with_labels scene.resolved.now e)
@@ -58,8 +61,8 @@ LowersTruth scene e t =
     → TruthMeans checked slots (truth_of t)
     (value_of_expression (tree_with_labels scene.resolved.now e)))
 
--- states that `l` has the place and the type of a variable with its selectors; claims nothing if
--- this designator has no type
+-- States that `l` is the place and the type of a designator: the variable at the token `x` with the
+-- selectors `path`. If the designator isn't a variable with a type, nothing is claimed.
 abbrev pub Locates : Scene → ℕ → Tree ℕ (items selector) → TypedPlace → Type 0
 Locates scene x path l =
     ForAllSeen scene (λ checked slots. (s : Shape)
@@ -69,8 +72,8 @@ Locates scene x path l =
     × PlaceMeans checked slots (place_of l.place) s
     (place_of_designator (label_at_token scene.resolved.now x) (tree_with_labels scene.resolved.now path)))
 
--- states that `l` has the place and the type of an expression that is only a designator; claims
--- nothing about other expressions
+-- States that `l` is the place and the type of an expression that is only a designator. For other
+-- expressions, nothing is claimed.
 abbrev pub LocatesLoneDesignator : Scene → Tree ℕ expression → TypedPlace → Type 0
 LocatesLoneDesignator scene e l =
     ForAllSeen scene (λ checked slots. (s : Shape)
@@ -78,7 +81,8 @@ LocatesLoneDesignator scene e l =
     → (type_shape (shapes_of scene.types.now) l.of ≡ s)
     × IsAt checked slots (place_of l.place) s (tree_with_labels scene.resolved.now e))
 
--- states that a lowered argument means an argument, if the argument fits its parameter
+-- States that a lowered argument means an argument in a scene. If the argument doesn't fit its
+-- parameter, nothing is claimed.
 abbrev pub LowersArgument : Scene → FormalParameter → Tree ℕ expression → Argument → Type 0
 LowersArgument scene f e a =
     ForAllSeen scene (λ checked slots. argument_fits checked

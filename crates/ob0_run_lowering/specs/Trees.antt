@@ -1,5 +1,5 @@
--- Defines the code of designators and expressions. It depends on a scene, which has the object and
--- the site of each declaration.
+-- Defines the code of designators and expressions. The code depends on a scene, which has the
+-- object and the site of each declaration.
 -- Rule: none; for contracts of lowering.
 use Rattle.std.specs.Prelude.{List, pos, Some, None, Option, option_and_then}
 use Rattle.ob0_tree.specs.Tree.{Tree, addend, adds, compares, designator, end, expression, factor, field, index, integer, item, items, more, multiplier, multiplies, negation, none, one, parenthesised, product, relates, selector, simple, sum, term}
@@ -19,56 +19,58 @@ use Rattle.ob0_run_lowering.specs.declared.lowered.Lowered.{Lowered}
 use Rattle.ob0_run_lowering.specs.declared.lowered.Lowered.TheVariants as code
 use Rattle.ob0_run_lowering.specs.declared.scene.Scene.{Scene}
 
--- the code that a `Lowered` stands for
+-- converts the code in a `Lowered` to an `ExpressionCode`
 abbrev pub code_of : Lowered → ExpressionCode
 code_of (code.Number n) = a_number (number_of n)
 code_of (code.Truth t) = a_truth (truth_of t)
 code_of (code.Block q n) = a_block (place_of q) n
 code_of code.Nothing = no_code
 
--- the place and type that a `TypedPlace` stands for
+-- converts a `TypedPlace` to a `FoundPlace`, given the types of the table of types
 abbrev pub found_place_of : List Shape → TypedPlace → FoundPlace
 found_place_of shapes l = record { place = place_of l.place; shape = type_shape shapes l.of }
 
--- the place and type of a variable; None if the object isn't a variable
+-- returns the place `q` and the type of a variable, or None if the object isn't a variable
 abbrev pub variable_place : lowered.Place → Option (Object Shape Signature) → Option FoundPlace
 variable_place q (Some (a_variable s)) = Some (record { place = q; shape = s })
 variable_place q _ = None
 
--- the place and type of the variable or parameter that a label refers to, without any selectors;
--- None if the label is unbound, or refers to another kind of object
+-- Returns the place and the type of the variable or parameter that a label refers to, before any
+-- selectors. Returns None if the label is unbound, or refers to another kind of object.
 abbrev pub base_place : Scene → Label → Option FoundPlace
 base_place scene x = variable_place (slot_place (slot_at scene x)) (object_at scene.types.now x)
 
 abbrev mutual
-  -- the code of an expression, which is one simple expression or a relation between two
+  -- returns the code of an expression, which is one simple expression or a relation between two
   pub expression_code : Scene → Tree Label expression → ExpressionCode
   expression_code scene (compares a none) = simple_code scene a
   expression_code scene (compares a (one (relates r b))) =
       related r (simple_code scene a) (simple_code scene b)
 
-  -- the code of a simple expression: begins with the first term and its sign, then adds the further
-  -- terms
+  -- returns the code of a simple expression: begins with the first term and its sign, then adds the
+  -- further terms
   pub simple_code : Scene → Tree Label simple → ExpressionCode
   simple_code scene (sum s t rest) = addends_code scene (signed_code s (term_code scene t)) rest
 
-  -- the code c, combined with each further term from left to right
+  -- returns the code `c`, combined with each further term from left to right
   pub addends_code : Scene → ExpressionCode → Tree Label (items addend) → ExpressionCode
   addends_code scene c end = c
   addends_code scene c (more (adds o t) rest) =
       addends_code scene (addition_code o c (term_code scene t)) rest
 
-  -- the code of a term: combines its first factor with each further factor, from left to right
+  -- returns the code of a term: combines the first factor with each further factor, from left to
+  -- right
   pub term_code : Scene → Tree Label term → ExpressionCode
   term_code scene (product f rest) = multipliers_code scene (factor_code scene f) rest
 
-  -- the code c, combined with each further factor from left to right
+  -- returns the code `c`, combined with each further factor from left to right
   pub multipliers_code : Scene → ExpressionCode → Tree Label (items multiplier) → ExpressionCode
   multipliers_code scene c end = c
   multipliers_code scene c (more (multiplies o f) rest) =
       multipliers_code scene (multiplication_code o c (factor_code scene f)) rest
 
-  -- the code of a factor; a designator gives the value of a constant or the value at a place
+  -- Returns the code of a factor. A designator has the code of a constant's value or of the value
+  -- at a place.
   pub factor_code : Scene → Tree Label factor → ExpressionCode
   factor_code scene (designator x path) =
       named_code (constant_of (object_at scene.types.now x))
@@ -77,8 +79,8 @@ abbrev mutual
   factor_code scene (parenthesised e) = expression_code scene e
   factor_code scene (negation f) = negation_code (factor_code scene f)
 
-  -- the place and type that selectors reach from a found place, one after the other; None if no
-  -- place was found, or if a selector selects nothing
+  -- Returns the place and the type that selectors reach from a place, one selector after the other.
+  -- Returns None if no place was found, or if a selector selects nothing.
   pub selected_place : Scene → Option FoundPlace → Tree Label (items selector) → Option FoundPlace
   selected_place scene found end = found
   selected_place scene found (more (field x) rest) =
@@ -86,8 +88,8 @@ abbrev mutual
   selected_place scene found (more (index e) rest) =
       selected_place scene (indexed_place (expression_code scene e) found) rest
 
--- the place and type that one selector reaches from a found place; None if no place was found, or
--- if the selector selects nothing
+-- Returns the place and the type that one selector reaches from a place. Returns None if no place
+-- was found, or if the selector selects nothing.
 abbrev pub place_after_selector : Scene
     → Option FoundPlace
     → Tree Label (item selector)

@@ -2,11 +2,13 @@
 //! third operand of `&` makes an `All`, a third operand of OR an `Any`.
 //!
 //! In `v + i * j` the sum becomes the last operation of the chain that begins with `i * j`.
-//! According to `View` these nodes have the same meaning as nested ones, so no other module has to
+//! According to `View`, these nodes have the same meaning as nested pairs, so no other module has to
 //! distinguish them. The same holds for the forms of places, negations and assignments that the
-//! machine evaluates in fewer steps. Since the meaning is the same, separate clauses state how deep
-//! the code is nested (`specs/Rows`). One more operand makes a conjunction at most as deep on the
-//! left as before, or as a pair (`IsNoDeeper`). So the first operand of a conjunction isn't a
+//! machine evaluates in fewer steps.
+//!
+//! Chains and nested pairs have the same meaning, so separate clauses state how deep the code is
+//! nested (`specs/Rows`). One more operand makes a conjunction no deeper on the left, unless the
+//! left operand wasn't a conjunction (`IsNoDeeper`). So the first operand of a conjunction isn't a
 //! conjunction (`IsFlat`). `both` and `either` list each case of the left operand, since a proof
 //! knows nothing about an operand in a wildcard arm.
 
@@ -21,7 +23,8 @@ use ob0_run_machine::code::{
 };
 use std::alloc::{AllocError, Global};
 
-/// Returns the link that applies an operator to a number, with `right` as its right operand.
+/// Returns the link that applies an operator to the result so far, with the number `right` as the
+/// right operand.
 fn link(operator: Operator, right: Number) -> Link
     ensures { (left : machine.Number)
         → applied result left ≡ machine.operation (operator_of operator) left (number_of right) }
@@ -55,8 +58,8 @@ fn link(operator: Operator, right: Number) -> Link
     }
 }
 
-/// Returns the link that applies an operator to a number, with a variable as its left operand.
-/// Returns None for a quotient or a remainder, for which there is no such link.
+/// Returns the link that applies an operator with a variable as the left operand and the result so
+/// far as the right operand. Returns None for a quotient or a remainder, which have no such link.
 fn reversed_link(operator: Operator, variable: Variable) -> Option<Link>
     ensures { IfSome result (λ l. (right : machine.Number) → applied l right
         ≡ machine.operation (operator_of operator) (machine.cell (variable_of variable)) right) }
@@ -70,14 +73,14 @@ fn reversed_link(operator: Operator, variable: Variable) -> Option<Link>
     }
 }
 
-/// Returns one operation as a number: the link applied to the first operand.
+/// Returns the number that is a single operation: the link applied to the first operand.
 fn single_operation(alloc: Global, first: FirstOperand, link: Link) -> Result<Number, AllocError>
     ensures { IfOk result (λ n. number_of n ≡ applied link (first_of first)) }
 {
     Ok(Number::Operation(Box::new(alloc, Operation { first, link })?))
 }
 
-/// Returns the chain of an operation and a second link.
+/// Returns the chain that applies a second link, `next`, to the result of an operation.
 fn two_operations(alloc: Global, operation: Operation, next: Link) -> Result<Number, AllocError>
     ensures { IfOk result (λ n. number_of n ≡ applied next (operation_of operation)) }
 {
@@ -97,7 +100,8 @@ fn extended_chain(alloc: Global, chain: Chain, link: Link) -> Result<Number, All
     Ok(Number::Chain(Box::new(alloc, Chain { first, rest })?))
 }
 
-/// Returns an operation between a variable and a number. It isn't made part of a chain.
+/// Returns the operation on a variable and the number `right`. The result is a single operation,
+/// even if `right` is a chain.
 fn plain_operation(
     alloc: Global,
     operator: Operator,
@@ -114,8 +118,9 @@ fn plain_operation(
     )
 }
 
-/// Returns an operation between a variable and a number. If the number is an operation or a chain,
-/// the result is one chain: it evaluates the variable last, which gives the same value.
+/// Returns the operation on a variable and the number `right`. If `right` is an operation or a
+/// chain, the result is one chain, which evaluates the variable last. The variable has the same
+/// value then. For a quotient or a remainder, the result is a single operation.
 fn operation_on_variable(
     alloc: Global,
     operator: Operator,
@@ -135,8 +140,8 @@ fn operation_on_variable(
     }
 }
 
-/// Returns an operation between two numbers. If the left operand is an operation or a chain, the
-/// result is one chain.
+/// Returns the operation on two numbers. If the left number is an operation or a chain, the result
+/// is one chain.
 pub(crate) fn operation(
     alloc: Global,
     operator: Operator,
@@ -172,7 +177,7 @@ pub(crate) fn operation(
     }
 }
 
-/// Returns the conjunction of several truths and one more at the end.
+/// Returns the conjunction of several truths, with the truth `right` added at the end.
 fn extended_conjunction(
     alloc: Global,
     several: TruthList,
@@ -189,7 +194,7 @@ fn extended_conjunction(
     Ok(Truth::All(several))
 }
 
-/// Returns the disjunction of several truths and one more at the end.
+/// Returns the disjunction of several truths, with the truth `right` added at the end.
 fn extended_disjunction(
     alloc: Global,
     several: TruthList,
@@ -240,7 +245,8 @@ fn disjunction_of_three(
     extended_disjunction(alloc, TruthList { first, rest }, third)
 }
 
-/// Returns the negation of a truth. It is one node if the truth is a flag.
+/// Returns the negation of a truth. If the truth is a flag, the negation is a single node
+/// (`Unset`).
 pub(crate) fn negation(alloc: Global, truth: Truth) -> Result<Truth, AllocError>
     ensures meaning { IfOk result (λ t. truth_of t ≡ machine.negation (truth_of truth)) }
     ensures flat { IfOk result (λ t. (and_depth t ≡ 0) × (or_depth t ≡ 0)) }
@@ -269,8 +275,8 @@ fn plain_disjunction(alloc: Global, left: Truth, right: Truth) -> Result<Truth, 
     Ok(Truth::Either(Box::new(alloc, TruthPair { left, right })?))
 }
 
-/// Returns the conjunction of two truths. If the left one is a conjunction, the right one is
-/// appended.
+/// Returns the conjunction of two truths. If the left truth is a conjunction, the right truth is
+/// added at its end.
 pub(crate) fn both(alloc: Global, left: Truth, right: Truth) -> Result<Truth, AllocError>
     ensures meaning { IfOk result
         (λ t. truth_of t ≡ machine.both (truth_of left) (truth_of right)) }
@@ -322,8 +328,8 @@ pub(crate) fn both(alloc: Global, left: Truth, right: Truth) -> Result<Truth, Al
     }
 }
 
-/// Returns the disjunction of two truths. If the left one is a disjunction, the right one is
-/// appended.
+/// Returns the disjunction of two truths. If the left truth is a disjunction, the right truth is
+/// added at its end.
 pub(crate) fn either(alloc: Global, left: Truth, right: Truth) -> Result<Truth, AllocError>
     ensures meaning { IfOk result
         (λ t. truth_of t ≡ machine.either (truth_of left) (truth_of right)) }

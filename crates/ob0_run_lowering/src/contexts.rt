@@ -1,4 +1,4 @@
-//! The facts about a module that are needed to lower its blocks.
+//! Defines the facts about a module that are needed to lower its blocks.
 
 ghost use Rattle.std.specs.Prelude.{◌≡◌};
 
@@ -7,7 +7,7 @@ use ob0_scope_table::Resolved;
 use ob0_types_table::TypeId;
 use std::alloc::Global;
 
-/// The data with which the blocks of a module are lowered: the module, its types, and the
+/// The data that is needed to lower the blocks of a module: the module, its types, and the
 /// allocator.
 #[derive(Clone, Copy)]
 pub(crate) struct LoweringContext<'g, 'k, 't> {
@@ -25,8 +25,9 @@ impl<'g, 'k, 't> LoweringContext<'g, 'k, 't> {
     ghost use Rattle.ob0_run_lowering.specs.Scenes.{object_at};
     ghost use Rattle.ob0_run_lowering.specs.Placed.{declared_size};
 
-    /// Returns the type that the name at a token declares: of a variable, a parameter or a
-    /// constant, or the type with this name. Returns None for any other declaration.
+    /// Returns the type of the variable, parameter or constant that the name at a token declares.
+    /// If the name declares a type, returns this type. Returns None for any other declaration, or
+    /// if the name declares nothing.
     fn type_of(&self, name: usize) -> Option<TypeId>
         ensures { option_map (type_shape (shapes_of self.now.types.now)) result
             ≡ type_of_declaration (object_at self.now.types.now (label_at_token self.now.resolved.now name)) }

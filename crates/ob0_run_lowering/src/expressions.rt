@@ -1,5 +1,5 @@
-//! Makes the code that statements need from expressions: numbers, truths, places and arguments. If
-//! an expression has no such code, a default is returned, for example 0 or FALSE.
+//! Makes the code that a statement needs for its expressions: numbers, truths, places and
+//! arguments. If an expression has no such code, a default is returned, for example 0 or FALSE.
 
 ghost use Rattle.std.specs.Prelude.{IfOk};
 ghost use Rattle.ob0_tree.specs.View.{expression_of};
@@ -18,7 +18,7 @@ use ob0_types_table::designated::lone_designator;
 use ob0_types_table::{FormalParameter, TypeId};
 use std::alloc::{AllocError, Global};
 
-/// Returns the number that is an expression's code, or 0 if the code isn't a number.
+/// Returns an expression's code if this code is a number, otherwise the literal 0.
 fn number_or_zero(lowered: Lowered) -> Number
     ensures { IsNumberOf lowered result }
 {
@@ -30,7 +30,7 @@ fn number_or_zero(lowered: Lowered) -> Number
     }
 }
 
-/// Returns the truth that is an expression's code, or FALSE if the code isn't a truth.
+/// Returns an expression's code if this code is a truth, otherwise the constant FALSE.
 fn truth_or_false(lowered: Lowered) -> Truth
     ensures taken { IsTruthOf lowered result }
     ensures flat { IsFlat lowered → IsFlat (code.Truth result) }
@@ -43,8 +43,8 @@ fn truth_or_false(lowered: Lowered) -> Truth
     }
 }
 
-/// Returns the argument that passes an expression by value. If the expression has no code, the
-/// argument is FALSE.
+/// Returns the argument that passes the value of an expression, given the expression's code. If the
+/// expression has no code, the argument is FALSE.
 fn by_value_argument(lowered: Lowered) -> Argument
     ensures { IsValueOf lowered result }
 {
@@ -63,7 +63,8 @@ fn unknown_place() -> TypedPlace {
     }
 }
 
-/// Returns the place that was found, or the module's first cell if no place was found.
+/// Returns the place that was found. For None, returns the module's first cell, with an unknown
+/// type.
 fn found_or_unknown_place(found: Option<TypedPlace>) -> TypedPlace
     ensures { IsTypedPlaceOf found result }
 {
@@ -78,7 +79,7 @@ impl<'s, 'k, 't> Scene<'s, 'k, 't> {
     ///
     /// # Errors
     ///
-    /// An allocation failed. The other functions here have no other error either.
+    /// An allocation failed. The other functions in this file also fail only for this reason.
     pub fn expression(&self, alloc: Global, e: &Expression) -> Result<Lowered, AllocError>
         ensures lowers { IfOk result (Lowers self.now (expression_of e.now)) }
         ensures flat { IfOk result IsFlat }
@@ -86,7 +87,7 @@ impl<'s, 'k, 't> Scene<'s, 'k, 't> {
         self.lower_expression(alloc, e)
     }
 
-    /// Returns the number that an expression means, or 0 if the expression isn't an INTEGER.
+    /// Returns the number that an expression means, or 0 if the expression isn't of type INTEGER.
     pub fn number(&self, alloc: Global, e: &Expression) -> Result<Number, AllocError>
         ensures { IfOk result (LowersNumber self.now (expression_of e.now)) }
     {
@@ -94,7 +95,7 @@ impl<'s, 'k, 't> Scene<'s, 'k, 't> {
         Ok(number_or_zero(lowered))
     }
 
-    /// Returns the truth that a condition means, or FALSE if the expression isn't a BOOLEAN.
+    /// Returns the truth that a condition means, or FALSE if the condition isn't of type BOOLEAN.
     pub fn truth(&self, alloc: Global, e: &Expression) -> Result<Truth, AllocError>
         ensures lowers { IfOk result (LowersTruth self.now (expression_of e.now)) }
         ensures flat { IfOk result (λ t. IsFlat (code.Truth t)) }
@@ -103,8 +104,8 @@ impl<'s, 'k, 't> Scene<'s, 'k, 't> {
         Ok(truth_or_false(lowered))
     }
 
-    /// Returns the place of a designator and its type, or the module's first cell if there is no
-    /// such place.
+    /// Returns the place of a designator, and the type of the value there. If the designator has no
+    /// place, returns the module's first cell, with an unknown type.
     pub fn place(&self, alloc: Global, d: &Designator) -> Result<TypedPlace, AllocError>
         ensures { IfOk result (Locates self.now (out-Designator d.now).name (selectors_in d.now)) }
     {
@@ -112,8 +113,8 @@ impl<'s, 'k, 't> Scene<'s, 'k, 't> {
         Ok(found_or_unknown_place(found))
     }
 
-    /// Returns the place of an argument for a VAR parameter. Returns the module's first cell if the
-    /// argument isn't only a designator.
+    /// Returns the place of an argument for a VAR parameter. If the argument isn't just a
+    /// designator, or has no place, returns the module's first cell, with an unknown type.
     pub fn locate_argument(&self, alloc: Global, e: &Expression) -> Result<TypedPlace, AllocError>
         ensures { IfOk result (LocatesLoneDesignator self.now (expression_of e.now)) }
     {
@@ -123,7 +124,8 @@ impl<'s, 'k, 't> Scene<'s, 'k, 't> {
         }
     }
 
-    /// Returns the code of an argument, according to its parameter: its place or its value.
+    /// Returns the code of an argument: its place for a VAR parameter, its value for any other
+    /// parameter.
     pub fn argument(
         &self,
         alloc: Global,

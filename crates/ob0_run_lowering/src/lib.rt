@@ -1,12 +1,12 @@
-//! Lowering: a well-typed module becomes a program of the machine that has the module's meaning.
+//! Lowers a well-typed module to a program of the machine. The program has the module's meaning.
 //!
-//! There are three layers: designators, expressions and arguments; the statements of a body;
-//! declarations, blocks and procedures. The contracts of the first two hold for any `checked`,
-//! `slots` and `targets` for which the scene is right (`Sees`): each bound name has the object of
-//! its declaration, and is at the place that the scene has for it. So these contracts mention no
-//! environments, placements or blocks. The code that lowers blocks shows `Sees` at each body. The
-//! code of an expression means the expression if the expression has a type (`Lowers`). Otherwise
-//! nothing is claimed about the code. So every tree is accepted, and code is made for each.
+//! There are three layers. The first lowers designators, expressions and arguments, the second the
+//! statements of a body, and the third declarations, blocks and procedures. The contracts of the
+//! first two layers hold for any checked names, slots and targets for which the scene is right
+//! (`Sees`). Then the scene has the object of each bound name, and the place of each variable and
+//! procedure. So these contracts mention no environments, placements or blocks. The third layer
+//! shows `Sees` at each body. If an expression has a type, its code means the expression (`Lowers`).
+//! If it has no type, nothing is claimed about its code. So every tree is accepted and lowered.
 #![tactic(auto)]
 
 mod chains;

@@ -1,5 +1,6 @@
-//! The lowering of assignments. In a well-typed module the right side has code. If it has none, the
-//! assignment is lowered to `WriteLine`, since some instruction has to be returned.
+//! Lowers assignments. In a well-typed module the right side of an assignment has code. If the
+//! right side has no code, the assignment is lowered to `WriteLine`, since some instruction has to
+//! be returned.
 
 ghost use Rattle.std.specs.Prelude.{◌≡◌, IfOk};
 ghost use Rattle.ob0_tree.specs.View.{assignment_of};
@@ -44,7 +45,8 @@ fn variable_assignment(
     }
 }
 
-/// Returns the code that assigns to a variable the result of an operation on this variable.
+/// Returns the code that applies a link to a variable's value, and assigns the result to the same
+/// variable.
 fn update_assignment(variable: Variable, link: Link) -> Instruction
     ensures { statement_of result ≡ machine.stores_number (variable_of variable)
         (applied link (machine.cell (variable_of variable))) }
@@ -55,8 +57,8 @@ fn update_assignment(variable: Variable, link: Link) -> Instruction
     }
 }
 
-/// Returns the code that assigns the result of an operation to a variable. If the variable is also
-/// the left operand, the code is an update.
+/// Returns the code that assigns the result of an operation to a variable. If the first operand is
+/// the same variable, the code is an `Update` or an `Increase`.
 fn operation_assignment(
     alloc: Global,
     variable: Variable,
@@ -85,8 +87,8 @@ fn operation_assignment(
     }
 }
 
-/// Returns the code of an assignment of TRUE or FALSE. It is one node if the target is an element
-/// whose array and index are variables.
+/// Returns the code that assigns TRUE or FALSE to a place. If the place is an element whose array
+/// and index are variables, the code is a single node.
 fn constant_assignment(place: Place, b: bool) -> Instruction
     ensures { statement_of result ≡ machine.stores_truth (place_of place) (machine.constant b) }
 {

@@ -1,10 +1,10 @@
-//! The lowering of calls, of declared and of standard procedures. No well-typed module calls a
+//! Lowers calls of declared procedures and of standard procedures. No well-typed module calls a
 //! variable, or calls Read without an argument. Such calls are lowered to `WriteLine`, since some
 //! instruction has to be returned.
 //!
-//! Arguments and parameters are visited in pairs, without comparing how many there are. If one list
-//! is longer, the arguments don't fit, and nothing is claimed. Read needs the place of its argument
-//! (`locate_argument`), Write the number (`number`).
+//! Arguments and parameters are visited in pairs, and their numbers aren't compared. If one list is
+//! longer, the arguments don't fit, and nothing is claimed about the code. Read needs the place of
+//! its argument (`locate_argument`), Write the value of its argument (`number`).
 
 ghost use Rattle.std.specs.Prelude.{◌≡◌, IfOk, Some, map, option_map, slice_get};
 ghost use Rattle.ob0_tree.specs.View.{arguments_of, call_of};
@@ -26,7 +26,7 @@ use ob0_tree::{Call, Expression};
 use ob0_types_table::{FormalParameter, Object, StandardProcedure};
 use std::alloc::{AllocError, Global};
 
-/// Returns the code of a call statement.
+/// Returns the code of a statement that calls a declared procedure or a standard procedure.
 pub(crate) fn lower_call_statement(
     alloc: Global,
     scene: &Scene<'_, '_, '_>,
@@ -75,8 +75,8 @@ fn lower_procedure_call(
     }))
 }
 
-/// Returns the code of a call's arguments, each according to its parameter. It is empty if the call
-/// has no argument list.
+/// Returns the code of a call's arguments, each according to its parameter. The list is empty if
+/// the call has no argument list.
 fn arguments(
     alloc: Global,
     scene: &Scene<'_, '_, '_>,
@@ -111,7 +111,7 @@ fn lower_argument_list(
     Ok(made)
 }
 
-/// Returns the first argument of a call, or None if it has no arguments.
+/// Returns the first argument of a call, or None if the call has no arguments.
 fn first(given: &Option<Vec<Expression>>) -> Option<&Expression>
     ensures { option_map (λ e. e.now) result ≡ slice_get (given_arguments given.now) 0 }
 {
@@ -121,7 +121,7 @@ fn first(given: &Option<Vec<Expression>>) -> Option<&Expression>
     }
 }
 
-/// Returns the code of a call of a standard procedure.
+/// Returns the code of a call of a standard procedure with the arguments `given`.
 fn lower_standard_call(
     alloc: Global,
     scene: &Scene<'_, '_, '_>,

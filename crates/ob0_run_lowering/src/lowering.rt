@@ -1,12 +1,12 @@
-//! The lowering of designators and expressions. Loops visit the parts of a chain; recursion visits
-//! nested parts.
+//! Lowers designators and expressions. Loops visit the operands of a chain of operators and the
+//! selectors of a designator. Recursion visits nested expressions.
 //!
 //! Code and meaning are separate. `specs/Codes` and `specs/Trees` define the code of a tree by
-//! functions that compute (`expression_code`), and each function here returns that code. An
+//! functions that compute it (`expression_code`), and each function here returns this code. An
 //! induction over trees (`proofs/TreesMean`) shows that the code means the tree, by the laws of
 //! `ob0_run_cells`. No proof about a function mentions moments or cells. The types of places come
-//! from the table; only `bound` of `Sees` relates them to the checked types. A variable that isn't
-//! in scope also has a type, about which nothing is claimed.
+//! from the table of declarations. Only `bound` of `Sees` relates them to the checked types. A
+//! variable that isn't in scope also has a type there, and nothing is claimed about this type.
 
 ghost use Rattle.std.specs.Prelude.{◌≡◌, IfOk, Some, option_and_then, option_map, pos};
 ghost use Rattle.ob0_tree.specs.Places.{value_at};
@@ -84,8 +84,8 @@ impl<'s, 'k, 't> Scene<'s, 'k, 't> {
         }
     }
 
-    /// Returns the text of the field's name at a token, or the empty text if the name is bound to a
-    /// declaration.
+    /// Returns the text of the field's name at a token. Returns the empty text if the token is
+    /// bound to a declaration, so that it isn't a field's name.
     fn field_name(&self, token: usize) -> &'t str
         ensures { result.now ≡ label_text (label_at_token self.now.resolved.now token) }
     {
@@ -95,14 +95,14 @@ impl<'s, 'k, 't> Scene<'s, 'k, 't> {
         }
     }
 
-    /// Returns the value of the number at a token.
+    /// Returns the value of the number literal at a token.
     fn integer(&self, token: usize) -> i32
         ensures { result ≡ pos (value_at self.now.resolved.now.module_read.source token) }
     {
         number_at(self.resolved.tokens(), token)
     }
 
-    /// Returns the place of the variable that the name at a token refers to, without selectors.
+    /// Returns the place of the variable that the name at a token refers to, before any selectors.
     /// Returns None if the name refers to no variable.
     fn locate_base(&self, alloc: Global, name: usize) -> Result<Option<TypedPlace>, AllocError>
         ensures { IfOk result (λ o. option_map (found_place_of (shapes_of self.now.types.now)) o
@@ -117,7 +117,8 @@ impl<'s, 'k, 't> Scene<'s, 'k, 't> {
         }
     }
 
-    /// Returns the code of the value at a place: a number, a truth or the cells of a larger value.
+    /// Returns the code of the value at a place: a number, a truth, or the cells of an array or a
+    /// record.
     fn code_at_place(&self, at: TypedPlace) -> Lowered
         ensures code { code_of result
             ≡ code_at_place (found_place_of (shapes_of self.now.types.now) at).place
@@ -145,8 +146,8 @@ impl<'s, 'k, 't> Scene<'s, 'k, 't> {
         }
     }
 
-    /// Returns the place of a field of the record at a place, or None if the type of this place has
-    /// no such field.
+    /// Returns the place of a field of the record at the place `at`. Returns None if the value
+    /// there isn't a record or has no such field.
     fn field(
         &self,
         alloc: Global,
@@ -169,8 +170,8 @@ impl<'s, 'k, 't> Scene<'s, 'k, 't> {
         }
     }
 
-    /// Returns the place of an element of the array at a place, or None if the type of this place
-    /// isn't an array type.
+    /// Returns the place of an element of the array at the place `at`. Returns None if the value
+    /// there isn't an array.
     fn element(
         &self,
         alloc: Global,
@@ -316,8 +317,8 @@ impl<'s, 'k, 't> Scene<'s, 'k, 't> {
         }
     }
 
-    /// Returns the code of a designator: of a constant's value, or of the value at a variable's
-    /// place.
+    /// Returns the code of a designator: the value of a constant, or the value at the place of a
+    /// variable with its selectors. Returns `Nothing` if the designator is neither.
     #[cycle(lowering)]
     fn lower_designator(&self, alloc: Global, d: &Designator) -> Result<Lowered, AllocError>
         ensures code { IfOk result (λ l. code_of l
@@ -333,8 +334,8 @@ impl<'s, 'k, 't> Scene<'s, 'k, 't> {
         }
     }
 
-    /// Returns the place of a designator: a variable with its selectors. Returns None if the
-    /// designator has no place.
+    /// Returns the place of a designator, which is a variable with its selectors. Returns None if
+    /// the designator has no place.
     #[cycle(lowering)]
     pub(crate) fn locate(
         &self,

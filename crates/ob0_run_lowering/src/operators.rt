@@ -20,7 +20,7 @@ use ob0_run_machine::code::{
 use ob0_tree::{AddOperator, MultiplyOperator, Relation, Sign};
 use std::alloc::{AllocError, Global};
 
-/// Returns the number that is an operand's code, or None if the code isn't a number.
+/// Returns an operand's code if this code is a number, otherwise None.
 fn number_in(operand: Lowered) -> Option<Number>
     ensures { result ≡ number_in operand }
 {
@@ -32,7 +32,7 @@ fn number_in(operand: Lowered) -> Option<Number>
     }
 }
 
-/// Returns the truth that is an operand's code, or None if the code isn't a truth.
+/// Returns an operand's code if this code is a truth, otherwise None.
 fn truth_in(operand: Lowered) -> Option<Truth>
     ensures { result ≡ truth_in operand }
 {
@@ -144,7 +144,8 @@ fn lower_minus(alloc: Global, operand: Lowered) -> Result<Lowered, AllocError>
     }
 }
 
-/// Returns the code of a term with the sign `+`: the sum of the term and 0.
+/// Returns the code of a term with the sign `+`, which is the sum of the term and 0. Returns
+/// `Nothing` if the term isn't a number.
 fn lower_plus(alloc: Global, operand: Lowered) -> Result<Lowered, AllocError>
     ensures code { IfOk result
         (λ l. code_of l ≡ codes.signed_code (Some signs.Plus) (code_of operand)) }
@@ -158,7 +159,8 @@ fn lower_plus(alloc: Global, operand: Lowered) -> Result<Lowered, AllocError>
     )
 }
 
-/// Returns the code of a term with its sign, or the term's own code if it has no sign.
+/// Returns the code of a term with its sign, or the code of the term if there is no sign. Returns
+/// `Nothing` if a term with a sign isn't a number.
 pub(crate) fn lower_sign(
     alloc: Global,
     sign: Option<Sign>,
@@ -235,8 +237,9 @@ fn compare_variable(
     }
 }
 
-/// Returns the code of a comparison of the number at a place with another number. The code is one
-/// node if an element whose array and index are variables is compared with a variable.
+/// Returns the code of a comparison of the number at a place with the number `right`. The code is
+/// one node if the place is an element whose array and index are variables, and `right` is a
+/// variable.
 fn compare_cell(
     alloc: Global,
     relation: code::Comparator,
@@ -302,8 +305,7 @@ fn relate_numbers(
     }
 }
 
-/// Returns the code of `=` or `#` between two truths. Any other relation between truths has no
-/// code.
+/// Returns the code of `=` or `#` between two truths. Returns `Nothing` for any other relation.
 fn relate_truths(
     alloc: Global,
     relation: Relation,
@@ -331,7 +333,7 @@ fn relate_truths(
     }
 }
 
-/// Returns the code of a relation between a number and an operand. There is no code if the operand
+/// Returns the code of a relation between a number and an operand, or `Nothing` if the operand
 /// isn't a number.
 fn lower_number_relation(
     alloc: Global,
@@ -350,8 +352,8 @@ fn lower_number_relation(
     Ok(Lowered::Truth(truth))
 }
 
-/// Returns the code of a relation between a truth and an operand. There is no code if the operand
-/// isn't a truth.
+/// Returns the code of a relation between a truth and an operand. Returns `Nothing` if the operand
+/// isn't a truth, or if the relation is neither `=` nor `#`.
 fn lower_truth_relation(
     alloc: Global,
     relation: Relation,

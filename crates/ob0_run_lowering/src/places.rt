@@ -19,7 +19,7 @@ use ob0_run_machine::code::{
 };
 use std::alloc::{AllocError, Global};
 
-/// Returns the number in the cell at a place.
+/// Returns the number that is read from the cell at a place.
 pub(crate) fn number_at_place(place: Place) -> Number
     ensures { number_of result ≡ machine.cell (place_of place) }
 {
@@ -29,7 +29,7 @@ pub(crate) fn number_at_place(place: Place) -> Number
     }
 }
 
-/// Returns the place at an offset within a place.
+/// Returns the place that is `offset` cells after the start of the place `whole`.
 pub(crate) fn part(alloc: Global, whole: Place, offset: usize) -> Result<Place, AllocError>
     ensures { IfOk result (λ p. place_of p ≡ part_at (place_of whole) offset) }
 {
@@ -64,9 +64,9 @@ fn part_of_variable(alloc: Global, variable: Variable, offset: usize) -> Result<
     }
 }
 
-/// Returns the place at an offset from the address of a VAR parameter of the activation `up` levels
-/// out. It is a `Variable` if the activation is the running one and both index and offset have 32
-/// bits.
+/// Returns the place at an offset from the address that was passed for a VAR parameter. The
+/// parameter belongs to the activation `up` levels out. The place is a `Variable` if `up` is 0, and
+/// the index and the offset have at most 32 bits.
 pub(crate) fn reference(
     alloc: Global,
     up: usize,
@@ -85,7 +85,8 @@ pub(crate) fn reference(
     Ok(Place::Passed(Box::new(alloc, reference)?))
 }
 
-/// Returns the place at an offset within an element whose array and index are variables.
+/// Returns the place that results from adding `offset` to the offset of a place in an element whose
+/// array and index are variables.
 fn part_of_variable_element(
     alloc: Global,
     row: VariableElement,
@@ -100,7 +101,7 @@ fn part_of_variable_element(
     Ok(Place::VariableElement(Box::new(alloc, row)?))
 }
 
-/// Returns the place at an offset within an element.
+/// Returns the place that results from adding `offset` to the offset of a place in an element.
 fn part_of_element(alloc: Global, element: Element, offset: usize) -> Result<Place, AllocError>
     ensures { IfOk result (λ p. place_of p ≡ part_at (element_of element) offset) }
 {
@@ -121,8 +122,8 @@ fn part_of_element(alloc: Global, element: Element, offset: usize) -> Result<Pla
     Ok(Place::Element(Box::new(alloc, element)?))
 }
 
-/// Returns the offset of an array's element at a literal index, or None if there is no such
-/// element.
+/// Returns the offset of the element at a literal index, in cells from the start of the array.
+/// Returns None if the array has no such element.
 fn literal_offset(index: i32, length: usize, stride: usize) -> Option<usize>
     ensures { result ≡ known_offset (machine.literal index) length stride }
 {
@@ -155,8 +156,8 @@ fn count_links(chain: &Chain) -> usize
     chain.rest.len()
 }
 
-/// Returns the offset of an element whose index is a chain. It is known only if the chain has no
-/// operations and begins with a literal.
+/// Returns the offset of an array's element whose index is a chain. Returns None unless the chain
+/// has no operations, and its first operand is a literal within the array.
 fn chain_offset(chain: &Chain, length: usize, stride: usize) -> Option<usize>
     ensures { result ≡ known_offset (chain_of chain.now) length stride }
 {
@@ -167,8 +168,8 @@ fn chain_offset(chain: &Chain, length: usize, stride: usize) -> Option<usize>
     None
 }
 
-/// Returns the offset of an array's element if its index is a literal within the array, otherwise
-/// None.
+/// Returns the offset of an array's element, in cells, if the index is a literal within the array.
+/// Returns None for any other index.
 fn known_offset(index: &Number, length: usize, stride: usize) -> Option<usize>
     ensures { result ≡ known_offset (number_of index.now) length stride }
 {
@@ -217,7 +218,8 @@ fn computed_element(
     }
 }
 
-/// Returns the place of an element of an array that is a variable.
+/// Returns the place of an array's element, if the array is a variable. The place is a
+/// `VariableElement` if the index is also a variable.
 fn variable_element(
     alloc: Global,
     array: Variable,

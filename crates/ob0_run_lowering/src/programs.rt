@@ -1,4 +1,4 @@
-//! The lowering of procedures, of blocks, and of a whole module.
+//! Lowers procedures, blocks, and a whole module.
 
 ghost use Rattle.std.specs.Prelude.{◌≡◌, ℕ, IfOk, OnOk, slice_set};
 ghost use Rattle.ob0_tree.specs.Tree.{more};
@@ -31,7 +31,7 @@ pub(crate) struct Lowering {
     pub(crate) procedures: Vec<code::Routine>,
 }
 
-/// The lowered program of a module.
+/// The lowered program of a module, which the machine can execute.
 #[derive(Drop)]
 pub struct Program {
     pub code: code::LoweredCode,
@@ -47,7 +47,8 @@ impl Lowering {
     ghost use Rattle.ob0_run_machine.specs.declared.code.Routine as code;
     ghost use Rattle.ob0_run_lowering.specs.Placed.{Follows, sites_with_binding};
 
-    /// Stores the code of a procedure at its index. Does nothing if there is no such index.
+    /// Stores the code of a procedure at the procedure's index. Does nothing if the list of
+    /// procedures has no such index.
     fn set_routine(&mut self, index: usize, entry: code::Routine)
         ensures procedures { self.new.procedures.items
             ≡ slice_set self.old.procedures.items index entry }
@@ -58,8 +59,9 @@ impl Lowering {
         }
     }
 
-    /// Gives a procedure the next index in the program and binds its name to this index. Until the
-    /// code is stored, the index has an empty procedure. Returns the index.
+    /// Reserves the next index in the program for a procedure, and binds the procedure's name to
+    /// this index. Until `set_routine` stores the code, there is an empty procedure at the index.
+    /// Returns the index.
     fn reserve_routine(
         &mut self,
         context: &LoweringContext<'_, '_, '_>,
@@ -86,8 +88,9 @@ impl Lowering {
         Ok(index)
     }
 
-    /// Lowers a procedure. Its name is bound before its body is lowered, so the body can call it.
-    /// Its parameters and declarations are in scope up to its end.
+    /// Lowers a procedure that is declared in an activation of this depth. The procedure's name is
+    /// bound before its body is lowered, so the body can call the procedure. Its parameters and
+    /// declarations are in scope up to its end.
     #[cycle(blocks)]
     fn procedure(
         &mut self,
@@ -117,7 +120,7 @@ impl Lowering {
     }
 
     /// Lowers a block: places its variables, lowers its procedures, and then its statements.
-    /// Returns the number of cells of its variables and the code of its statements.
+    /// Returns the number of cells of the block's variables, and the code of its statements.
     #[cycle(blocks)]
     fn block(
         &mut self,
@@ -146,11 +149,11 @@ impl Lowering {
     }
 }
 
-/// Returns the program of a module, according to the table of its declarations.
+/// Returns the lowered program of a module. `known` has to be the table of the module's declarations.
 ///
 /// # Errors
 ///
-/// An allocation failed, or a number of cells has more than 64 bits.
+/// An allocation failed, or a count, for example of cells, has more than 64 bits.
 pub fn lower<'t>(
     alloc: Global,
     resolved: &Resolved<'t>,

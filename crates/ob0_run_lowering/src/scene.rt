@@ -1,4 +1,4 @@
-//! The facts that are needed to lower a body: the scene, and the sites of declarations.
+//! Defines the facts that are needed to lower a body: the scene, and the sites of declarations.
 
 ghost use Rattle.std.specs.Prelude.{◌≡◌, IfOk};
 ghost use Rattle.ob0_run_machine.specs.View.{place_of};
@@ -12,23 +12,25 @@ use ob0_scope_table::Resolved;
 use ob0_types_table::Object;
 use std::alloc::{AllocError, Global};
 
-/// Where lowered code finds a declaration. `depth` is the depth of an activation: 0 for the module,
-/// 1 for the procedures that the module declares.
+/// The site of a declaration, which says where lowered code finds the declaration. `depth` is the
+/// depth of an activation: 0 for the module, 1 for the procedures that the module declares.
 #[derive(Clone, Copy, PartialEq, Eq)]
 pub enum Site {
-    /// Not in lowered code: a constant or a type.
+    /// The declaration isn't in lowered code, for example because it is a constant or a type.
     Nowhere,
     /// A variable, at an offset in the cells of the module.
     Module(usize),
-    /// A variable, at an offset in the cells of an activation.
+    /// A variable, at an offset in the cells of an activation with this depth.
     Held { depth: usize, offset: usize },
-    /// A VAR parameter of an activation, by its index among the VAR parameters.
+    /// A VAR parameter of an activation with this depth, by its index among the VAR parameters.
     ByReference { depth: usize, index: usize },
-    /// A procedure that is declared in an activation, by its index in the program.
+    /// A procedure that is declared in an activation with this depth, by its index in the program.
     Procedure { depth: usize, index: usize },
 }
 
-/// The procedure that a call reaches: its index, and how many levels out it is declared.
+/// The procedure that a call enters. `procedure` is the procedure's index in the program. `up` is
+/// the number of levels from the caller's activation out to the activation in which the procedure
+/// is declared.
 #[derive(Clone, Copy)]
 pub struct CallTarget {
     pub procedure: usize,
@@ -36,7 +38,7 @@ pub struct CallTarget {
 }
 
 impl CallTarget {
-    /// Returns the target for a name that isn't a procedure's name: index 0 and level 0.
+    /// Returns the target for a name that isn't a procedure's name: index 0, and 0 levels out.
     fn none() -> CallTarget
         ensures { result ≡ record { procedure = 0; up = 0 } }
     {
@@ -47,8 +49,9 @@ impl CallTarget {
     }
 }
 
-/// The facts at a body: the module, its types, the site of each declaration by its ordinal, and the
-/// depth of the body's activation, which is 0 for the module.
+/// The facts that are needed to lower a body: the module, the layouts of its types, the sites of
+/// declarations, and the depth of the body's activation. `sites` has the site of each declaration
+/// at the declaration's ordinal. The depth of the module is 0.
 #[derive(Clone, Copy)]
 pub struct Scene<'s, 'k, 't> {
     pub resolved: &'s Resolved<'t>,
@@ -74,8 +77,8 @@ impl<'s, 'k, 't> Scene<'s, 'k, 't> {
         self.types.declarations().object(ordinal)
     }
 
-    /// Returns the site of the declaration that the name at a token refers to, or `Nowhere` if
-    /// there is none.
+    /// Returns the site of the declaration that the name at a token refers to, or `Nowhere` if the
+    /// name refers to no declaration with a site.
     fn site(&self, name: usize) -> Site
         ensures { place_seen_from self.now.depth result
             ≡ binding_place self.now (label_at_token self.now.resolved.now name) }
@@ -89,8 +92,8 @@ impl<'s, 'k, 't> Scene<'s, 'k, 't> {
         }
     }
 
-    /// Returns the procedure that the name at a token refers to, as seen from the body. For any
-    /// other name this is index 0 and level 0.
+    /// Returns the target of a call of the procedure that the name at a token refers to, as seen
+    /// from the body. For any other name, the target is index 0, and 0 levels out.
     pub fn target(&self, name: usize) -> CallTarget
         ensures { record { procedure = result.procedure; up = result.up }
             ≡ target_at self.now (label_at_token self.now.resolved.now name) }
@@ -107,8 +110,8 @@ impl<'s, 'k, 't> Scene<'s, 'k, 't> {
         }
     }
 
-    /// Returns the place of the variable that the name at a token refers to. For any other name
-    /// this is the module's first cell.
+    /// Returns the place of the variable that the name at a token refers to, as seen from the body.
+    /// For any other name, this is the module's first cell.
     pub(crate) fn variable(&self, alloc: Global, name: usize) -> Result<Place, AllocError>
         ensures { IfOk result (λ p. place_of p
             ≡ slot_place (slot_at self.now (label_at_token self.now.resolved.now name))) }

@@ -1,9 +1,9 @@
-//! The lowering of statements.
+//! Lowers statements.
 //!
-//! The invariant of each loop says that the code so far, followed by any code of the remaining
-//! parts, is code of the whole (`SequenceMade`, `BranchesMade`, `ArgumentsMade`). At the end no
-//! part remains. An empty statement has no code, so there may be fewer instructions than
-//! statements.
+//! The invariant of each loop is about the code so far, followed by any code that means the remaining
+//! parts. The invariant says that both together mean the whole (`SequenceMade`, `BranchesMade`,
+//! `ArgumentsMade`). At the end no part remains. An empty statement has no code, so there may be
+//! fewer instructions than statements.
 
 ghost use Rattle.std.specs.Prelude.{◌≡◌, ◌++◌, IfOk, OnOk, option_map, option_to_list};
 ghost use Rattle.ob0_tree.specs.View as view;
@@ -19,7 +19,7 @@ use ob0_run_machine::code;
 use ob0_tree::{If, Statement};
 use std::alloc::{AllocError, Global};
 
-/// Returns the code of a body. It is empty if there is no BEGIN.
+/// Returns the code of a block's statements. The code is empty if the block has no BEGIN.
 pub fn body(
     alloc: Global,
     scene: &Scene<'_, '_, '_>,
@@ -34,7 +34,8 @@ pub fn body(
     }
 }
 
-/// Adds the code of a statement to a list. Does nothing if the statement has no code.
+/// Adds the code of a statement at the end of a list. Does nothing for None, which is the code of
+/// an empty statement.
 fn push_if_any(
     made: &mut Vec<code::Instruction>,
     next: Option<code::Instruction>,
@@ -50,7 +51,7 @@ fn push_if_any(
     }
 }
 
-/// Returns the code of a statement, or None if it is empty.
+/// Returns the code of a statement, or None if the statement is empty.
 #[cycle(statements)]
 fn statement(
     alloc: Global,
@@ -78,7 +79,7 @@ fn statement(
     }
 }
 
-/// Returns the code of statements, in order.
+/// Returns the code of a list of statements, in order. Empty statements are left out.
 #[cycle(statements)]
 fn lower_sequence(
     alloc: Global,

@@ -1,8 +1,8 @@
-//! The types of a module, with their numbers of cells and the offsets of fields.
+//! Computes the layouts of a module's types: their numbers of cells, and the offsets of fields.
 //!
-//! Sizes and offsets are computed once. The layout of each entry of the checker's table results
-//! from the layouts before it, in the order of `extended_shapes` (`HaveLayouts`). So the offset of
-//! a field is found by the index of the field in the record.
+//! Each layout is computed once. The layouts have the order of the checker's table of types, and each
+//! results from the layouts of earlier entries (`HaveLayouts`). The offset of a field is found by
+//! the index of the field in the record.
 
 ghost use Rattle.std.specs.Prelude.{◌≡◌, ◌≤◌, ◌+◌, ◌*◌, ◌^◌, ℕ, IfOk, List, MatchResult, slice_index_or};
 ghost use Rattle.ob0_run_cells.specs.Cells.{field_offset, size, step_offset};
@@ -31,15 +31,16 @@ enum Layout {
     Record(RecordLayout),
 }
 
-/// The table of a module's declarations, with the layouts of its types.
+/// The table of a module's declarations, and the layouts of the array and record types in this
+/// table.
 #[derive(Drop)]
 pub struct TypeLayouts<'k> {
     known: &'k DeclarationTable,
     layouts: Vec<Layout>,
 }
 
-/// Returns the sum of two numbers of cells. Fails exactly if the sum has more than 64 bits, since
-/// no allocation is that large.
+/// Returns the sum of two numbers of cells. Fails exactly if the sum has more than 64 bits. The
+/// error is a failed allocation, since no allocation is that large.
 fn cell_sum(cells: usize, more: usize) -> Result<usize, AllocError>
     ensures { MatchResult result (λ n. n ≡ cells + more) (λ _. 2 ^ 64 ≤ cells + more) }
 {
@@ -49,8 +50,8 @@ fn cell_sum(cells: usize, more: usize) -> Result<usize, AllocError>
     }
 }
 
-/// Returns the product of a count and a number of cells. Fails exactly if the product has more than
-/// 64 bits.
+/// Returns the product of a number of elements and the number of cells of each. Fails exactly if
+/// the product has more than 64 bits.
 fn cell_product(count: usize, cells: usize) -> Result<usize, AllocError>
     ensures { MatchResult result (λ n. n ≡ count * cells) (λ _. 2 ^ 64 ≤ count * cells) }
 {
@@ -60,8 +61,8 @@ fn cell_product(count: usize, cells: usize) -> Result<usize, AllocError>
     }
 }
 
-/// Returns the number of cells of the array type at an index of the table, or 0 if the table has no
-/// array type at this index.
+/// Returns the number of cells of the array type at the index `place` of the table of types.
+/// Returns 0 if the table has no array type at this index.
 fn array_cells(layouts: &[Layout], place: usize) -> usize
     ensures { (shapes : List values.Shape)
         → HaveLayouts shapes layouts.now
@@ -76,8 +77,8 @@ fn array_cells(layouts: &[Layout], place: usize) -> usize
     }
 }
 
-/// Returns the layout of the record type at an index of the table, or None if the table has no
-/// record type at this index.
+/// Returns the layout of the record type at the index `place` of the table of types. Returns None
+/// if the table has no record type at this index.
 fn record_at(layouts: &[Layout], place: usize) -> Option<&RecordLayout>
     ensures { (shapes : List values.Shape)
         → HaveLayouts shapes layouts.now
@@ -103,7 +104,8 @@ fn record_cells(layouts: &[Layout], place: usize) -> usize
     }
 }
 
-/// Returns the number of cells of a type, according to the layouts so far.
+/// Returns the number of cells of a type, from the layouts so far. Returns 0 for an unknown type,
+/// or if there is no layout of this type.
 fn size_in(layouts: &[Layout], of: TypeId) -> usize
     ensures { (shapes : List values.Shape)
         → HaveLayouts shapes layouts.now
@@ -118,7 +120,8 @@ fn size_in(layouts: &[Layout], of: TypeId) -> usize
     }
 }
 
-/// Returns the layout of a record whose fields are one after the other.
+/// Returns the layout of a record with these fields, which are stored one after the other. Fails if
+/// an allocation fails, or if the number of cells has more than 64 bits.
 fn lay_out_record(
     alloc: Global,
     layouts: &[Layout],
@@ -137,7 +140,8 @@ fn lay_out_record(
     Ok(RecordLayout { cells, offsets })
 }
 
-/// Returns the layout of an entry of the table, according to the layouts before it.
+/// Returns the layout of an entry of the table of types, from the layouts of the entries before it.
+/// Fails if an allocation fails, or if the number of cells has more than 64 bits.
 fn entry_layout(alloc: Global, layouts: &[Layout], shape: &TypeEntry) -> Result<Layout, AllocError>
     ensures { (shapes : List values.Shape)
         → HaveLayouts shapes layouts.now
@@ -189,15 +193,16 @@ impl<'k> TypeLayouts<'k> {
         self.known
     }
 
-    /// Returns the number of cells of a type.
+    /// Returns the number of cells of a type, or 0 for an unknown type.
     pub fn size(&self, of: TypeId) -> usize
         ensures { result ≡ size (type_shape (shapes_of self.now) of) }
     {
         size_in(self.layouts.as_slice(), of)
     }
 
-    /// Returns the offset, in the cells of a record, of the first field with this name. Returns the
-    /// size of the record if there is no such field, and 0 for any other type.
+    /// Returns the offset of the first field with this name, in cells from the start of its record.
+    /// Returns the size of the record if there is no such field, and 0 if the type isn't a record
+    /// type.
     pub fn offset(&self, of: TypeId, name: &str) -> usize
         ensures { result ≡ step_offset (type_shape (shapes_of self.now) of) (at_field name.now) }
     {
@@ -214,7 +219,8 @@ fn offset_at(offsets: &[usize], index: usize) -> usize
     }
 }
 
-/// Returns the offset of a field of a record, or the size of the record for None.
+/// Returns the offset of a field, in cells from the start of its record. For None, returns the size
+/// of the record.
 fn offset_of_field(laid: &RecordLayout, field: Option<FieldId>) -> usize
     ensures { (k : ℕ) (fs : values.FieldShapes) (x : Name)
         → AreLaidOut fs laid.now

@@ -1,7 +1,9 @@
-//! The sites of the declarations in scope, and the placement of the names of a block or a heading.
+//! Places the names of a block or a heading, and keeps the sites of the declarations in scope. A site
+//! says where lowered code finds a declaration.
 //!
-//! A binding records the site that it hides. At the end of the procedure this site is restored. So
-//! one table by ordinal is enough, and a procedure takes time only for the names that it declares.
+//! A binding records the site that it hides. At the end of the procedure the hidden site is restored.
+//! So a single table by ordinals is enough, and a procedure takes time only for the names that it
+//! declares.
 
 ghost use Rattle.std.specs.Prelude.{◌≡◌, ◌≤◌, ◌+◌, ◌^◌, ℕ, suc, IfOk, OnOk, MatchOption, length, slice_set};
 ghost use Rattle.ob0_run_lowering.specs.Scenes.{site_at};
@@ -12,23 +14,24 @@ use crate::contexts::LoweringContext;
 use ob0_tree::{Names as NameList, ParameterSection, VariableDeclaration};
 use std::alloc::{AllocError, Global};
 
-/// A site that a binding has hidden: an ordinal, and its site before the binding.
+/// A site that a binding has hidden: the ordinal of the declaration that was bound, and the site of
+/// this ordinal before the binding.
 #[derive(Drop, Clone, Copy)]
 pub(crate) struct HiddenSite {
     pub(crate) ordinal: usize,
     pub(crate) before: Site,
 }
 
-/// The site of each declaration in scope, by its ordinal. `hidden` lists the sites that bindings
-/// have hidden, the oldest first.
+/// The sites of the declarations in scope. `sites` has the site of each declaration, at the
+/// declaration's ordinal. `hidden` lists the sites that bindings have hidden, the oldest first.
 #[derive(Drop)]
 pub(crate) struct VisibleSites {
     pub(crate) sites: Vec<Site>,
     pub(crate) hidden: Vec<HiddenSite>,
 }
 
-/// The activation of a block, as far as names are placed in it: its depth, which is 0 for the
-/// module, the number of its cells, and the number of its VAR parameters.
+/// The state of an activation while its names are placed: its depth, the number of its cells so
+/// far, and the number of its VAR parameters so far. The depth of the module is 0.
 #[derive(Clone, Copy)]
 pub(crate) struct Frame {
     pub(crate) depth: usize,
@@ -36,7 +39,7 @@ pub(crate) struct Frame {
     pub(crate) references: usize,
 }
 
-/// Returns the site that the next variable of an activation gets.
+/// Returns the site of the next variable of an activation, which comes after the cells so far.
 fn next_site(frame: Frame) -> Site
     ensures { IsNextSite frame result }
 {
@@ -51,7 +54,8 @@ fn next_site(frame: Frame) -> Site
 }
 
 impl Frame {
-    /// Returns the frame with `size` more cells, or None if their number has more than 64 bits.
+    /// Returns the frame with `size` more cells, or None if the number of cells would have more
+    /// than 64 bits.
     fn with_more_cells(self, size: usize) -> Option<Frame>
         ensures { MatchOption result (2 ^ 64 ≤ self.cells + size)
             (λ f. f ≡ record self { cells = self.cells + size }) }
@@ -75,7 +79,7 @@ impl VisibleSites {
     ghost use Rattle.ob0_run_lowering.specs.Placed as placed;
     ghost use Rattle.ob0_types_table.specs.Tables.{mode_of};
 
-    /// Returns a table with nothing in scope.
+    /// Returns a table without any declaration in scope.
     pub(crate) fn new(alloc: Global) -> VisibleSites
         ensures { result.sites.items ≡ [] }
     {
@@ -85,7 +89,7 @@ impl VisibleSites {
         }
     }
 
-    /// Extends the list of sites until it has an entry for an ordinal. New entries are `Nowhere`.
+    /// Extends the list of sites until it has an entry for an ordinal. Added entries are `Nowhere`.
     fn make_room_for(&mut self, ordinal: usize) -> Result<(), AllocError>
         ensures same { OnOk result
             ((k : ℕ) → site_at self.new.sites.items k ≡ site_at self.old.sites.items k) }
@@ -99,7 +103,8 @@ impl VisibleSites {
         Ok(())
     }
 
-    /// Sets the site of an ordinal. Does nothing if the list is too short for it.
+    /// Sets the site of an ordinal. Does nothing if the list of sites has no entry for this
+    /// ordinal.
     fn set_site(&mut self, ordinal: usize, site: Site)
         ensures sites { self.new.sites.items ≡ slice_set self.old.sites.items ordinal site }
         ensures hidden { self.new.hidden.items ≡ self.old.hidden.items }
@@ -109,7 +114,8 @@ impl VisibleSites {
         }
     }
 
-    /// Returns the site of an ordinal, or `Nowhere` if the list is too short for it.
+    /// Returns the site of an ordinal, or `Nowhere` if the list of sites has no entry for this
+    /// ordinal.
     fn site_of_ordinal(&self, ordinal: usize) -> Site
         ensures { result ≡ site_at self.now.sites.items ordinal }
     {
@@ -119,7 +125,8 @@ impl VisibleSites {
         }
     }
 
-    /// Brings a declaration into scope: sets the site of its ordinal and records the site before.
+    /// Brings the declaration with an ordinal into scope: sets its site, and records the site that
+    /// this ordinal had before.
     fn bind_ordinal(&mut self, ordinal: usize, site: Site) -> Result<(), AllocError>
         ensures sites { OnOk result ((k : ℕ)
             → site_at self.new.sites.items k
@@ -133,7 +140,8 @@ impl VisibleSites {
         Ok(())
     }
 
-    /// Brings a declaration into scope, as `bind_ordinal` does. Does nothing without an ordinal.
+    /// Brings the declaration with an ordinal into scope, as `bind_ordinal` does. Does nothing for
+    /// None.
     pub(crate) fn bind(&mut self, ordinal: Option<usize>, site: Site) -> Result<(), AllocError>
         ensures sites { OnOk result ((k : ℕ)
             → site_at self.new.sites.items k
@@ -146,15 +154,16 @@ impl VisibleSites {
         }
     }
 
-    /// Returns the number of hidden sites. Given this number, `restore_hidden` later restores the
-    /// sites that were hidden in between.
+    /// Returns the number of hidden sites. Given this number, `restore_hidden` restores all the
+    /// sites that were hidden after this call.
     pub(crate) fn hidden_count(&self) -> usize
         ensures { result ≡ length self.now.hidden.items }
     {
         self.hidden.len()
     }
 
-    /// Restores the sites that were hidden after the first `hidden_count` ones, the latest first.
+    /// Restores all hidden sites except the first `hidden_count` ones, and removes them from the
+    /// list of hidden sites. The site that was hidden last is restored first.
     pub(crate) fn restore_hidden(&mut self, hidden_count: usize)
         ensures { (w : VisibleSites)
             → Follows w self.old
@@ -169,8 +178,10 @@ impl VisibleSites {
         }
     }
 
-    /// Places a declared name in an activation: a VAR parameter gets the next index, a variable new
-    /// cells. Returns the frame with this name added. Also fails if a number has more than 64 bits.
+    /// Places the name that is declared at the token `name` in an activation. A VAR parameter gets
+    /// the next index, a variable or a value parameter gets cells. Returns the frame with this name
+    /// added. Fails if an allocation fails, or if a count of the frame would have more than 64
+    /// bits.
     fn place(
         &mut self,
         context: &LoweringContext<'_, '_, '_>,
@@ -205,8 +216,8 @@ impl VisibleSites {
         Ok(next)
     }
 
-    /// Places the names of one declaration, one after the other. Returns the frame with these names
-    /// added.
+    /// Places the names of one declaration in an activation, one after the other. Returns the frame
+    /// with these names added.
     fn place_names(
         &mut self,
         context: &LoweringContext<'_, '_, '_>,
@@ -242,8 +253,8 @@ impl VisibleSites {
         Ok(now)
     }
 
-    /// Places the variables of a block, one after the other. Returns the frame with these variables
-    /// added.
+    /// Places the variables of a block in its activation, one after the other. Returns the frame
+    /// with these variables added.
     pub(crate) fn variables(
         &mut self,
         context: &LoweringContext<'_, '_, '_>,
@@ -277,8 +288,8 @@ impl VisibleSites {
         Ok(now)
     }
 
-    /// Places the parameters of a procedure, one after the other. Returns the frame with these
-    /// parameters added.
+    /// Places the parameters of a procedure in its activation, one after the other. Returns the
+    /// frame with these parameters added.
     pub(crate) fn place_formals(
         &mut self,
         context: &LoweringContext<'_, '_, '_>,

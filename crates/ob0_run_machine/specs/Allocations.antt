@@ -1,8 +1,8 @@
--- States whether an allocation of a run has failed.
--- Rule: docs/PROTOCOL.md, The program 6: `Memory` is reported where an allocation fails.
+-- Defines the fact that an allocation of a run has failed.
+-- Rule: docs/PROTOCOL.md, The program 6: `Memory` is reported if an allocation fails.
 use Rattle.std.specs.Prelude.{Bool}
 use Rattle.ob0_run_machine.specs.declared.memory.Memory.{Memory}
 
--- true if `Memory::fail` was called
+-- returns whether `Memory::fail` was called, which records a failed allocation
 abbrev pub has_failed : Memory → Bool
 has_failed memory = memory.has_failed

@@ -1,4 +1,4 @@
--- Converts the results of the machine's functions to outcomes of the semantics.
+-- Converts the results of the machine's functions to outcomes of the definitions.
 -- Rule: none; for contracts of the machine's steps.
 use Rattle.std.specs.Prelude.{ℤ, List, Option, Some, None, Ok, Err, Result}
 use Rattle.ob0_run_machine.specs.declared.ending.EvaluationFault.{EvaluationFault}
@@ -13,13 +13,14 @@ use Rattle.ob0_run_machine.specs.declared.flat_outcome.FlatOutcome.TheVariants a
 use Rattle.ob0_run_machine.specs.Lowered.{literal}
 use Rattle.ob0_run_machine.specs.View.{applied}
 
--- the end of a run that a fault of an expression causes
+-- returns the end of a run that a fault of an expression causes
 abbrev pub end_of : EvaluationFault → Halt
 end_of ending.Overflow = evaluation.Overflow
 end_of ending.Divisor = evaluation.Divisor
 end_of ending.Index = evaluation.Index
 
--- the end of a run that a statement's reason to stop causes, or None if an allocation failed
+-- returns the end of a run for the reason for which a statement stopped, or None if an allocation
+-- failed
 abbrev pub end_of_stop : Stop → Option Halt
 end_of_stop stop.Overflow = Some evaluation.Overflow
 end_of_stop stop.Divisor = Some evaluation.Divisor
@@ -29,23 +30,25 @@ end_of_stop stop.CallBound = Some evaluation.CallBound
 end_of_stop stop.TurnBound = Some evaluation.TurnBound
 end_of_stop stop.Memory = None
 
--- the outcome of an evaluation that is returned as a `Result`
+-- converts the result of an evaluation, a `Result`, to an outcome: a value or an end of the run
 abbrev pub outcome_of_result : {A : Type 0} → Result A EvaluationFault → StepResult A
 outcome_of_result (Ok a) = gives a
 outcome_of_result (Err e) = ends (end_of e)
 
--- the outcome of an evaluation that is returned as a `FlatOutcome`
+-- converts the result of an evaluation, a `FlatOutcome`, to an outcome: a value or an end of the
+-- run
 abbrev pub outcome_of : {A : Type 0} → FlatOutcome A → StepResult A
 outcome_of (flat_outcome.Value a) = gives a
 outcome_of flat_outcome.Overflow = ends evaluation.Overflow
 outcome_of flat_outcome.Divisor = ends evaluation.Divisor
 outcome_of flat_outcome.Index = ends evaluation.Index
 
--- the number as an outcome; None, for a result of more than 32 bits, is the end Overflow
+-- Converts the result of an operation to an outcome. None, which is a result of more than 32 bits,
+-- ends the run with Overflow.
 abbrev pub number_or_overflow : Option ℤ → StepResult ℤ
 number_or_overflow None = ends evaluation.Overflow
 number_or_overflow (Some n) = gives n
 
--- the outcome of applying a link to a number
+-- returns the outcome of applying the link `l` to the number `left`
 abbrev pub outcome_of_applied_link : Levels → List ℤ → Link → ℤ → StepResult ℤ
 outcome_of_applied_link ls cells l left = number ls cells (applied l (literal left))

@@ -1,4 +1,5 @@
--- Defines the value of places, numbers and truths of lowered code, for given activations and cells.
+-- Defines the addresses of places, and the values of numbers and truths of lowered code, for given
+-- activations and cells.
 -- Rule: none; for contracts of the machine: what lowered expressions mean,
 -- by the rules of docs/LANGUAGE.md, Runs 2 to 4.
 use Rattle.std.specs.Prelude.{ℕ, suc, zero, ◌+◌, ◌*◌, ◌%◌, ◌^◌, Bool, true, false, not, ◌&&◌, List, [], ◌∷◌, Option, None, Some, ℤ, pos, negsuc, ◌+ℤ◌, ◌-ℤ◌, ◌*ℤ◌, neg_ℤ, if◌then◌else◌, nat_lt, slice_index_or, int_lt, int_le, drop}
@@ -8,16 +9,16 @@ pub use Rattle.ob0_language_values.specs.Values.{fits, same_truth}
 use Rattle.ob0_run_machine.specs.Lowered.{Place, in_module, here, outside, passed, element, Number, literal, cell, negative, operation, Operator, sum, difference, product, quotient, remainder, Comparator, equal, not_equal, less, less_equal, greater, greater_equal, Truth, constant, flag, negation, both, either, related, same, different}
 
 infixl 20 ◌>>=◌
--- the end of a run: Done, a fault, or a bound that was reached
+-- The end of a run: Done, a fault, or a bound that was reached.
 pub data Halt : Type 0 where
   Done Overflow Divisor Index InputEnd CallBound TurnBound : Halt
 
--- the outcome of an evaluation: it gives a value, or ends the run
+-- The outcome of an evaluation: a value, or an end of the run.
 pub data StepResult (A : Type 0) : Type 0 where
   gives : A → StepResult A
   ends : Halt → StepResult A
 
--- continues with the value of an evaluation; if the evaluation ends the run, `next` is skipped
+-- Applies `next` to the value of an evaluation. If the evaluation ends the run, returns this end.
 abbrev pub ◌>>=◌ : {A B : Type 0} → StepResult A → (A → StepResult B) → StepResult B
 ◌>>=◌ (gives a) next = next a
 ◌>>=◌ (ends e) next = ends e
@@ -27,43 +28,49 @@ pub record Level : Type 0 where
   pub base : ℕ
   pub addresses : List ℕ
 
--- the activations that running code can see, the running one first
+-- The activations that running code can see, as a list. The running activation is first. The
+-- procedure of each activation is declared in the next activation.
 abbrev pub Levels : Type 0
 Levels = List Level
 
--- the first activation of a list; for the empty list one with base 0 and no addresses
+-- returns the first activation of a list, or an activation with base 0 and no addresses if the list
+-- is empty
 abbrev pub innermost_level : Levels → Level
 innermost_level [] = record { base = 0; addresses = [] }
 innermost_level (l ∷ ls) = l
 
--- the activation `up` levels out
+-- returns the activation `up` levels out, or an activation with base 0 and no addresses if there
+-- are fewer levels
 abbrev pub level_at : Levels → ℕ → Level
 level_at ls up = innermost_level (drop up ls)
 
--- the address at an offset after another address; the sum wraps at 64 bits
+-- Returns the address that is `offset` cells after an address. The sum wraps at 64 bits.
 abbrev pub add_offset : ℕ → ℕ → ℕ
 add_offset address offset = (address + offset) % 2 ^ 64
 
--- the address of an array's element; the end Index if the index is negative or not below the length
+-- Returns the address of the element at an index, given the address of the array's first element.
+-- The run ends with Index if the index is negative or not below the length.
 abbrev pub element_address : ℕ → ℕ → ℕ → ℤ → StepResult ℕ
 element_address address length stride (pos i) =
     if nat_lt i length then gives (add_offset address (i * stride)) else ends Index
 element_address address length stride (negsuc i) = ends Index
 
--- the value of a cell, or 0 if there is no cell at the address
+-- returns the number in the cell at an address, or 0 if there is no such cell
 abbrev pub cell_at : List ℤ → ℕ → ℤ
 cell_at cells address = slice_index_or cells address (pos 0)
 
--- the number as an outcome; the end Overflow if it has more than 32 bits
+-- Returns a number as an outcome. The run ends with Overflow if the number has more than 32 bits.
 abbrev pub checked_number : ℤ → StepResult ℤ
 checked_number n = if fits n then gives n else ends Overflow
 
--- the result of a division as an outcome; None, for a divisor below 1, is the end Divisor
+-- Returns the result of a division as an outcome. None, which is the result for a divisor below 1,
+-- ends the run with Divisor.
 abbrev pub division_outcome : Option ℤ → StepResult ℤ
 division_outcome None = ends Divisor
 division_outcome (Some n) = checked_number n
 
--- the outcome of an operator on two numbers
+-- returns the outcome of an operator on two numbers: a number of 32 bits, or the end Overflow or
+-- Divisor
 abbrev pub operate : Operator → ℤ → ℤ → StepResult ℤ
 operate sum a b = checked_number (a +ℤ b)
 operate difference a b = checked_number (a -ℤ b)
@@ -72,7 +79,8 @@ operate quotient a b = division_outcome (checked_division division.quotient a b)
 operate remainder a b = division_outcome (checked_division division.remainder a b)
 
 abbrev mutual
-  -- the address of a place; the end Index if an array has no such element
+  -- Returns the address of a place. The run ends with a fault if the evaluation of an index in the
+  -- place fails, or if the index is outside its array.
   pub address : Levels → List ℤ → Place → StepResult ℕ
   address ls cells (in_module offset) = gives offset
   address ls cells (here offset) = gives (add_offset (innermost_level ls).base offset)
@@ -82,14 +90,15 @@ abbrev mutual
   address ls cells (element p i length stride offset) =
       address ls cells p >>= (λ a. number ls cells i >>= element_address (add_offset a offset) length stride)
 
-  -- the value of a number; each result of an operation has 32 bits, or the run ends
+  -- Returns the value of a number. The run ends with a fault if an operation or an index in the
+  -- number has one.
   pub number : Levels → List ℤ → Number → StepResult ℤ
   number ls cells (literal n) = gives n
   number ls cells (cell p) = address ls cells p >>= (λ a. gives (cell_at cells a))
   number ls cells (negative n) = number ls cells n >>= (λ a. checked_number (neg_ℤ a))
   number ls cells (operation o m n) = number ls cells m >>= (λ a. number ls cells n >>= operate o a)
 
--- true if a relation holds between two numbers
+-- returns whether a relation holds between two numbers
 abbrev pub compare : Comparator → ℤ → ℤ → Bool
 compare equal a b = int_le a b && int_le b a
 compare not_equal a b = not (int_le a b && int_le b a)
@@ -98,19 +107,19 @@ compare less_equal a b = int_le a b
 compare greater a b = int_lt b a
 compare greater_equal a b = int_le b a
 
--- the truth value of a cell: FALSE for 0, TRUE for any other number
+-- returns the truth value that is stored in a cell: FALSE for 0, TRUE for any other number
 abbrev pub is_true : ℤ → Bool
 is_true (pos zero) = false
 is_true (pos (suc n)) = true
 is_true (negsuc n) = true
 
--- the cell of a truth value: 0 for FALSE, 1 for TRUE
+-- returns the number that is stored in a cell for a truth value: 0 for FALSE, 1 for TRUE
 abbrev pub as_cell : Bool → ℤ
 as_cell false = pos 0
 as_cell true = pos 1
 
--- the value of a truth; the right side of `both` or `either` is evaluated only if the left side
--- doesn't decide the value
+-- Returns the value of a truth. The right side of `both` or `either` is evaluated only if the left
+-- side doesn't decide the value.
 abbrev pub truth : Levels → List ℤ → Truth → StepResult Bool
 truth ls cells (constant b) = gives b
 truth ls cells (flag p) = address ls cells p >>= (λ a. gives (is_true (cell_at cells a)))

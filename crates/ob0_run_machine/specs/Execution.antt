@@ -1,45 +1,48 @@
--- Defines runs of lowered code, by big steps: of statements, calls and whole programs. They depend
--- on the activations that are seen, the cells, the rest of the input, the bound c on open calls,
--- and the bound t on the iterations of a loop.
+-- Defines runs of lowered code, by big steps: of statements, calls and whole programs. A run
+-- depends on the activations that the running code can see, on the cells, and on the rest of the
+-- input. It also depends on two bounds: `c` on the open calls, and `t` on the iterations of each
+-- execution of a loop.
 -- Rule: none; for contracts of the machine: what lowered statements mean,
 -- by the rules of docs/LANGUAGE.md, Runs 5 to 10.
 use Rattle.std.specs.Prelude.{ℕ, zero, suc, ◌+◌, ◌-◌, ◌^◌, Bool, true, false, ◌&&◌, List, [], ◌∷◌, ◌++◌, length, take, drop, replicate, ℤ, pos, Some, None, Option, if◌then◌else◌, nat_le, nat_lt, slice_get, slice_set}
 use Rattle.ob0_run_machine.specs.Lowered.{LoweredArgument, by_place, by_number, by_truth, by_block, Instruction, stores_number, stores_truth, copies, reads, writes, writes_line, chooses, while_loop, repeat_loop, calls, Instructions, no_statement, before, Branches, no_branch, branch, Routine, LoweredCode}
 use Rattle.ob0_run_machine.specs.Evaluation.{CallBound, Done, Halt, InputEnd, StepResult, Levels, TurnBound, address, as_cell, ends, gives, innermost_level, number, truth, ◌>>=◌}
 
--- an item of output: a number, or the end of a line
+-- An item of output: a number, or the end of a line.
 pub data OutputItem : Type 0 where
   number_out : ℤ → OutputItem
   line_out : OutputItem
 
--- the cells of all variables, the module's first, the rest of the input, and the output so far
+-- The state of a run: the cells of all variables (the module's first), the rest of the input, and
+-- the output so far.
 pub record MachineState : Type 0 where
   pub cells : List ℤ
   pub input : List ℤ
   pub output : List OutputItem
 
--- a run continues in a state, or it has ended with this output, or it has no room: the cells of an
--- activation would need addresses of more than 64 bits
+-- The progress of a run. The run continues in a state, or has ended with an end and an output, or
+-- has no room. It has no room if the cells of an activation would need addresses of more than 64
+-- bits.
 pub data MachineProgress : Type 0 where
   running : MachineState → MachineProgress
   stopped : Halt → List OutputItem → MachineProgress
   no_room : MachineProgress
 
--- continues a run with the value of an evaluation; if the evaluation ends the run, `next` is
--- skipped
+-- Continues a run by applying `next` to the value of an evaluation. If the evaluation ends the run,
+-- the run ends, and `next` is skipped.
 abbrev pub use_result : {A : Type 0} → MachineState → StepResult A → (A → MachineProgress)
     → MachineProgress
 use_result s (gives a) next = next a
 use_result s (ends e) next = stopped e s.output
 
--- continues a run with a further step if the run hasn't ended
+-- Applies the step `next` to the state of a run. A run that has ended or has no room is unchanged.
 abbrev pub continue_with : MachineProgress → (MachineState → MachineProgress) → MachineProgress
 continue_with (running s) next = next s
 continue_with (stopped e out) next = stopped e out
 continue_with no_room next = no_room
 
--- continues a run with one of two steps, chosen by the value of a condition; if the evaluation of
--- the condition ends the run, both are skipped
+-- Continues a run with one of two steps, which the value of a condition chooses. If the evaluation
+-- of the condition ends the run, the run ends, and both steps are skipped.
 abbrev pub choose : MachineState → StepResult Bool
     → (MachineState → MachineProgress)
     → (MachineState → MachineProgress)
@@ -48,49 +51,51 @@ choose s (gives true) when_true when_false = when_true s
 choose s (gives false) when_true when_false = when_false s
 choose s (ends e) when_true when_false = stopped e s.output
 
--- the state with one more item of output
+-- returns the state with one more item at the end of the output
 abbrev pub append_output : MachineState → OutputItem → MachineState
 append_output s i = record s { output = s.output ++ i ∷ [] }
 
--- the state after a number was stored at an address; unchanged if there is no cell at this address
+-- Returns the state after a number was stored in the cell at an address. The state is unchanged if
+-- there is no such cell.
 abbrev pub store_at : MachineState → ℕ → ℤ → MachineState
 store_at s a n = record s { cells = slice_set s.cells a n }
 
--- the cells after n cells were copied from one address to another; unchanged if there are too few
--- cells at either address
+-- Returns the cells after the `n` cells that begin at `from` were copied to `to`. The cells are
+-- unchanged if fewer than `n` cells begin at one of these addresses.
 abbrev pub cells_after_copy : List ℤ → (to from n : ℕ) → List ℤ
 cells_after_copy cells to from n =
     if nat_le (to + n) (length cells) && nat_le (from + n) (length cells)
     then take to cells ++ (take n (drop from cells) ++ drop (to + n) cells)
     else cells
 
--- n new cells, each with the value 0
+-- returns `n` cells with the value 0
 abbrev pub zeros : ℕ → List ℤ
 zeros n = replicate n (pos 0)
 
--- the n cells at an address, or n zeros if there are fewer cells
+-- returns the `n` cells that begin at the address `from`, or `n` zeros if fewer cells begin there
 abbrev pub block_at : List ℤ → (from n : ℕ) → List ℤ
 block_at cells from n =
     if nat_le (from + n) (length cells) then take n (drop from cells) else zeros n
 
--- the run after `Read`: the next number of the input is stored at an address; if no input is left,
--- the run ends with InputEnd
+-- Returns the run after `Read`, which stores the next number of the input at an address. If no
+-- input is left, the run ends with InputEnd.
 abbrev pub read_number : MachineState → ℕ → List ℤ → MachineProgress
 read_number s a [] = stopped InputEnd s.output
 read_number s a (n ∷ rest) = running (store_at (record s { input = rest }) a n)
 
--- the arguments passed so far: the values as cells at the end of all cells, the places as
--- addresses, both in the order of the parameters
+-- The arguments of a call that have been passed so far. `cells` has all cells, with the passed
+-- values at the end. `addresses` has the addresses that were passed for VAR parameters. Both are in
+-- the order of the parameters.
 pub record CallArguments : Type 0 where
   pub cells : List ℤ
   pub addresses : List ℕ
 
--- the passed arguments with more cells at the end
+-- returns the passed arguments with more cells at the end
 abbrev pub pass_cells : CallArguments → List ℤ → CallArguments
 pass_cells p more = record p { cells = p.cells ++ more }
 
--- the passed arguments with one more argument: the address of a VAR argument, or the cells of a
--- value
+-- Evaluates an argument, and returns the passed arguments with this one added: an address for a VAR
+-- parameter, otherwise the cells of a value. If the evaluation ends the run, returns this end.
 abbrev pub pass : Levels → LoweredArgument → CallArguments → StepResult CallArguments
 pass ls (by_place p) done =
     address ls done.cells p >>= (λ a. gives record done { addresses = done.addresses ++ a ∷ [] })
@@ -100,14 +105,15 @@ pass ls (by_truth t) done =
 pass ls (by_block p n) done =
     address ls done.cells p >>= (λ a. gives (pass_cells done (block_at done.cells a n)))
 
--- the passed arguments with more arguments, which are evaluated and passed from left to right
+-- Evaluates and passes a list of arguments, from left to right, and returns the passed arguments
+-- with these added. If an evaluation ends the run, returns this end.
 abbrev pub pass_all : Levels → List LoweredArgument → CallArguments → StepResult CallArguments
 pass_all ls [] done = gives done
 pass_all ls (a ∷ as_given) done = pass ls a done >>= pass_all ls as_given
 
--- The run of a WHILE, with at most t iterations. If its condition is FALSE, the statement ends. If
--- the condition is TRUE, one more iteration is made. If no iteration is left, the run ends with
--- TurnBound instead.
+-- Returns the run of a WHILE, with at most `t` iterations. If the condition is FALSE, the statement
+-- ends. If the condition is TRUE, one more iteration is made. If no iteration is left, the run ends
+-- with TurnBound instead.
 abbrev pub execute_while : ℕ → (MachineState → StepResult Bool)
     → (MachineState → MachineProgress)
     → MachineState
@@ -118,9 +124,9 @@ execute_while (suc t) condition statements s =
     choose s (condition s) (λ s'. continue_with (statements s') (execute_while t condition statements))
     running
 
--- The run of a REPEAT, with at most t iterations after the first. Its condition is evaluated after
--- each iteration. If the condition is TRUE, the statement ends. If it is FALSE, one more iteration
--- is made. If no iteration is left, the run ends with TurnBound instead.
+-- Returns the run of a REPEAT, with at most `t` iterations after the first. The condition is
+-- evaluated after each iteration. If the condition is TRUE, the statement ends. If it is FALSE, one
+-- more iteration is made. If no iteration is left, the run ends with TurnBound instead.
 abbrev pub execute_repeat : ℕ → (MachineState → StepResult Bool)
     → (MachineState → MachineProgress)
     → MachineState
@@ -131,20 +137,22 @@ execute_repeat zero condition turn s =
 execute_repeat (suc t) condition turn s =
     continue_with (turn s) (λ s'. choose s' (condition s') running (execute_repeat t condition turn))
 
--- the effect of a call whose arguments have been passed: a function of the procedure's index, the
--- activations that the procedure's body sees (its own first), and the state
+-- The type of the effect of a call whose arguments have been passed. The effect is a function of
+-- the procedure's index, of the activations that the procedure's body can see (its own first), and
+-- of the state.
 abbrev pub CallEffect : Type 0
 CallEffect = ℕ → Levels → MachineState → MachineProgress
 
--- the activations that a called procedure sees: its own activation, then the activation `up` levels
--- out and all around this one
+-- returns the activations that a called procedure can see: its own activation with this base, then
+-- the caller's activations except the first `up` ones
 abbrev pub levels_in_call : Levels → (base up : ℕ) → CallArguments → Levels
 levels_in_call ls base up p = record { base = base; addresses = p.addresses } ∷ drop up ls
 
--- the run of statements; an assignment finds its place, then evaluates its right side, then stores
+-- Defines the run of statements. An assignment computes the address of its place, then evaluates
+-- its right side, then stores the value.
 unfoldable mutual
-  -- the run of one statement; `enter` is the effect of calls, and t bounds the iterations of each
-  -- loop
+  -- Returns the run of one statement. `enter` is the effect of calls. Each execution of a loop may
+  -- make at most `t` iterations.
   pub execute : CallEffect → ℕ → Levels → Instruction → MachineState → MachineProgress
   execute enter t ls (stores_number p n) s =
       use_result s (address ls s.cells p)
@@ -169,13 +177,14 @@ unfoldable mutual
       use_result s (pass_all ls args record { cells = s.cells; addresses = [] })
       (λ p. enter k (levels_in_call ls (length s.cells) up p) record s { cells = p.cells })
 
-  -- the run of statements, one after the other
+  -- returns the run of a list of statements, one after the other
   pub execute_all : CallEffect → ℕ → Levels → Instructions → MachineState → MachineProgress
   execute_all enter t ls no_statement s = running s
   execute_all enter t ls (before a rest) s =
       continue_with (execute enter t ls a s) (execute_all enter t ls rest)
 
-  -- the run of the first branch with a TRUE condition, or of `otherwise` if there is none
+  -- returns the run of the first branch with a TRUE condition, or of `otherwise` if no condition is
+  -- TRUE
   pub execute_branches : CallEffect → ℕ → Levels → Branches
       → (MachineState → MachineProgress)
       → MachineState
@@ -185,29 +194,30 @@ unfoldable mutual
       choose s (truth ls s.cells c) (execute_all enter t ls body)
       (execute_branches enter t ls rest otherwise)
 
--- the run after a call: if the call has returned, only the first n cells remain
+-- Drops all cells except the first `n`. A run that has ended or has no room is unchanged.
 abbrev pub drop_variables : ℕ → MachineProgress → MachineProgress
 drop_variables n (running s) = running record s { cells = take n s.cells }
 drop_variables n (stopped e out) = stopped e out
 drop_variables n no_room = no_room
 
--- adds n cells at the end and continues the run with `next`; if the number of cells doesn't fit 64
--- bits, the run has no room
+-- Adds `n` cells with the value 0 at the end, and continues the run with `next`. If the number of
+-- cells then has more than 64 bits, the run has no room.
 abbrev pub run_with_cells : ℕ → (MachineState → MachineProgress) → MachineState → MachineProgress
 run_with_cells n next s =
     if nat_lt (length s.cells + n) (2 ^ 64)
     then next record s { cells = s.cells ++ zeros n }
     else no_room
 
--- the run of a procedure's body, with its own cells after its arguments; without a procedure
--- nothing happens
+-- Returns the run of a procedure's body. Before the body runs, the cells of the procedure's own
+-- variables are added at the end. If there is no procedure (None), the state is unchanged.
 unfoldable pub activate : CallEffect → ℕ → Levels → Option Routine → MachineState → MachineProgress
 unfolding execute_all
 activate enter t ls None s = running s
 activate enter t ls (Some p) s = run_with_cells p.cells (execute_all enter t ls p.body) s
 
--- the effect of a call if c more calls may be open: the procedure's body runs, then its cells are
--- dropped; if c is 0, the run ends with CallBound
+-- Returns the effect of calls if `c` calls may still be opened, this one included. The procedure's
+-- body runs, and then the cells of its activation are dropped. If `c` is 0, the run ends with
+-- CallBound.
 unfoldable pub call : List Routine → ℕ → ℕ → CallEffect
 unfolding activate
 call procedures zero t k ls s = stopped CallBound s.output
@@ -215,23 +225,24 @@ call procedures (suc c) t k ls s =
     drop_variables (innermost_level ls).base
     (activate (call procedures c t) t ls (slice_get procedures k) s)
 
--- the output and the end of a run
+-- The result of a whole run: its output and its end.
 pub record MachineRun : Type 0 where
   pub output : List OutputItem
   pub ending : Halt
 
--- the output and the end of a run: Done if it reached the end of the program; None if it had no
--- room
+-- Returns the output and the end of a run. The end is Done if the run reached the end of the
+-- program. Returns None if the run had no room.
 abbrev pub run_result : MachineProgress → Option MachineRun
 run_result (running s) = Some (record { output = s.output; ending = Done })
 run_result (stopped e out) = Some (record { output = out; ending = e })
 run_result no_room = None
 
--- the activations that the module's body sees: only the module's, with base 0
+-- returns the activations that the module's body can see: only the module's activation, with base 0
 abbrev pub outermost : Levels
 outermost = record { base = 0; addresses = [] } ∷ []
 
--- the run of a program on an input, with the bounds c and t; None if there is no room for its cells
+-- Returns the run of a program on an input, with the bounds `c` on open calls and `t` on
+-- iterations. Returns None if the run has no room for its cells.
 unfoldable pub run : LoweredCode → List ℤ → ℕ → ℕ → Option MachineRun
 unfolding execute_all call
 run program input c t =

@@ -1,4 +1,4 @@
--- Converts the machine's activations and addresses to lists.
+-- Converts the machine's activations and addresses of VAR parameters to lists.
 -- Rule: none; for contracts of the machine.
 use Rattle.std.specs.Prelude.{ℕ, List, Option, Some, None, [], ◌∷◌}
 use denote.Ref.{Bor}
@@ -8,22 +8,23 @@ use Rattle.ob0_run_machine.specs.declared.level.Level as code
 use Rattle.ob0_run_machine.specs.Evaluation.{Levels}
 
 abbrev mutual
-  -- the activation of a `Level`, and the activations around it
+  -- returns the activations that a `Level` can see: itself, then the activations around it
   pub levels_of : code.Level → Levels
   levels_of (code.Level' base addresses enclosing) =
       record { base = base; addresses = addresses.now } ∷ levels_after enclosing
 
-  -- the activations around an activation; empty for the module's
+  -- Returns the activations around an activation, the nearest first. There are none around the
+  -- module's activation.
   pub levels_after : code.Held-Level-enclosing → Levels
   levels_after code.None' = []
   levels_after (code.Some' pointer l) = levels_of l
 
--- the activations that a `Level` sees, itself first; empty for None
+-- Returns the activations that a `Level` can see, itself first. Returns the empty list for None.
 abbrev pub levels_of_option : Option (Bor code.Level) → Levels
 levels_of_option None = []
 levels_of_option (Some l) = levels_of l.now
 
--- the addresses of a call's VAR parameters
+-- returns the addresses that a call passes for its VAR parameters, in the order of the parameters
 abbrev pub addresses_in : VarAddresses → List ℕ
 addresses_in addresses.Empty = []
 addresses_in (addresses.One a) = a ∷ []

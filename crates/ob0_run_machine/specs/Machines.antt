@@ -1,10 +1,10 @@
 -- States the meaning of the machine's state, and of the result of a step. The bound on iterations
--- is a parameter, so the state of the machine is only cells, input and output. Contracts of steps
--- that allocate nothing are equations (`progress_after_step`, `statement_effect`). The contracts of
--- other steps have a case for each result (`MachineSteps`, `Passes`). `MachineDoes` and the
--- invariants of loops (`InSequence`, `InBranches`, `InWhile`, `InRepeat`) are records, so their
--- lemmas can have implicit arguments. Each loop has one fact about the iterations so far, and a
--- lemma for each way to continue or to end.
+-- is a parameter, so the state of the machine is only cells, input and output. The contracts of
+-- steps that allocate nothing are equations (`progress_after_step`). The contracts of other steps
+-- have a case for each result (`MachineSteps`, `Passes`). `MachineDoes` and the invariants of loops
+-- (`InSequence`, `InBranches`, `InWhile`, `InRepeat`) are records, so their lemmas can have
+-- implicit arguments. Each loop has one fact about the iterations so far. Each way to continue the
+-- loop or to leave it has a lemma.
 -- Rule: none; for contracts of the machine.
 use Rattle.std.specs.Prelude.{◌≡◌, ℕ, ℤ, List, map, Ok, Err, None, Option, Some, Result, true}
 use denote.MutBor.{MutBor}
@@ -25,102 +25,113 @@ use Rattle.ob0_run_machine.specs.Lowered.{Branches, Routine, Instruction, Instru
 use Rattle.ob0_run_machine.specs.View.{program_of}
 use Rattle.ob0_run_machine.specs.declared.code.LoweredCode.{LoweredCode}
 
--- the output item that an `Item` stands for
+-- converts an item of the machine's output to an item of the definitions
 abbrev pub item_of : Item → OutputItem
 item_of (item.Number n) = number_out n
 item_of item.Line = line_out
 
--- the output that a list of `Item` stands for
+-- converts the machine's output to the output of the definitions, item by item
 abbrev pub output_items : List Item → List OutputItem
 output_items = map item_of
 
--- the state that a `Machine` stands for
+-- converts the machine to a state of the definitions: its cells, the rest of the input, and the
+-- output so far
 abbrev pub state_of : Machine → MachineState
 state_of m =
     record { cells = m.cells.items; input = m.input.now; output = output_items m.output.items }
 
--- the run after a step that allocates nothing: it continues in the machine's state, or has ended
--- with the machine's output
+-- Returns the progress of a run after a step that allocates nothing, from the result of the step
+-- and the machine after the step. The run continues in the machine's state, or has ended with a
+-- fault and the machine's output.
 abbrev pub progress_after_step : Result (Unit {0}) EvaluationFault → Machine → MachineProgress
 progress_after_step (Ok done) m = running (state_of m)
 progress_after_step (Err e) m = stopped (end_of e) (output_items m.output.items)
 
--- states that a run has ended with this end and the machine's output; for None, that an allocation
--- has failed
+-- States that a run has ended with an end and the machine's output. Given None instead of an end,
+-- states that an allocation has failed, and claims nothing about the progress.
 abbrev pub StopsRun : Option Halt → Machine → MachineProgress → Type 0
 StopsRun (Some e) m p = p ≡ stopped e (output_items m.output.items)
 StopsRun None m p = has_failed m.memory ≡ true
 
--- states how a run is after a step with this result: it continues in the machine's state, or has
--- ended as `StopsRun` says
+-- States that `p` is the progress of a run after a step with this result. `m` is the machine after
+-- the step. The run continues in the machine's state, or has ended as `StopsRun` says.
 abbrev pub MachineSteps : Result (Unit {0}) Stop → Machine → MachineProgress → Type 0
 MachineSteps (Ok done) m p = p ≡ running (state_of m)
 MachineSteps (Err s) m p = StopsRun (end_of_stop s) m p
 
--- the postcondition of a closure that performs calls: a relation of the machine before the call,
--- the procedure's index, the activation, the result, and the machine after the call
+-- The type of the postcondition of a closure that performs calls. It relates the machine before the
+-- call, the procedure's index, the called activation, the result, and the machine after the call.
 abbrev pub CallPostcondition : Type 1
 CallPostcondition = MutBor Machine → ℕ → Bor level.Level → Result (Unit {0}) Stop → MutBor Machine → Type 0
 
--- states that each call with this postcondition has the effect `enters`
+-- States that each call for which the postcondition `post` holds has the effect `enters`.
 abbrev pub PerformsCalls : CallPostcondition → CallEffect → Type 0
 PerformsCalls post enters =
     (at : MutBor Machine) (k : ℕ) (l : Bor level.Level) (r : Result (Unit {0}) Stop)
     (after : MutBor Machine)
     → post at k l r after → MachineSteps r after.now (enters k (levels_of l.now) (state_of at.now))
 
--- the effect of a part of a program: a function of the effect of calls and the state
+-- The type of the effect of a part of a program. The effect is a function. Given the effect of
+-- calls and the state before, it returns the progress after.
 abbrev pub CodeEffect : Type 0
 CodeEffect = CallEffect → MachineState → MachineProgress
 
--- the effect of a statement
+-- returns the effect of a statement, in the activations `ls`, with at most `t` iterations of each
+-- execution of a loop
 abbrev pub statement_effect : ℕ → Levels → Instruction → CodeEffect
 statement_effect t ls a enters s = execute enters t ls a s
 
--- the effect of statements
+-- returns the effect of a list of statements, in the activations `ls`, with at most `t` iterations
+-- of each execution of a loop
 abbrev pub sequence_effect : ℕ → Levels → Instructions → CodeEffect
 sequence_effect t ls as_listed enters s = execute_all enters t ls as_listed s
 
--- the effect of the first branch with a TRUE condition, or of `otherwise` if there is none
+-- returns the effect of the first branch with a TRUE condition, or of the statements `otherwise` if
+-- no condition is TRUE
 abbrev pub elsifs_effect : ℕ → Levels → Branches → Instructions → CodeEffect
 elsifs_effect t ls bs otherwise enters s =
     execute_branches enters t ls bs (execute_all enters t ls otherwise) s
 
--- states that a step from `m` to `m'` with the result `r` has the effect `doing`, for each effect
--- of calls that agrees with `post`
+-- States that a step from the machine `m` to the machine `m'` with the result `r` has the effect
+-- `doing`. This has to hold for each effect of calls that agrees with the postcondition `post`.
 pub record MachineDoes (post : CallPostcondition) (r : Result (Unit {0}) Stop) (m m' : Machine) (doing : CodeEffect)
     : Type 0 where
   pub as_defined : (enters : CallEffect)
       → PerformsCalls post enters
       → MachineSteps r m' (doing enters (state_of m))
 
--- the call arguments with these cells and addresses; the passed values are at the end of the cells
+-- Returns the call arguments with these cells and addresses. The cells are all cells so far, with
+-- the passed values at the end.
 abbrev pub passed_arguments : List ℤ → List ℕ → CallArguments
 passed_arguments cells addresses = record { cells = cells; addresses = addresses }
 
--- the effect of entering a procedure that is declared `up` levels out, in an activation with this
--- base and these addresses
+-- Returns the effect of entering the procedure with the index `k`. The procedure is declared `up`
+-- levels out from the caller's activation, which is the first of `ls`. The procedure's activation
+-- has this base and these addresses of VAR parameters.
 abbrev pub entry_effect : ℕ → ℕ → Levels → ℕ → List ℕ → CodeEffect
 entry_effect k up ls base addresses enters s =
     enters k (levels_in_call ls base up (passed_arguments s.cells addresses)) s
 
--- states that the evaluation of arguments ends the run with this end; for None, that an allocation
--- has failed
+-- States that the evaluation of arguments ends the run with a given end. Given None instead of an
+-- end, states that an allocation has failed, and claims nothing about the evaluation.
 abbrev pub StopsPassing : Option Halt → Memory → StepResult CallArguments → Type 0
 StopsPassing (Some e) memory o = o ≡ ends e
 StopsPassing None memory o = has_failed memory ≡ true
 
--- states the outcome of passing arguments: these cells and addresses, or the end of the run
+-- States the outcome of passing arguments with this result: these cells and addresses, or an end of
+-- the run as `StopsPassing` says.
 abbrev pub Passes : Result (Unit {0}) Stop → Memory → List ℤ → List ℕ → StepResult CallArguments → Type 0
 Passes (Ok done) memory cells addresses o = o ≡ gives (passed_arguments cells addresses)
 Passes (Err s) memory cells addresses o = StopsPassing (end_of_stop s) memory o
 
--- the effect of a procedure's body; without a procedure nothing happens
+-- Returns the effect of adding the cells of a procedure's own variables and running its body. For
+-- None, nothing happens.
 abbrev pub activation_effect : Option Routine → ℕ → Levels → CodeEffect
 activation_effect o t ls enters s = activate enters t ls o s
 
--- states that a call leads from `m` to `m'` with the result `r`, as `call` defines for the program
--- if c calls may be open
+-- States that a call of the procedure with the index `k` leads from the machine `m` to the machine
+-- `m'` with the result `r`, according to `call`. `c` calls may still be opened, this one included.
+-- Each execution of a loop may make at most `t` iterations.
 abbrev pub CallSteps : Result (Unit {0}) Stop
     → Machine
     → Machine

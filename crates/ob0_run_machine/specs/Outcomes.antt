@@ -1,4 +1,4 @@
--- Converts the ends and outcomes that the machine returns to the ends and runs of the semantics.
+-- Converts the ends and outcomes that the machine returns to the ends and runs of the definitions.
 -- Rule: none; for contracts: what values of the code mean.
 use Rattle.std.specs.Prelude.{◌≡◌, ℕ, IsErr, Ok, Err, None, Option, Result, Some}
 use Rattle.std.specs.declared.alloc.AllocError.{AllocError}
@@ -12,7 +12,7 @@ use Rattle.ob0_run_machine.specs.Execution.{MachineProgress, MachineRun, Machine
 use Rattle.ob0_run_machine.specs.Lowered.{LoweredCode}
 use Rattle.ob0_run_machine.specs.Machines.{output_items}
 
--- the end of a run that an `End` stands for
+-- converts an end of a run that the machine returns to an end of the definitions
 abbrev pub meaning_of_end : End → Halt
 meaning_of_end code.Done = Done
 meaning_of_end code.Overflow = Overflow
@@ -22,21 +22,25 @@ meaning_of_end code.InputEnd = InputEnd
 meaning_of_end code.CallBound = CallBound
 meaning_of_end code.TurnBound = TurnBound
 
--- states that this end is returned; for None, that an error is returned
+-- States that a result is a given end of the run. Given None instead of an end, states that the
+-- result is an error.
 abbrev pub ReturnsEnd : Option Halt → Result End AllocError → Type 0
 ReturnsEnd (Some e) r = (x : End) × (r ≡ Ok x) × (meaning_of_end x ≡ e)
 ReturnsEnd None r = IsErr r
 
--- states which end is returned for the result of a program's statements: Done if the statements
--- return normally, an error if an allocation failed, otherwise the end for their `Stop`
+-- States which end of the run is returned for the result of a program's statements. This is Done if
+-- the statements returned normally, an error if an allocation failed, otherwise the end for their
+-- `Stop`.
 abbrev pub IsEndOf : Result (Unit {0}) Stop → Result End AllocError → Type 0
 IsEndOf (Ok done) r = r ≡ Ok code.Done
 IsEndOf (Err s) r = ReturnsEnd (end_of_stop s) r
 
--- the output and the end of a run that an `Outcome` stands for
+-- converts an outcome that the machine returns to a run of the definitions, with its output and its
+-- end
 abbrev pub run_of : Outcome → MachineRun
 run_of o = record { output = output_items o.output.items; ending = meaning_of_end o.end }
 
--- the run of the statements of a program's body, from a state
+-- returns the run of the statements of a program's body from the state `s`, with the bounds `c` on
+-- open calls and `t` on iterations
 abbrev pub body_run : LoweredCode → ℕ → ℕ → MachineState → MachineProgress
 body_run program c t s = execute_all (call program.procedures c t) t outermost program.body s

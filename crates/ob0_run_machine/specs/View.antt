@@ -1,4 +1,5 @@
--- Converts values of the machine's types (`src/code.rt`) to the lowered code that they stand for.
+-- Converts values of the machine's types (`src/code.rt`) to lowered code (`Lowered`), which defines
+-- their meaning.
 -- Rule: none; for contracts: what values of the code mean.
 use Rattle.std.specs.Prelude.{List, [], ◌∷◌, ℤ, map}
 use Rattle.ob0_run_machine.specs.declared.code.Place as place
@@ -37,7 +38,7 @@ use Rattle.ob0_run_machine.specs.declared.code.Routine as procedure
 use Rattle.ob0_run_machine.specs.declared.code.LoweredCode as program
 use Rattle.ob0_run_machine.specs.Lowered as lowered
 
--- the lowered operator that an `Operator` stands for
+-- converts an `Operator` to a lowered operator
 abbrev pub operator_of : Operator → lowered.Operator
 operator_of operator.Sum = lowered.sum
 operator_of operator.Difference = lowered.difference
@@ -45,25 +46,26 @@ operator_of operator.Product = lowered.product
 operator_of operator.Quotient = lowered.quotient
 operator_of operator.Remainder = lowered.remainder
 
--- the lowered place that a `Variable` stands for
+-- converts a `Variable` to a lowered place
 abbrev pub variable_of : Variable → lowered.Place
 variable_of (variable.Module offset) = lowered.in_module offset
 variable_of (variable.Here offset) = lowered.here offset
 variable_of (variable.ByReference index offset) = lowered.passed 0 index offset
 
--- the lowered place that a `Reference` stands for: at an offset from the address of a VAR parameter
+-- converts a `Reference` to a lowered place: a place at an offset from the address that was passed
+-- for a VAR parameter
 abbrev pub reference_of : Reference → lowered.Place
 reference_of r = lowered.passed r.up r.index r.offset
 
--- the lowered place that a `VariableElement` stands for: an element whose index is the value of a
--- variable
+-- converts a `VariableElement` to a lowered place: a place in an element whose array and index are
+-- variables
 abbrev pub variable_element_of : VariableElement → lowered.Place
 variable_element_of r =
     lowered.element (variable_of r.array) (lowered.cell (variable_of r.index)) r.length r.stride
     r.offset
 
 abbrev mutual
-  -- the lowered place that a `Place` stands for
+  -- converts a `Place` to a lowered place
   pub place_of : Place → lowered.Place
   place_of (place.Variable v) = variable_of v
   place_of (place.VariableElement r) = variable_element_of r.value
@@ -72,7 +74,7 @@ abbrev mutual
   place_of (place.Element' pointer array index length stride offset) =
       lowered.element (place_of array) (number_of index) length stride offset
 
-  -- the lowered number that a `Number` stands for
+  -- converts a `Number` to a lowered number
   pub number_of : Number → lowered.Number
   number_of (number.Literal n) = lowered.literal n
   number_of (number.Variable v) = lowered.cell (variable_of v)
@@ -81,14 +83,14 @@ abbrev mutual
   number_of (number.Operation' pointer begin l) = applied l (first_of begin)
   number_of (number.Chain' pointer begin shape row) = chain_by_row row (first_of begin)
 
-  -- the lowered number that the first operand of an operation or a chain stands for
+  -- converts the first operand of an operation or a chain to a lowered number
   pub first_of : FirstOperand → lowered.Number
   first_of (first.Literal n) = lowered.literal n
   first_of (first.Variable v) = lowered.cell (variable_of v)
   first_of (first.Cell p) = lowered.cell (place_of p)
   first_of (first.Negative' pointer n) = lowered.negative (number_of n)
 
-  -- the operation that a link applies to a number
+  -- returns the lowered operation that applies a link to a number
   pub applied : Link → lowered.Number → lowered.Number
   applied (link.SumLiteral n) left = lowered.operation lowered.sum left (lowered.literal n)
   applied (link.SumVariable v) left =
@@ -116,31 +118,32 @@ abbrev mutual
       lowered.operation lowered.product (lowered.cell (variable_of v)) right
   applied (link.Other o n) left = lowered.operation (operator_of o) left (number_of n)
 
-  -- the operations that a row of links applies to a number, one after the other
+  -- returns the lowered operations that apply a row of links to a number, one link after the other
   pub chain_by_row : {n : _} → number.Row_of-Link n → lowered.Number → lowered.Number
   chain_by_row number.end_of-Link left = left
   chain_by_row (number.more_of-Link l row) left = chain_by_row row (applied l left)
 
--- the lowered place for the fields of an `Element`
+-- converts an `Element` to a lowered place, as `place_of` does
 abbrev pub element_of : Element → lowered.Place
 element_of e =
     lowered.element (place_of (out-Element e).array) (number_of (out-Element e).index)
     (out-Element e).length (out-Element e).stride (out-Element e).offset
 
--- the lowered number that an `Operation` stands for
+-- converts an `Operation` to a lowered number
 abbrev pub operation_of : Operation → lowered.Number
 operation_of o = applied (out-Operation o).link (first_of (out-Operation o).first)
 
--- the operations that a list of links applies to a number, one after the other
+-- returns the lowered operations that apply a list of links to the number `left`, one link after
+-- the other
 abbrev pub chain_on_operand : lowered.Number → List Link → lowered.Number
 chain_on_operand left [] = left
 chain_on_operand left (l ∷ ls) = chain_on_operand (applied l left) ls
 
--- the lowered number that a `Chain` stands for
+-- converts a `Chain` to a lowered number
 abbrev pub chain_of : chain.Chain → lowered.Number
 chain_of c = chain_on_operand (first_of (chain.out-Chain c).first) (chain.out-Chain c).rest.items
 
--- the lowered relation that a `Comparator` stands for
+-- converts a `Comparator` to a lowered relation
 abbrev pub relation_of : Comparator → lowered.Comparator
 relation_of relation.Equal = lowered.equal
 relation_of relation.NotEqual = lowered.not_equal
@@ -149,21 +152,21 @@ relation_of relation.LessEqual = lowered.less_equal
 relation_of relation.Greater = lowered.greater
 relation_of relation.GreaterEqual = lowered.greater_equal
 
--- the lowered truth that compares two operands
+-- returns the lowered comparison of two operands
 abbrev pub operands_relation : Comparator → Operands → lowered.Truth
 operands_relation r o = lowered.related (relation_of r) (number_of o.left) (number_of o.right)
 
--- the lowered truth that compares a variable with a lowered number
+-- returns the lowered comparison of a variable with a lowered number
 abbrev pub variable_relation : Comparator → Variable → lowered.Number → lowered.Truth
 variable_relation r v n = lowered.related (relation_of r) (lowered.cell (variable_of v)) n
 
--- the lowered truth that compares an element with a variable
+-- returns the lowered comparison of an array's element with a variable
 abbrev pub element_relation : Comparator → VariableElement → Variable → lowered.Truth
 element_relation r q v =
     lowered.related (relation_of r) (lowered.cell (variable_element_of q)) (lowered.cell (variable_of v))
 
 abbrev mutual
-  -- the lowered truth that a `Truth` stands for
+  -- converts a `Truth` to a lowered truth
   pub truth_of : Truth → lowered.Truth
   truth_of (truth.Constant b) = lowered.constant b
   truth_of (truth.Flag p) = lowered.flag (place_of p)
@@ -182,53 +185,53 @@ abbrev mutual
   truth_of (truth.Different' pointer left right) =
       lowered.different (truth_of left) (truth_of right)
 
-  -- this truth and the truths of a row, joined by `&` from left to right
+  -- returns the conjunction of the truth `left` and the truths of a row, nested on the left
   pub all_of : {n : _} → truth.Row_of-Truth n → lowered.Truth → lowered.Truth
   all_of truth.end_of-Truth left = left
   all_of (truth.more_of-Truth t row) left = all_of row (lowered.both left (truth_of t))
 
-  -- this truth and the truths of a row, joined by OR from left to right
+  -- returns the disjunction of the truth `left` and the truths of a row, nested on the left
   pub any_of : {n : _} → truth.Row_of-Truth n → lowered.Truth → lowered.Truth
   any_of truth.end_of-Truth left = left
   any_of (truth.more_of-Truth t row) left = any_of row (lowered.either left (truth_of t))
 
--- this truth and the truths of a list, joined by `&` from left to right
+-- returns the conjunction of the truth `left` and the truths of a list, nested on the left
 abbrev pub conjunction_from : lowered.Truth → List Truth → lowered.Truth
 conjunction_from left [] = left
 conjunction_from left (t ∷ ts) = conjunction_from (lowered.both left (truth_of t)) ts
 
--- this truth and the truths of a list, joined by OR from left to right
+-- returns the disjunction of the truth `left` and the truths of a list, nested on the left
 abbrev pub disjunction_from : lowered.Truth → List Truth → lowered.Truth
 disjunction_from left [] = left
 disjunction_from left (t ∷ ts) = disjunction_from (lowered.either left (truth_of t)) ts
 
--- the truths of a `TruthList`, joined by `&`
+-- returns the conjunction of the truths of a `TruthList`
 abbrev pub conjunction_of : TruthList → lowered.Truth
 conjunction_of s = conjunction_from (truth_of (out-TruthList s).first) (out-TruthList s).rest.items
 
--- the truths of a `TruthList`, joined by OR
+-- returns the disjunction of the truths of a `TruthList`
 abbrev pub disjunction_of : TruthList → lowered.Truth
 disjunction_of s = disjunction_from (truth_of (out-TruthList s).first) (out-TruthList s).rest.items
 
--- the lowered argument that an `Argument` stands for
+-- converts an `Argument` to a lowered argument
 abbrev pub argument_of : argument_type.Argument → lowered.LoweredArgument
 argument_of (argument.Place p) = lowered.by_place (place_of p)
 argument_of (argument.Number n) = lowered.by_number (number_of n)
 argument_of (argument.Truth t) = lowered.by_truth (truth_of t)
 argument_of (argument.Block p n) = lowered.by_block (place_of p) n
 
--- the lowered call that a `ProcedureCall` stands for
+-- converts a `ProcedureCall` to a lowered call
 abbrev pub call_of : call.ProcedureCall → lowered.Instruction
 call_of c = lowered.calls c.procedure c.up (map argument_of c.arguments.items)
 
--- the statement that adds a number to a variable
+-- returns the lowered statement that adds a number to a variable
 abbrev pub variable_increase : Variable → ℤ → lowered.Instruction
 variable_increase v n =
     lowered.stores_number (variable_of v)
     (lowered.operation lowered.sum (lowered.cell (variable_of v)) (lowered.literal n))
 
 abbrev mutual
-  -- the lowered statement that an `Instruction` stands for
+  -- converts an `Instruction` to a lowered statement
   pub statement_of : Instruction → lowered.Instruction
   statement_of (statement.StoreNumber p n) = lowered.stores_number (place_of p) (number_of n)
   statement_of (statement.StoreVariable v n) = lowered.stores_number (variable_of v) (number_of n)
@@ -249,48 +252,48 @@ abbrev mutual
       lowered.repeat_loop (statements_of row) (truth_of c)
   statement_of (statement.Call c) = call_of c
 
-  -- the lowered IF that a `Conditional` stands for
+  -- converts a `Conditional` to a lowered IF
   pub if_of : if_statement.Conditional → lowered.Instruction
   if_of (if_statement.Conditional' c shape body shape' branches shape'' otherwise) =
       lowered.chooses (lowered.branch (truth_of c) (statements_of body) (branches_of branches))
       (statements_of otherwise)
 
-  -- the lowered statements that a row of statements stands for
+  -- converts a row of statements to lowered statements
   pub statements_of : {n : _} → statement.Row_of-Instruction n → lowered.Instructions
   statements_of statement.end_of-Instruction = lowered.no_statement
   statements_of (statement.more_of-Instruction s row) =
       lowered.before (statement_of s) (statements_of row)
 
-  -- the lowered branches that a row of branches stands for
+  -- converts a row of branches to lowered branches
   pub branches_of : {n : _} → if_statement.Row_of-Branch n → lowered.Branches
   branches_of if_statement.end_of-Branch = lowered.no_branch
   branches_of (if_statement.more_of-Branch c shape body row) =
       lowered.branch (truth_of c) (statements_of body) (branches_of row)
 
--- the lowered statements that a list of statements stands for
+-- converts a list of statements to lowered statements
 abbrev pub sequence_of : List Instruction → lowered.Instructions
 sequence_of [] = lowered.no_statement
 sequence_of (s ∷ ss) = lowered.before (statement_of s) (sequence_of ss)
 
--- the lowered WHILE for the fields of a `WhileLoop`
+-- converts a `WhileLoop` to a lowered WHILE
 abbrev pub while_of : WhileLoop → lowered.Instruction
 while_of w = lowered.while_loop (truth_of w.condition) (sequence_of w.body.items)
 
--- the lowered REPEAT for the fields of a `RepeatLoop`
+-- converts a `RepeatLoop` to a lowered REPEAT
 abbrev pub repeat_of : RepeatLoop → lowered.Instruction
 repeat_of r = lowered.repeat_loop (sequence_of r.body.items) (truth_of r.condition)
 
--- the lowered branches that a list of branches stands for
+-- converts a list of branches to lowered branches
 abbrev pub all_branches : List Branch → lowered.Branches
 all_branches [] = lowered.no_branch
 all_branches (b ∷ bs) =
     lowered.branch (truth_of b.condition) (sequence_of b.body.items) (all_branches bs)
 
--- the lowered procedure that a `Routine` of the code stands for
+-- converts a `Routine` of the machine's code to a lowered procedure
 abbrev pub procedure_of : procedure.Routine → lowered.Routine
 procedure_of p = record { cells = p.cells; body = sequence_of p.body.items }
 
--- the lowered program that a `LoweredCode` of the code stands for
+-- converts a `LoweredCode` of the machine's code to a lowered program
 abbrev pub program_of : program.LoweredCode → lowered.LoweredCode
 program_of p =
     record {
@@ -299,15 +302,15 @@ program_of p =
       procedures = map procedure_of p.procedures.items;
     }
 
--- the lowered branches that the ELSIF parts of an IF stand for
+-- returns the ELSIF parts of an IF as lowered branches
 abbrev pub elsif_branches : if_statement.Conditional → lowered.Branches
 elsif_branches i = all_branches (if_statement.out-Conditional i).others.items
 
--- the lowered statements that run if no condition of an IF is TRUE
+-- returns the lowered statements that run if no condition of an IF is TRUE
 abbrev pub else_statements : if_statement.Conditional → lowered.Instructions
 else_statements i = sequence_of (if_statement.out-Conditional i).otherwise.items
 
--- the lowered IF for the fields of a `Conditional`
+-- converts a `Conditional` to a lowered IF, as `if_of` does
 abbrev pub conditional_of : if_statement.Conditional → lowered.Instruction
 conditional_of i =
     lowered.chooses

@@ -1,4 +1,4 @@
-//! The addresses of a call's VAR parameters.
+//! Stores the addresses that a call passes for its VAR parameters.
 
 ghost use Rattle.std.specs.Prelude.{◌≡◌, ◌++◌, ◌∷◌, [], IfOk, OnErr, OnOk, true};
 ghost use Rattle.ob0_run_machine.specs.Allocations.{has_failed};
@@ -7,8 +7,9 @@ ghost use Rattle.ob0_run_machine.specs.Levels.{addresses_in};
 use crate::memory::Memory;
 use std::alloc::AllocError;
 
-/// The addresses of a call's VAR parameters, in order. One or two are stored inline, more in a
-/// list, so most calls allocate no memory for them.
+/// The addresses that a call passes for its VAR parameters, in the order of the parameters. One or
+/// two addresses are stored inline, three or more in a list. So most calls allocate no memory for
+/// them.
 #[derive(Drop)]
 pub(crate) enum VarAddresses {
     Empty,
@@ -17,7 +18,7 @@ pub(crate) enum VarAddresses {
     More(Vec<usize>),
 }
 
-/// Returns the list of three addresses.
+/// Returns a `VarAddresses` with three addresses, which are in a list.
 fn three_addresses(
     memory: &mut Memory,
     a: usize,
@@ -35,7 +36,7 @@ fn three_addresses(
 }
 
 impl VarAddresses {
-    /// Adds an address at the end.
+    /// Adds an address after the others.
     #[inline(always)]
     pub(crate) fn push(&mut self, memory: &mut Memory, address: usize) -> Result<(), AllocError>
         ensures items { OnOk result

@@ -1,5 +1,5 @@
-//! Passes arguments: a value becomes cells at the end of all cells, a VAR argument becomes an
-//! address.
+//! Passes the arguments of a call. A value is added as cells at the end of all cells. For a VAR
+//! parameter, the address of the argument's place is passed.
 
 ghost use Rattle.std.specs.Prelude.{map};
 ghost use Rattle.ob0_run_machine.specs.Execution.{pass, pass_all};
@@ -16,7 +16,7 @@ use crate::memory::Memory;
 use crate::operators::as_cell;
 
 /// Evaluates an argument and passes it: adds its value at the end of `cells`, or the address of its
-/// place at the end of `addresses`.
+/// place at the end of `addresses`. Fails if the evaluation has a fault or an allocation fails.
 #[inline(always)]
 fn pass(
     memory: &mut Memory,
@@ -50,7 +50,8 @@ fn pass(
     Ok(())
 }
 
-/// Evaluates and passes arguments, one after another, from left to right.
+/// Evaluates and passes arguments, one after another, from left to right. Stops at the first
+/// argument that fails.
 #[inline(always)]
 pub(crate) fn pass_all(
     memory: &mut Memory,

@@ -1,4 +1,4 @@
-//! Calls of procedures. The cells of a call are dropped when the call returns.
+//! Calls procedures. The cells of a call are dropped when the call returns.
 
 ghost use Rattle.std.specs.Prelude.{◌≡◌, map, option_map, slice_get, take};
 ghost use Rattle.ob0_run_machine.specs.Evaluation.{innermost_level};
@@ -24,8 +24,8 @@ fn procedure_at<'p>(procedures: &'p [Routine], procedure: usize) -> Option<&'p R
     Some(&procedures[procedure])
 }
 
-/// Adds the cells of a procedure's own variables after its arguments, then runs its body. Does
-/// nothing for None.
+/// Adds the cells of a procedure's own variables at the end of all cells, and then runs the
+/// procedure's body. Does nothing for None.
 fn activate<F: Fn(&mut Machine<'_>, usize, &Level<'_>) -> Result<(), Stop>>(
     procedure: Option<&Routine>,
     level: &Level<'_>,
@@ -58,9 +58,9 @@ fn drop_variables(machine: &mut Machine<'_>, level: &Level<'_>)
     machine.cells.truncate(level.base);
 }
 
-/// Calls a procedure whose arguments have been passed, and drops its cells when it returns. `calls`
-/// is the number of further calls that may be open. If it is 0, the call ends the run with
-/// CallBound.
+/// Calls the procedure at an index after its arguments have been passed. Drops the cells of the
+/// call when the call returns. `calls` is the number of calls that may still be opened, this one
+/// included. If `calls` is 0, the call ends the run with CallBound.
 #[inline(never)]
 pub(crate) fn call(
     program: &LoweredCode,

@@ -1,10 +1,11 @@
-//! Copies of cells within a slice: by `copy_from_slice` between parts that don't overlap, otherwise
-//! by `copy_within`.
+//! Copies cells within a slice. Parts that don't overlap are copied by `copy_from_slice`, parts
+//! that overlap by `copy_within`.
 
 ghost use Rattle.std.specs.Prelude.{◌≡◌, ◌+◌, ◌≤◌, length};
 ghost use Rattle.ob0_run_machine.specs.Execution.{cells_after_copy};
 
-/// Copies `count` cells from `from` to `to`. The copied cells have to end before `to`.
+/// Copies the `count` cells that begin at `from` to the cells that begin at `to`. The last cell
+/// that is copied has to be before `to`.
 pub(crate) fn copy_up(cells: &mut [i32], to: usize, from: usize, count: usize)
     requires { (from + count ≤ to) × (to + count ≤ length cells.old) }
     ensures { cells.new ≡ cells_after_copy cells.old to from count }
@@ -13,7 +14,8 @@ pub(crate) fn copy_up(cells: &mut [i32], to: usize, from: usize, count: usize)
     back[..count].copy_from_slice(&front[from..from + count]);
 }
 
-/// Copies `count` cells from `from` to `to`. The copy has to end before `from`.
+/// Copies the `count` cells that begin at `from` to the cells that begin at `to`. The last cell
+/// that is overwritten has to be before `from`.
 fn copy_down(cells: &mut [i32], to: usize, from: usize, count: usize)
     requires { (to + count ≤ from) × (from + count ≤ length cells.old) }
     ensures { cells.new ≡ cells_after_copy cells.old to from count }
@@ -22,7 +24,8 @@ fn copy_down(cells: &mut [i32], to: usize, from: usize, count: usize)
     front[to..to + count].copy_from_slice(&back[..count]);
 }
 
-/// Copies `count` cells from `from` to `to`. The two parts may overlap.
+/// Copies the `count` cells that begin at `from` to the cells that begin at `to`. The two parts may
+/// overlap.
 pub(crate) fn copy_cells(cells: &mut [i32], to: usize, from: usize, count: usize)
     requires { (to + count ≤ length cells.old) × (from + count ≤ length cells.old) }
     ensures { cells.new ≡ cells_after_copy cells.old to from count }

@@ -1,16 +1,20 @@
-//! Lowered code: variables are offsets of cells, designators are bases, bounds and offsets, and a
-//! call refers to its procedure by its index.
+//! Defines lowered code, the form of a module that the machine executes. A variable is an offset in
+//! the cells of an activation. A designator is a place: the offset of a variable, the indices with
+//! the lengths of their arrays, and the offset of the selected part. A call refers to its procedure
+//! by the procedure's index.
 //!
-//! Some nodes are special forms of others, with the same meaning by `View`. The machine takes fewer
-//! steps for them, and the meaning of lowered code is defined without them:
+//! Some nodes are special forms of others. `View` gives both forms the same meaning, so the meaning
+//! of lowered code is defined without the special forms. The machine takes fewer steps for these
+//! forms:
 //!
-//! - A variable of the module or of the running activation, or at an offset from the address of a
-//!   VAR parameter, is one tag (`Variable`). It occurs as a number, as the target of an assignment,
-//!   and as the array and the index of a `VariableElement`.
+//! - A `Variable` has a single tag for its kind: a variable of the module, a variable of the
+//!   running activation, or a place at an offset from the address of a VAR parameter. A `Variable`
+//!   occurs as a number, as the target of an assignment, and as the array and the index of a
+//!   `VariableElement`.
 //! - The operations of a chain are links, which are applied to the result so far. A `Link` has the
-//!   operator and a literal or a variable in one tag. Any other right operand is evaluated by a
-//!   called function (`apply_to_expression`). `v + i * j` is also a chain (`VariableSum`), since
-//!   `v` has the same value before and after the product is evaluated.
+//!   operator and the kind of its operand, a literal or a variable, in one tag. Any other right
+//!   operand is evaluated by a called function (`apply_to_expression`). `v + i * j` is also a chain
+//!   (`VariableSum`), since `v` has the same value before and after the product is evaluated.
 //! - `x := x + k` is an `Increase`, `x := x * y` an `Update`. The assignment of a chain to a
 //!   variable is a `StoreChain`.
 //! - A variable compared with a literal or a variable is one node (`LessThanLiteral`,
@@ -20,10 +24,10 @@
 //! - Comparisons of variables are evaluated inline, flags and elements by small functions (`flag`,
 //!   `compare_element`), all other conditions by a large function (`evaluate_truth_flat`).
 //!
-//! Long sums, conjunctions and disjunctions are a `Chain`, an `All` and an `Any`. They mean pairs
-//! that are nested on the left, and loops evaluate them. So a long chain of operators needs no
-//! stack. A chain begins with a `FirstOperand`, which can't be an operation. So the first operand
-//! of a chain is never a chain.
+//! A long sum is a `Chain`, a long conjunction an `All`, and a long disjunction an `Any`. Each has
+//! the meaning of pairs that are nested on the left. A loop evaluates the operands, so a longer
+//! chain needs no more stack. A chain begins with a `FirstOperand`, which can't be an operation. So
+//! the first operand of a chain is never a chain.
 
 /// An operator on two numbers.
 #[derive(Clone, Copy, PartialEq, Eq, Debug)]
@@ -35,15 +39,17 @@ pub enum Operator {
     Remainder,
 }
 
-/// A variable, with its kind in one tag. It is at an offset in the cells of the module or of the
-/// running activation, or at an offset from the address of a VAR parameter of the running
-/// activation.
+/// A variable, or a part of one, that is found without evaluating an index. `Module` is at an
+/// offset in the cells of the module, `Here` at an offset in the cells of the running activation.
+/// `ByReference` is at an offset from the address that was passed for a VAR parameter of the
+/// running activation. An offset is a number of cells.
 #[derive(Clone, Copy, PartialEq, Eq, Debug)]
 pub enum Variable {
     Module(usize),
     Here(usize),
-    /// The index of the parameter among the VAR parameters, and an offset. Both have 32 bits, so a
-    /// `Variable` has 16 bytes. Larger numbers are in a `Place::Passed`.
+    /// The index of a VAR parameter among the VAR parameters, and an offset from the address that
+    /// was passed for it. Both have 32 bits, so a `Variable` has 16 bytes. `Place::Passed` has
+    /// larger numbers.
     ByReference { index: u32, offset: u32 },
 }
 
@@ -52,17 +58,17 @@ pub enum Variable {
 #[derive(Drop)]
 pub enum Place {
     Variable(Variable),
-    /// At an offset in the cells of the activation that is `up` levels out.
+    /// A place at an offset in the cells of the activation that is `up` levels out.
     Outside { up: usize, offset: usize },
     Passed(Box<Reference>),
-    /// An element whose array and index are variables. It is an `Element` that is evaluated in one
-    /// step.
+    /// A place in an element whose array and index are variables. It is a special form of `Element`
+    /// that is evaluated in one step.
     VariableElement(Box<VariableElement>),
     Element(Box<Element>),
 }
 
-/// A place at an offset from the address of a VAR parameter. The parameter belongs to the
-/// activation `up` levels out, and `index` is its index among the VAR parameters.
+/// A place at an offset from the address that was passed for a VAR parameter. The parameter belongs
+/// to the activation `up` levels out. `index` is the parameter's index among the VAR parameters.
 #[derive(Clone, Copy, PartialEq, Eq, Debug)]
 pub struct Reference {
     pub up: usize,
@@ -70,8 +76,9 @@ pub struct Reference {
     pub offset: usize,
 }
 
-/// A place at an offset in an element of an array, if the array and the index are variables. The
-/// array has `length` elements of `stride` cells each.
+/// A place in an element of an array, if the array and the index are variables. The array has
+/// `length` elements of `stride` cells each. The place is `offset` cells after the start of the
+/// element.
 #[derive(Clone, Copy, PartialEq, Eq, Debug)]
 pub struct VariableElement {
     pub array: Variable,
@@ -81,8 +88,8 @@ pub struct VariableElement {
     pub offset: usize,
 }
 
-/// A place at an offset in an element of an array, which has `length` elements of `stride` cells
-/// each.
+/// A place in an element of an array. The array has `length` elements of `stride` cells each. The
+/// place is `offset` cells after the start of the element.
 #[cycle(numbers)]
 #[derive(Drop)]
 pub struct Element {
@@ -99,7 +106,7 @@ pub struct Element {
 pub enum Number {
     Literal(i32),
     Variable(Variable),
-    /// The number at another place.
+    /// The number in the cell at any other place.
     Cell(Place),
     Negative(Box<Number>),
     /// One operation.
@@ -118,7 +125,7 @@ pub enum FirstOperand {
     Negative(Box<Number>),
 }
 
-/// A first operand and one operation on it.
+/// An operation: a first operand, and the operator with its other operand.
 #[cycle(numbers)]
 #[derive(Drop)]
 pub struct Operation {
@@ -126,7 +133,8 @@ pub struct Operation {
     pub link: Link,
 }
 
-/// A first operand, and operators with their right operands, from left to right.
+/// A chain of operations: a first operand, and the links that are applied to it, from left to
+/// right.
 #[cycle(numbers)]
 #[derive(Drop)]
 pub struct Chain {
@@ -134,9 +142,9 @@ pub struct Chain {
     pub rest: Vec<Link>,
 }
 
-/// An operator with its right operand: a literal, a variable or another number. The left operand is
-/// the result so far. In the cases whose name begins with `Variable`, the variable is the left
-/// operand, and the result so far is the right operand.
+/// An operator with one operand: a literal, a variable or another number. This is the right
+/// operand, and the left operand is the result so far. In the cases whose name begins with
+/// `Variable`, the variable is the left operand, and the result so far is the right operand.
 #[cycle(numbers)]
 #[derive(Drop)]
 pub enum Link {
@@ -190,8 +198,8 @@ pub enum Truth {
     /// Many truths joined by `OR`.
     Any(Box<TruthList>),
     Related(Comparator, Box<Operands>),
-    /// A variable that is less than a literal. This case and the next three are a `Related` that is
-    /// evaluated in one step.
+    /// The relation that a variable is less than a literal. This case and the next three are
+    /// special forms of `Related`, which are evaluated in one step.
     LessThanLiteral(Variable, i32),
     /// A variable compared with a literal.
     ComparedToLiteral(Comparator, Variable, i32),
@@ -202,7 +210,7 @@ pub enum Truth {
     Different(Box<TruthPair>),
 }
 
-/// The two sides of `&`, OR or a comparison of truth values.
+/// The two operands of `&`, of OR, or of a comparison of truth values.
 #[cycle(truths)]
 #[derive(Drop)]
 pub struct TruthPair {
@@ -210,7 +218,7 @@ pub struct TruthPair {
     pub right: Truth,
 }
 
-/// Truth values that are joined by `&` or by OR, from left to right.
+/// Operands that are joined by `&` or by OR, from left to right.
 #[cycle(truths)]
 #[derive(Drop)]
 pub struct TruthList {
@@ -218,7 +226,7 @@ pub struct TruthList {
     pub rest: Vec<Truth>,
 }
 
-/// An argument: a place for a VAR parameter, a value for any other parameter.
+/// An argument of a call: a place for a VAR parameter, a value for any other parameter.
 #[derive(Drop)]
 pub enum Argument {
     Place(Place),
@@ -244,7 +252,7 @@ pub enum Instruction {
     StoreTruth(Place, Truth),
     /// Assigns TRUE or FALSE to an element.
     StoreConstant(Box<VariableElement>, bool),
-    /// Copies cells from the second place to the first; the last field is the number of cells.
+    /// Copies cells from the second place to the first. The last field is the number of cells.
     Copy(Place, Place, usize),
     Read(Place),
     Write(Number),
@@ -255,9 +263,9 @@ pub enum Instruction {
     Call(ProcedureCall),
 }
 
-/// IF: its condition with the statements that run if it is TRUE, its ELSIF parts, and the
-/// statements that run if no condition is TRUE. The first condition isn't in the list, so an IF
-/// without ELSIF is evaluated without a list.
+/// An IF. `body` has the statements that run if `condition` is TRUE. `others` has the ELSIF parts.
+/// `otherwise` has the statements that run if no condition is TRUE. The first condition isn't in
+/// `others`, so an IF without ELSIF is evaluated without a list.
 #[cycle(statements)]
 #[derive(Drop)]
 pub struct Conditional {
@@ -267,7 +275,7 @@ pub struct Conditional {
     pub otherwise: Vec<Instruction>,
 }
 
-/// A condition, and the statements that run if it is TRUE.
+/// An ELSIF part: a condition, and the statements that run if it is the first TRUE condition.
 #[cycle(statements)]
 #[derive(Drop)]
 pub struct Branch {
@@ -291,7 +299,8 @@ pub struct RepeatLoop {
     pub condition: Truth,
 }
 
-/// A call of a procedure that is declared in the activation `up` levels out.
+/// A call of the procedure with the index `procedure` in the program. This procedure is declared in
+/// the activation `up` levels out from the caller's.
 #[derive(Drop)]
 pub struct ProcedureCall {
     pub procedure: usize,
@@ -299,21 +308,22 @@ pub struct ProcedureCall {
     pub arguments: Vec<Argument>,
 }
 
-/// A procedure. It has `cells` cells in addition to the cells of its parameters.
+/// A procedure. Its own variables have `cells` cells, in addition to the cells of its parameters.
 #[derive(Drop)]
 pub struct Routine {
     pub cells: usize,
     pub body: Vec<Instruction>,
 }
 
-/// A module. Its variables have `cells` cells.
+/// A module. Its own variables have `cells` cells. `procedures` has the procedures of all levels,
+/// and calls refer to them by their indices in this list.
 pub struct LoweredCode {
     pub cells: usize,
     pub body: Vec<Instruction>,
     pub procedures: Vec<Routine>,
 }
 
-// Written out, since a derived one is proved again in each crate that drops such a value.
+// `Drop` is written out. A derived `Drop` is proved again in each crate that drops such a value.
 impl Drop for LoweredCode {
     fn drop(self) {
         let LoweredCode {

@@ -1,11 +1,11 @@
-//! The ways in which a step ends a run.
+//! Defines the reasons for which an expression or a statement ends a run.
 
 ghost use Rattle.std.specs.Prelude.{◌≡◌, Some};
 
 use std::alloc::{AllocError, AllocFailed};
 
-/// The fault with which an expression ends a run. Each case is the case of `End` with the same
-/// name.
+/// The fault with which the evaluation of an expression ends a run. Each case has the same name as
+/// the end of the run that it causes (`End`).
 #[derive(Clone, Copy, PartialEq, Eq, Debug)]
 pub(crate) enum EvaluationFault {
     Overflow,
@@ -13,8 +13,8 @@ pub(crate) enum EvaluationFault {
     Index,
 }
 
-/// The reason why a statement ends a run. It is only a tag, so a step's result is returned in
-/// registers.
+/// The reason for which a statement ends a run. A `Stop` has no payload, so a `Result<(), Stop>` is
+/// returned in registers.
 #[derive(Clone, Copy, PartialEq, Eq, Debug)]
 pub(crate) enum Stop {
     Overflow,

@@ -1,6 +1,6 @@
-//! The evaluation of places, numbers and truths, in an activation and over the cells. An inlined
-//! function returns a `Result`. A function that isn't inlined returns a `FlatOutcome`, in
-//! registers.
+//! Evaluates places, numbers and truth values, given the running activation and the cells. A
+//! function that is marked `#[inline(never)]` returns a `FlatOutcome`, in registers. The other
+//! functions that can fail return a `Result`.
 
 ghost use Rattle.std.specs.Prelude.{◌≡◌, List, ℤ, false, if◌then◌else◌, true};
 ghost use Rattle.ob0_run_machine.specs.Answers.{outcome_of_applied_link, outcome_of, outcome_of_result};
@@ -33,7 +33,7 @@ pub(crate) fn cell_at(cells: &[i32], address: usize) -> i32
     }
 }
 
-/// Returns the address of a variable.
+/// Returns the address of a variable: the index of its first cell in the list of all cells.
 #[inline(always)]
 pub(crate) fn variable_address(variable: Variable, level: &Level<'_>) -> usize
     ensures { (cells : List ℤ)
@@ -48,7 +48,7 @@ pub(crate) fn variable_address(variable: Variable, level: &Level<'_>) -> usize
     }
 }
 
-/// Returns the value of a variable.
+/// Returns the number in a variable's cell, or 0 if that cell doesn't exist.
 #[inline(always)]
 fn value_of(variable: Variable, level: &Level<'_>, cells: &[i32]) -> i32
     ensures { number (levels_of level.now) cells.now (lowered.cell (variable_of variable))
@@ -57,8 +57,8 @@ fn value_of(variable: Variable, level: &Level<'_>, cells: &[i32]) -> i32
     cell_at(cells, variable_address(variable, level))
 }
 
-/// Returns the address of a place in an element whose array and index are variables. Returns the
-/// fault Index if the array has no such element.
+/// Returns the address of a place in an array's element, if the array and the index are variables.
+/// Returns the fault Index if the array has no element at this index.
 #[inline(always)]
 pub(crate) fn row(
     row: &VariableElement,
@@ -72,7 +72,8 @@ pub(crate) fn row(
     element_address(array, row.length, row.stride, index)
 }
 
-/// Returns the address of a place, or the fault that an index in this place causes.
+/// Returns the address of a place, or the first fault that occurs. A fault occurs if the evaluation
+/// of an index in the place fails, or if the index is outside its array.
 #[inline(always)]
 #[cycle(evaluation)]
 pub(crate) fn locate(
@@ -92,7 +93,7 @@ pub(crate) fn locate(
     }
 }
 
-/// Returns the result of `locate_element`, in registers.
+/// Returns the result of `locate_element` as a `FlatOutcome`, so that it is returned in registers.
 #[inline(never)]
 #[cycle(evaluation)]
 fn locate_element_flat(e: &Element, level: &Level<'_>, cells: &[i32]) -> FlatOutcome<usize>
@@ -112,7 +113,7 @@ fn locate_element(e: &Element, level: &Level<'_>, cells: &[i32]) -> Result<usize
     element_address(add_offset(a, e.offset), e.length, e.stride, i)
 }
 
-/// Returns the value of a number, or the fault that ends its evaluation.
+/// Returns the value of an expression of type INTEGER, or the fault that ends its evaluation.
 #[inline(always)]
 #[cycle(evaluation)]
 pub(crate) fn evaluate_number(
@@ -169,8 +170,8 @@ fn evaluate_negative(operand: &Number, level: &Level<'_>, cells: &[i32]) -> Flat
     }
 }
 
-/// Evaluates an operation. If its left operand is a variable, as in most operations, no registers
-/// have to be saved.
+/// Returns the value of an operation, or the fault that ends its evaluation. If the first operand
+/// is a variable, as in most operations, the function has no registers to save.
 #[inline(never)]
 #[cycle(evaluation)]
 fn operation(o: &Operation, level: &Level<'_>, cells: &[i32]) -> FlatOutcome<i32>
@@ -206,7 +207,8 @@ fn evaluate_chain_flat(c: &Chain, level: &Level<'_>, cells: &[i32]) -> FlatOutco
     into_flat(evaluate_chain(c, level, cells))
 }
 
-/// Evaluates the operations of a chain, from left to right.
+/// Returns the value of a chain of operations, which are evaluated from left to right. Returns the
+/// first fault that occurs.
 #[inline(always)]
 #[cycle(evaluation)]
 pub(crate) fn evaluate_chain(
@@ -223,8 +225,9 @@ pub(crate) fn evaluate_chain(
     Ok(left)
 }
 
-/// Applies a link to a number. It is inlined: it is small, because a right operand that is neither
-/// a literal nor a variable is evaluated in a call.
+/// Applies a link to the number `left`, and returns the result or the fault. If the link's own
+/// operand is neither a literal nor a variable, a called function evaluates it. So `apply` is small
+/// enough to be inlined.
 #[inline(always)]
 #[cycle(evaluation)]
 fn apply(link: &Link, left: i32, level: &Level<'_>, cells: &[i32]) -> Result<i32, EvaluationFault>
@@ -248,8 +251,8 @@ fn apply(link: &Link, left: i32, level: &Level<'_>, cells: &[i32]) -> Result<i32
     }
 }
 
-/// Evaluates an expression, and applies an operator with `left` as its left operand and this value
-/// as its right operand.
+/// Evaluates the expression `n`, and applies the operator to `left` and the value of `n`. Returns
+/// the result, or the first fault that occurs.
 #[inline(never)]
 #[cycle(evaluation)]
 fn apply_to_expression(
@@ -269,7 +272,7 @@ fn apply_to_expression(
     }
 }
 
-/// Applies a link to the value of a variable and returns the result.
+/// Applies a link to the value of a variable, and returns the result or the fault.
 #[inline(always)]
 pub(crate) fn evaluate_update(
     variable: Variable,
@@ -285,7 +288,7 @@ pub(crate) fn evaluate_update(
     apply(link, left, level, cells)
 }
 
-/// Returns whether the cell at a place is TRUE.
+/// Returns whether the cell at a place is TRUE, or the fault that ends the evaluation of the place.
 #[inline(never)]
 fn flag(place: &Place, level: &Level<'_>, cells: &[i32]) -> FlatOutcome<bool>
     ensures { outcome_of result
@@ -297,7 +300,8 @@ fn flag(place: &Place, level: &Level<'_>, cells: &[i32]) -> FlatOutcome<bool>
     }
 }
 
-/// Returns whether the cell at a place is FALSE.
+/// Returns whether the cell at a place is FALSE, or the fault that ends the evaluation of the
+/// place.
 #[inline(always)]
 fn is_unset(place: &Place, level: &Level<'_>, cells: &[i32]) -> Result<bool, EvaluationFault>
     ensures { outcome_of_result result
@@ -308,8 +312,9 @@ fn is_unset(place: &Place, level: &Level<'_>, cells: &[i32]) -> Result<bool, Eva
     Ok(!a)
 }
 
-/// Returns the value of a truth. The most frequent forms are inlined: constants, flags and
-/// comparisons of variables.
+/// Returns the value of an expression of type BOOLEAN, or the fault that ends its evaluation.
+/// Constants and comparisons of variables are evaluated inline. Flags and comparisons of elements
+/// are evaluated by small functions, and all other forms by `truth`.
 #[inline(always)]
 pub(crate) fn evaluate_truth(
     t: &Truth,
@@ -402,7 +407,8 @@ fn compare_variable(
     compare(relation, value_of(variable, level, cells), right)
 }
 
-/// Returns whether a relation holds between an element and the value of a variable.
+/// Returns whether a relation holds between an array's element and the value of a variable. Returns
+/// the fault Index if the array has no such element.
 #[inline(never)]
 fn compare_element(
     relation: Comparator,
@@ -423,7 +429,8 @@ fn compare_element(
     }
 }
 
-/// Returns whether a relation holds between two numbers.
+/// Returns whether a relation holds between the values of two expressions, or the first fault that
+/// occurs.
 #[inline(always)]
 fn compare_operands(
     relation: Comparator,
@@ -491,7 +498,8 @@ fn different(
     Ok(!equal_truths(left, right))
 }
 
-/// Evaluates `&` between many truths. After the first FALSE nothing is evaluated.
+/// Returns the conjunction of several truth values, which are evaluated from left to right. After
+/// the first FALSE nothing more is evaluated.
 #[cycle(truths)]
 fn evaluate_all(
     several: &TruthList,
@@ -526,7 +534,8 @@ fn evaluate_and(
     }
 }
 
-/// Evaluates `OR` between many truths. After the first TRUE nothing is evaluated.
+/// Returns the disjunction of several truth values, which are evaluated from left to right. After
+/// the first TRUE nothing more is evaluated.
 #[cycle(truths)]
 fn evaluate_any(
     several: &TruthList,

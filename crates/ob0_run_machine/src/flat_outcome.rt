@@ -1,18 +1,22 @@
-//! The result of an evaluation, in a form that is returned in registers.
+//! Defines the result of an evaluation in a form that is returned in registers.
 //!
-//! A `Result` of a number or an address is returned through memory. An enum with one payload is
-//! returned in registers. So the functions that aren't inlined (`operation`, `evaluate_truth_flat`,
-//! ..) return the type `FlatOutcome`. The inlined ones return a `Result` and use `?`. `into_flat`
-//! and `into_result` convert between the two. The steps of statements return `Result<(), Stop>`. A
-//! `Stop` is only a tag, so this result is also returned in registers. `end_of_stop` gives the end
-//! of the run for a `Stop`, or None if an allocation failed.
+//! A `Result` with a number or an address is returned through memory. A `FlatOutcome` has a payload
+//! in only one case, and is therefore returned in registers. The functions of the evaluator that
+//! are marked `#[inline(never)]` (`operation`, `evaluate_truth_flat`, ..) return a `FlatOutcome`.
+//! The inlined functions that can fail return a `Result` and use `?`. `into_flat` and `into_result`
+//! convert between the two types.
+//!
+//! The functions that run statements return a `Result<(), Stop>`. A `Stop` has no payload, so this
+//! result is also returned in registers. `end_of_stop` gives the end of the run for a `Stop`, or
+//! None if an allocation failed.
 
 ghost use Rattle.std.specs.Prelude.{◌≡◌};
 ghost use Rattle.ob0_run_machine.specs.Answers.{outcome_of, outcome_of_result};
 
 use crate::ending::EvaluationFault;
 
-/// The value of an evaluation, or the fault that ends the run. One tag distinguishes all cases.
+/// The value of an evaluation, or the fault that ends the run. A single tag distinguishes the value
+/// and the three faults.
 #[derive(Clone, Copy, PartialEq, Eq, Debug)]
 pub(crate) enum FlatOutcome<T> {
     Value(T),

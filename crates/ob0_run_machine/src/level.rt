@@ -1,18 +1,19 @@
-//! The activations of a run, as a linked list.
+//! Represents the activations that running code can see, as a linked list.
 //!
-//! The static chain is a linked list on the machine's own stack. A `Level` has the address of its
-//! first cell, the addresses of its VAR parameters, and a reference to the level in which its
-//! procedure is declared. `levels_of` reads the list by structural recursion, so no invariant about
-//! a table of frames is needed. A call's `VarAddresses` holds one or two addresses of VAR
-//! parameters itself, and more of them in a `Vec`. Apart from that, only cells and output allocate
-//! memory.
+//! The list is the static chain, on the call stack of the machine itself. Each `Level` refers to
+//! the level in which its procedure is declared. `levels_of` reads the list by structural
+//! recursion, so no invariant about a table of frames is needed.
+//!
+//! A call's addresses of VAR parameters are in a `VarAddresses`, which stores up to two addresses
+//! without allocating memory. Only the cells, the output and more than two such addresses are in
+//! lists that allocate memory.
 
 ghost use Rattle.std.specs.Prelude.{◌≡◌, drop, slice_index_or};
 ghost use Rattle.ob0_run_machine.specs.Evaluation.{innermost_level, level_at};
 ghost use Rattle.ob0_run_machine.specs.Levels.{levels_of, levels_of_option};
 
 /// An activation: the address of its first cell, the addresses of its VAR parameters, and the
-/// activation in which its procedure is declared.
+/// activation in which its procedure is declared. The module's activation has no enclosing one.
 #[derive(Clone, Copy)]
 pub(crate) struct Level<'l> {
     pub base: usize,
@@ -20,8 +21,8 @@ pub(crate) struct Level<'l> {
     pub enclosing: Option<&'l Level<'l>>,
 }
 
-/// Returns the activation `up` levels out, or None if there are fewer levels. If `up` is 0 or 1, no
-/// function is called.
+/// Returns the activation that is `up` levels out from `level`, which is `level` itself if `up` is
+/// 0. Returns None if there are fewer levels. If `up` is 0 or 1, no function is called.
 #[inline(always)]
 pub(crate) fn enclosing_level<'l>(level: &'l Level<'l>, up: usize) -> Option<&'l Level<'l>>
     ensures { levels_of_option result ≡ drop up (levels_of level.now) }
@@ -53,8 +54,8 @@ fn find_enclosing_level<'l>(level: &'l Level<'l>, up: usize) -> Option<&'l Level
     }
 }
 
-/// Returns the address of the first cell of the activation `up` levels out, or 0 if there are fewer
-/// levels.
+/// Returns the address of the first cell of the activation that is `up` levels out from `level`.
+/// Returns 0 if there are fewer levels.
 pub(crate) fn base_at(level: &Level<'_>, up: usize) -> usize
     ensures { result ≡ (level_at (levels_of level.now) up).base }
 {
@@ -64,8 +65,8 @@ pub(crate) fn base_at(level: &Level<'_>, up: usize) -> usize
     }
 }
 
-/// Returns the address of a VAR parameter of an activation, by its index among the VAR parameters.
-/// Returns 0 if there is no such parameter.
+/// Returns the address that was passed for a VAR parameter of an activation. `index` is the
+/// parameter's index among the VAR parameters. Returns 0 if there is no such parameter.
 #[inline(always)]
 pub(crate) fn var_parameter_at(level: &Level<'_>, index: usize) -> usize
     ensures { result ≡ slice_index_or (innermost_level (levels_of level.now)).addresses index 0 }
@@ -76,8 +77,9 @@ pub(crate) fn var_parameter_at(level: &Level<'_>, index: usize) -> usize
     }
 }
 
-/// Returns the address of a VAR parameter of the activation `up` levels out, by its index among the
-/// VAR parameters. Returns 0 if there is no such parameter.
+/// Returns the address that was passed for a VAR parameter of the activation `up` levels out.
+/// `index` is the parameter's index among the VAR parameters. Returns 0 if there is no such
+/// parameter.
 pub(crate) fn outer_var_parameter_at(level: &Level<'_>, up: usize, index: usize) -> usize
     ensures { result ≡ slice_index_or (level_at (levels_of level.now) up).addresses index 0 }
 {

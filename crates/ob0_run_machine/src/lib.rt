@@ -1,4 +1,5 @@
-//! Lowered code, its meaning, and the machine that runs it over one list of cells.
+//! Defines lowered code and its meaning, and the machine that runs lowered code. The machine stores
+//! all variables in one list of cells. Each cell is a number of 32 bits.
 #![tactic(auto)]
 
 mod addresses;

@@ -10,7 +10,7 @@ use crate::ending::Stop;
 use crate::memory::Memory;
 use std::alloc::AllocError;
 
-/// An item of a run's output.
+/// An item of a run's output: a number, or the end of a line.
 #[derive(Clone, Copy, PartialEq, Eq, Debug)]
 pub enum Item {
     Number(i32),
@@ -38,8 +38,8 @@ pub(crate) fn store(cells: &mut Vec<i32>, address: usize, number: i32)
     }
 }
 
-/// Copies `count` cells from one address to another. Does nothing if there are too few cells at
-/// either address.
+/// Copies the `count` cells that begin at the address `from` to the address `to`. Does nothing if
+/// fewer than `count` cells begin at one of these addresses.
 pub(crate) fn copy(cells: &mut Vec<i32>, to: usize, from: usize, count: usize)
     ensures { cells.new.items ≡ cells_after_copy cells.old.items to from count }
 {
@@ -57,15 +57,15 @@ pub(crate) fn copy(cells: &mut Vec<i32>, to: usize, from: usize, count: usize)
 }
 
 impl<'i> Machine<'i> {
-    /// Returns the number of cells.
+    /// Returns the number of cells, which is the address of the next cell to be added.
     pub(crate) fn size(&self) -> usize
         ensures { result ≡ length self.now.cells.items }
     {
         self.cells.len()
     }
 
-    /// Reads the next number of the input and stores it at an address. Returns `Stop::InputEnd` if
-    /// no input is left.
+    /// Removes the next number from the input and stores it in the cell at an address. Returns
+    /// `Stop::InputEnd` if no input is left.
     pub(crate) fn read_number(&mut self, address: usize) -> Result<(), Stop>
         ensures { MachineSteps result self.new
             (read_number (state_of self.old) address (state_of self.old).input) }

@@ -1,10 +1,10 @@
 //! The memory of a run. The lists of a run grow only here, so the memory knows whether an
 //! allocation has failed.
 //!
-//! A step may be out of memory only if `Memory::fail` was called (`MachineSteps`, `Passes`). So a
-//! fault or a bound can't be reported as out of memory. A function that grows a list fails only if
-//! the list had too little capacity (`full`). Nothing states that the run needed the memory, or
-//! that the allocator refused it.
+//! A step may report a failed allocation only if `Memory::fail` was called (`MachineSteps`,
+//! `Passes`). So a fault or a bound can't be reported as a failed allocation. A function that grows
+//! a list fails only if the list had too little capacity (`full`). No contract states that the run
+//! needed the memory, or that the allocator refused the memory.
 
 ghost use Rattle.std.specs.Prelude.{◌≡◌, ◌+◌, ◌++◌, ◌∷◌, ◌<◌, ◌≤◌, ◌^◌, [], OnErr, OnOk, false, length, true, vec_capacity, vec_len};
 ghost use Rattle.ob0_run_machine.specs.Execution.{block_at, zeros};
@@ -13,7 +13,7 @@ ghost use Rattle.ob0_run_machine.specs.Allocations.{has_failed};
 use crate::cell_copies::copy_up;
 use std::alloc::{AllocError, Global};
 
-/// The largest number of cells that are added one by one.
+/// The largest number of cells that `push_zeros` adds one by one.
 const FEW_CELLS: usize = 8;
 
 /// The allocator, and whether `fail` was called.
@@ -55,8 +55,8 @@ impl Memory {
         }
     }
 
-    /// Adds `count` cells with the value 0 at the end. If there are at most `FEW_CELLS`, as in most
-    /// procedures, they are added one by one, without a call.
+    /// Adds `count` cells with the value 0 at the end. If `count` is at most `FEW_CELLS`, as in
+    /// most procedures, the cells are added one by one, without a function call.
     #[inline(always)]
     pub(crate) fn push_zeros(
         &mut self,
@@ -74,7 +74,7 @@ impl Memory {
         for _cell in 0..count {
             self.push(cells, 0)?;
         }
-        // For the proof: a list's length has 64 bits.
+        // For the proof: the length of a list has at most 64 bits.
         let _length = cells.len();
         Ok(())
     }
@@ -95,8 +95,8 @@ impl Memory {
         }
     }
 
-    /// Adds at the end a copy of the `count` cells that begin at an address. Adds `count` zeros
-    /// instead if there are fewer cells from there to the end.
+    /// Adds at the end a copy of the `count` cells that begin at the address `from`. Adds `count`
+    /// zeros instead if fewer than `count` cells begin at this address.
     pub(crate) fn push_block(
         &mut self,
         cells: &mut Vec<i32>,
@@ -120,7 +120,7 @@ impl Memory {
         Ok(())
     }
 
-    /// Records that an allocation has failed, and returns the error.
+    /// Records that an allocation has failed, and returns the error to report.
     #[cold]
     fn fail(&mut self) -> AllocError
         ensures { has_failed self.new ≡ true }

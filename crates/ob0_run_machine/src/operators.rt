@@ -1,4 +1,4 @@
-//! The operators on numbers and truths.
+//! Computes the operators on numbers and truth values, and the addresses of parts of variables.
 
 ghost use Rattle.std.specs.Int.{w32};
 ghost use Rattle.std.specs.Prelude.{◌≡◌, ◌+ℤ◌, FitsSigned, SomeIff, neg_ℤ};
@@ -10,7 +10,8 @@ ghost use Rattle.ob0_run_machine.specs.View.{operator_of, relation_of};
 use crate::code::{Comparator, Operator};
 use crate::ending::EvaluationFault;
 
-/// Returns the number, or the fault Overflow for None.
+/// Returns the result of an operation. None, which is a result of more than 32 bits, becomes the
+/// fault Overflow.
 #[inline(always)]
 fn checked_number(number: Option<i32>) -> Result<i32, EvaluationFault>
     ensures { outcome_of_result result ≡ number_or_overflow number }
@@ -21,7 +22,8 @@ fn checked_number(number: Option<i32>) -> Result<i32, EvaluationFault>
     }
 }
 
-/// Returns the result of a division, or the fault Divisor for None.
+/// Returns the result of a division. None, which is the result for a divisor below 1, becomes the
+/// fault Divisor.
 #[inline(always)]
 fn number_or_divisor_fault(number: Option<i32>) -> Result<i32, EvaluationFault>
     ensures { outcome_of_result result ≡ division_outcome number }
@@ -49,15 +51,16 @@ pub(crate) fn modulo(left: i32, right: i32) -> Result<i32, EvaluationFault>
     number_or_divisor_fault(ob0_language_values::modulo(left, right))
 }
 
-/// Returns the sum, or None if it has more than 32 bits. It is computed in 64 bits and compared
-/// once. This compiles to an addition and a jump on overflow; `checked_add` takes five instructions
-/// more.
+/// Returns the sum, or None if it has more than 32 bits. The sum is computed in 64 bits, and one
+/// comparison decides whether it fits. This compiles to an addition and a jump on overflow.
+/// `checked_add` takes five instructions more.
 #[inline(always)]
 fn checked_sum(left: i32, right: i32) -> Option<i32>
     ensures { SomeIff result (FitsSigned w32 (left +ℤ right)) (left +ℤ right) }
 {
     let sum = left as i64 + right as i64;
-    // The distance from -2^31, without a sign. It has more than 32 bits if the sum has.
+    // The distance of the sum from -2^31, as an unsigned number. The distance has more than 32
+    // bits exactly if the sum does.
     let distance = (sum + 2_147_483_648).cast_unsigned();
     if distance > 4_294_967_295 {
         None
@@ -134,7 +137,7 @@ pub(crate) fn equal_truths(left: bool, right: bool) -> bool
     left == right
 }
 
-/// Returns the truth value of a cell: TRUE for any number except 0.
+/// Returns the truth value that is stored in a cell: FALSE for 0, TRUE for any other number.
 #[inline(always)]
 pub(crate) fn is_true(number: i32) -> bool
     ensures { result ≡ is_true number }
@@ -142,7 +145,7 @@ pub(crate) fn is_true(number: i32) -> bool
     number != 0
 }
 
-/// Returns the cell of a truth value: 1 for TRUE, 0 for FALSE.
+/// Returns the number that is stored in a cell for a truth value: 1 for TRUE, 0 for FALSE.
 #[inline(always)]
 pub(crate) fn as_cell(truth: bool) -> i32
     ensures { result ≡ as_cell truth }
@@ -150,7 +153,7 @@ pub(crate) fn as_cell(truth: bool) -> i32
     if truth { 1 } else { 0 }
 }
 
-/// Returns the address `offset` cells after another one. The sum wraps at 64 bits.
+/// Returns the address that is `offset` cells after an address. The sum wraps at 64 bits.
 #[inline(always)]
 pub(crate) fn add_offset(address: usize, offset: usize) -> usize
     ensures { result ≡ add_offset address offset }
@@ -158,8 +161,10 @@ pub(crate) fn add_offset(address: usize, offset: usize) -> usize
     address.wrapping_add(offset)
 }
 
-/// Returns the address of an array's element, or the fault Index if the array has no such element.
-/// `address` is the address of the array, or of a part of its first element.
+/// Returns the address of the element at `index`, in an array of `length` elements with `stride`
+/// cells each. `address` is the address of the array's first element. If `address` is instead the
+/// address of a part of the first element, returns the address of the same part of the element at
+/// `index`. Returns the fault Index if the array has no such element.
 #[inline(always)]
 pub(crate) fn element_address(
     address: usize,

@@ -1,4 +1,4 @@
-//! The run of a program on an input, with its output and its end.
+//! Runs a program on an input, and returns the output and the end of the run.
 
 ghost use Rattle.std.specs.Prelude.{◌≡◌, IfOk, Some};
 ghost use Rattle.ob0_run_machine.specs.Execution.{run};
@@ -20,13 +20,13 @@ use std::alloc::{AllocError, Global};
 pub enum End {
     /// The end of the program was reached.
     Done,
-    /// A result had more than 32 bits.
+    /// The result of an operation had more than 32 bits.
     Overflow,
     /// A divisor was below 1.
     Divisor,
     /// An index was outside its array.
     Index,
-    /// No input was left to read.
+    /// A number was to be read, and no input was left.
     InputEnd,
     /// One more call than allowed would have been open.
     CallBound,
@@ -41,7 +41,8 @@ pub struct Outcome {
     pub end: End,
 }
 
-/// Runs the statements of a program's body, starting with the machine's state.
+/// Runs the statements of a program's body, beginning in the machine's state. Returns an error if
+/// the run ended before the end of the program.
 fn execute(
     program: &LoweredCode,
     calls: u32,
@@ -62,7 +63,7 @@ fn execute(
     run_sequence(&program.body, &level, turns, machine, &enter)
 }
 
-/// Returns the end of a run from the result of its statements: Done if the statements returned
+/// Returns the end of a run from the result of the program's statements: Done if they returned
 /// normally, otherwise the end for their `Stop`. Returns an error exactly if an allocation failed
 /// (`Stop::Memory`).
 fn end_of(executed: Result<(), Stop>) -> Result<End, AllocError>
@@ -82,12 +83,12 @@ fn end_of(executed: Result<(), Stop>) -> Result<End, AllocError>
     }
 }
 
-/// Runs a program on an input, with at most `calls` calls open at a time, and at most `turns`
-/// iterations of each execution of a loop. The program's own statements aren't a call.
+/// Runs a program on an input. At most `calls` calls may be open at a time, and each execution of a
+/// loop may make at most `turns` iterations. The program's own statements don't count as a call.
 ///
 /// # Errors
 ///
-/// Out of memory.
+/// An allocation failed.
 pub fn run(
     alloc: Global,
     program: &LoweredCode,

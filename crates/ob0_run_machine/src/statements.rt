@@ -1,4 +1,5 @@
-//! The execution of statements. A call is performed by a closure that is an argument (`enter`).
+//! Executes statements. A call is performed by the closure `enter`, which is passed to each
+//! function that may reach a call.
 
 ghost use Rattle.std.specs.Prelude.{◌≡◌, ◌++◌, ◌∷◌, [], List, ℕ, ℤ};
 ghost use Rattle.ob0_run_machine.specs.Answers.{outcome_of_result};
@@ -26,8 +27,8 @@ use crate::level::{Level, enclosing_level};
 use crate::machine::{Item, Machine, copy, store};
 use crate::operators::{add, as_cell, compare};
 
-/// Assigns a number to any place. It isn't inlined, so that `run_statement` is small enough to be
-/// inlined.
+/// Assigns a number to any place. This function isn't inlined, so `run_statement` is small enough
+/// to be inlined.
 #[tactic(auto, unfolding(crate::specs::Execution::execute))]
 #[inline(never)]
 fn store_number(
@@ -66,8 +67,8 @@ fn store_variable(
     Ok(())
 }
 
-/// Assigns the result of a chain of operations to a variable. Like `store_number`, it isn't
-/// inlined.
+/// Assigns the result of a chain of operations to a variable. Like `store_number`, this function
+/// isn't inlined.
 #[tactic(auto, unfolding(crate::specs::Execution::execute))]
 #[inline(never)]
 fn store_chain(
@@ -86,7 +87,8 @@ fn store_chain(
     Ok(())
 }
 
-/// Adds a number to the variable at an address.
+/// Adds the number `by` to the variable at an address. Returns the fault Overflow if the sum has
+/// more than 32 bits.
 #[tactic(auto, unfolding(crate::specs::Execution::execute))]
 #[inline(always)]
 fn increase_at(address: usize, by: i32, machine: &mut Machine<'_>) -> Result<(), EvaluationFault>
@@ -100,7 +102,7 @@ fn increase_at(address: usize, by: i32, machine: &mut Machine<'_>) -> Result<(),
     Ok(())
 }
 
-/// Adds a number to a variable.
+/// Adds the number `by` to a variable. Returns the fault Overflow if the sum has more than 32 bits.
 #[inline(always)]
 fn increase(
     variable: Variable,
@@ -115,8 +117,8 @@ fn increase(
     increase_at(variable_address(variable, level), by, machine)
 }
 
-/// Assigns to a variable the result of an operation on this variable. Like `store_number`, it isn't
-/// inlined.
+/// Assigns to a variable the result of an operation on this variable. Like `store_number`, this
+/// function isn't inlined.
 #[tactic(auto, unfolding(crate::specs::Execution::execute))]
 #[inline(never)]
 fn update(
@@ -135,7 +137,7 @@ fn update(
     Ok(())
 }
 
-/// Assigns a truth value to a place. Like `store_number`, it isn't inlined.
+/// Assigns a truth value to a place. Like `store_number`, this function isn't inlined.
 #[tactic(auto, unfolding(crate::specs::Execution::execute))]
 #[inline(never)]
 fn store_truth(
@@ -155,7 +157,7 @@ fn store_truth(
     Ok(())
 }
 
-/// Assigns TRUE or FALSE to an element.
+/// Assigns TRUE or FALSE to an array's element, if the array and the index are variables.
 #[tactic(auto, unfolding(crate::specs::Execution::execute))]
 #[inline(never)]
 fn store_constant(
@@ -224,7 +226,9 @@ fn run_write_line(level: &Level<'_>, machine: &mut Machine<'_>) -> Result<(), St
     Ok(())
 }
 
-/// Enters the procedure of a call whose arguments have been passed.
+/// Enters the procedure of a call whose arguments have been passed. `base` is the address of the
+/// first cell of the procedure's activation, and `addresses` are the addresses of its VAR
+/// parameters.
 #[inline(always)]
 fn enter_procedure<F: Fn(&mut Machine<'_>, usize, &Level<'_>) -> Result<(), Stop>>(
     c: &ProcedureCall,
@@ -276,7 +280,7 @@ fn run_call<F: Fn(&mut Machine<'_>, usize, &Level<'_>) -> Result<(), Stop>>(
     }
 }
 
-/// Returns the value of a condition.
+/// Returns the value of a condition, or the fault that ends its evaluation.
 #[inline(always)]
 fn evaluate_condition(
     condition: &Truth,
@@ -323,8 +327,8 @@ fn run_statement<F: Fn(&mut Machine<'_>, usize, &Level<'_>) -> Result<(), Stop>>
     }
 }
 
-/// Runs statements in order. It is inlined, so loops and procedures run their bodies without a
-/// call.
+/// Runs statements in order, until one of them ends the run. This function is inlined, so loops and
+/// procedures run their bodies without a function call.
 #[inline(always)]
 #[cycle(execution)]
 pub(crate) fn run_sequence_inline<F: Fn(&mut Machine<'_>, usize, &Level<'_>) -> Result<(), Stop>>(
@@ -344,7 +348,8 @@ pub(crate) fn run_sequence_inline<F: Fn(&mut Machine<'_>, usize, &Level<'_>) -> 
     Ok(())
 }
 
-/// Runs statements in order. It isn't inlined; an IF runs its branches by this function.
+/// Runs statements in order, until one of them ends the run. This function isn't inlined. An IF
+/// calls it to run one of its parts.
 #[inline(never)]
 #[cycle(execution)]
 pub(crate) fn run_sequence<F: Fn(&mut Machine<'_>, usize, &Level<'_>) -> Result<(), Stop>>(
@@ -361,7 +366,7 @@ pub(crate) fn run_sequence<F: Fn(&mut Machine<'_>, usize, &Level<'_>) -> Result<
     run_sequence_inline(statements, level, turns, machine, enter)
 }
 
-/// Runs statements in order. If there are none, as in an IF without ELSE, no function is called.
+/// Runs statements in order. If the list is empty, as in an IF without ELSE, no function is called.
 #[inline(always)]
 #[cycle(execution)]
 fn run_unless_empty<F: Fn(&mut Machine<'_>, usize, &Level<'_>) -> Result<(), Stop>>(
@@ -382,7 +387,8 @@ fn run_unless_empty<F: Fn(&mut Machine<'_>, usize, &Level<'_>) -> Result<(), Sto
     run_sequence(statements, level, turns, machine, enter)
 }
 
-/// Runs an IF: the statements of the first condition that is TRUE, otherwise its ELSE part.
+/// Runs an IF: the statements of its first TRUE condition, or its ELSE part if no condition is
+/// TRUE.
 #[inline(always)]
 #[cycle(execution)]
 fn run_conditional<F: Fn(&mut Machine<'_>, usize, &Level<'_>) -> Result<(), Stop>>(
@@ -407,7 +413,8 @@ fn run_conditional<F: Fn(&mut Machine<'_>, usize, &Level<'_>) -> Result<(), Stop
     run_elsifs(i, level, turns, machine, enter)
 }
 
-/// Runs the first ELSIF part of an IF whose condition is TRUE, otherwise its ELSE part.
+/// Runs the ELSIF parts of an IF: the statements of the first TRUE condition, or the ELSE part if
+/// no condition is TRUE.
 #[inline(never)]
 #[cycle(execution)]
 fn run_elsifs<F: Fn(&mut Machine<'_>, usize, &Level<'_>) -> Result<(), Stop>>(
@@ -429,8 +436,8 @@ fn run_elsifs<F: Fn(&mut Machine<'_>, usize, &Level<'_>) -> Result<(), Stop>>(
     run_unless_empty(&i.otherwise, level, turns, machine, enter)
 }
 
-/// Adds a number to the variable at an address. It is `increase_at` with the error type of a
-/// statement.
+/// Adds the number `by` to the variable at an address, as `increase_at` does. Returns a fault as a
+/// `Stop`, the error type of a statement.
 #[tactic(auto, unfolding(crate::specs::Execution::execute))]
 #[inline(always)]
 fn count(address: usize, by: i32, machine: &mut Machine<'_>) -> Result<(), Stop>
@@ -458,8 +465,8 @@ fn is_below(address: usize, limit: i32, machine: &Machine<'_>) -> bool
     )
 }
 
-/// Runs one iteration of a counting loop: `statements`, which are all but the last, and then the
-/// last one, which adds a number to the variable at an address.
+/// Runs the body of a counting loop once. `statements` are all its statements except the last one.
+/// The last one adds the number `by` to the variable at `address`.
 #[inline(always)]
 #[cycle(execution)]
 fn run_counted_body<F: Fn(&mut Machine<'_>, usize, &Level<'_>) -> Result<(), Stop>>(
@@ -484,8 +491,9 @@ fn run_counted_body<F: Fn(&mut Machine<'_>, usize, &Level<'_>) -> Result<(), Sto
 }
 
 /// Runs a counting loop: a WHILE whose condition is that a variable is less than a literal, and
-/// whose last statement adds a number to a variable. The addresses of both variables are found
-/// once.
+/// whose last statement adds a literal to a variable. The two variables may differ. Their addresses
+/// are computed once, before the first iteration. The loop ends the run with TurnBound as
+/// `run_while` does.
 #[inline(always)]
 #[cycle(execution)]
 fn run_counting_loop<F: Fn(&mut Machine<'_>, usize, &Level<'_>) -> Result<(), Stop>>(
@@ -520,7 +528,8 @@ fn run_counting_loop<F: Fn(&mut Machine<'_>, usize, &Level<'_>) -> Result<(), St
     }
 }
 
-/// Runs a WHILE. Ends the run with TurnBound if the condition is TRUE after `turns` iterations.
+/// Runs a WHILE. Ends the run with TurnBound if the condition is still TRUE after `turns`
+/// iterations.
 #[inline(never)]
 #[cycle(execution)]
 fn run_while<F: Fn(&mut Machine<'_>, usize, &Level<'_>) -> Result<(), Stop>>(
@@ -544,7 +553,8 @@ fn run_while<F: Fn(&mut Machine<'_>, usize, &Level<'_>) -> Result<(), Stop>>(
     run_general_while(w, level, turns, machine, enter)
 }
 
-/// Runs a WHILE, whatever its form.
+/// Runs a WHILE of any form, whether or not it is a counting loop. Ends the run with TurnBound if
+/// the condition is still TRUE after `turns` iterations.
 #[inline(always)]
 #[cycle(execution)]
 fn run_general_while<F: Fn(&mut Machine<'_>, usize, &Level<'_>) -> Result<(), Stop>>(
@@ -571,8 +581,8 @@ fn run_general_while<F: Fn(&mut Machine<'_>, usize, &Level<'_>) -> Result<(), St
     }
 }
 
-/// Runs a REPEAT. Ends the run with TurnBound if the condition is FALSE after `turns` iterations.
-/// The first iteration is made even if `turns` is 0.
+/// Runs a REPEAT. Ends the run with TurnBound if the condition is still FALSE after `turns`
+/// iterations. The first iteration is made even if `turns` is 0.
 #[inline(never)]
 #[cycle(execution)]
 fn run_repeat<F: Fn(&mut Machine<'_>, usize, &Level<'_>) -> Result<(), Stop>>(

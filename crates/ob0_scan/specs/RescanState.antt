@@ -1,4 +1,4 @@
--- Defines the states of a scan that reuses tokens and comments of the text before a change.
+-- Defines the states of a scan of a changed text that reuses tokens and comments of the old text.
 -- Rule: none; for private contracts of the scanner.
 use Rattle.std.specs.Prelude.{◌≡◌, ℕ, ◌+◌, ◌-◌, ◌<◌, ◌≤◌, ◌^◌, ◌==◌, ◌||◌, ◌⊎◌, Bool, false, List, [], ◌∷◌, ◌++◌, Option, Some, None, IsTrue, length, map, take, drop, max}
 use Rattle.std.specs.List.{All, slice_get}
@@ -21,41 +21,41 @@ abbrev pub comment_end : Option Span → ℕ
 comment_end None = 0
 comment_end (Some c) = c.end
 
--- Returns the byte offset at which the last token or comment ends, whichever is later, or 0 if
--- there is none.
+-- Returns the byte offset at which the last token ends or the last comment ends, whichever is
+-- greater. Returns 0 if there are neither tokens nor comments.
 abbrev pub last_end : List Token → List Span → ℕ
 last_end tokens comments =
     max (token_end (slice_get tokens (length tokens - 1)))
     (comment_end (slice_get comments (length comments - 1)))
 
--- Returns true if the first token begins at this byte offset. Returns false if there is no token.
+-- Returns whether the first token begins at this byte offset. Returns false if there is no token.
 abbrev pub first_token_begins_at : ℕ → List Token → Bool
 first_token_begins_at place [] = false
 first_token_begins_at place (t ∷ tokens) = t.span.start == place
 
--- Returns true if the first comment begins at this byte offset. Returns false if there is no
+-- Returns whether the first comment begins at this byte offset. Returns false if there is no
 -- comment.
 abbrev pub first_comment_begins_at : ℕ → List Span → Bool
 first_comment_begins_at place [] = false
 first_comment_begins_at place (c ∷ comments) = c.start == place
 
--- Holds if the starts and the ends of the tokens, and of the comments, don't decrease along their
--- lists.
+-- States that the tokens are in text order and the comments are in text order: neither the starts
+-- nor the ends of their spans decrease.
 pub record AreInOrder (tokens : List Token) (comments : List Span) : Type 0 where
   pub tokens_begin : IsNonDecreasingBy (λ (t : Token). t.span.start) tokens
   pub tokens_end : IsNonDecreasingBy (λ (t : Token). t.span.end) tokens
   pub comments_begin : IsNonDecreasingBy (λ (c : Span). c.start) comments
   pub comments_end : IsNonDecreasingBy (λ (c : Span). c.end) comments
 
--- Holds if the span begins after the first `removed` bytes, and its end still fits in 32 bits when
--- `added` is added to it.
+-- States that the span can be shifted by `added - removed` bytes: its start is at least `removed`,
+-- and its end plus `added` fits in 32 bits.
 pub record IsMovable (removed added : ℕ) (span : Span) : Type 0 where
   pub following : removed ≤ span.start
   pub ordered : span.start ≤ span.end
   pub small : span.end + added < 2 ^ 32
 
--- Holds if the scanner `t` results from the scanner `s`, which has found no fault, by taking
--- exactly one lexeme.
+-- States that the scanner `s`, which has found no fault, becomes the scanner `t` by reading exactly
+-- one lexeme.
 pub record TakesOne (s t : Scanner) : Type 0 where
   pub kind : LexemeKind
   pub len : ℕ
@@ -63,8 +63,8 @@ pub record TakesOne (s t : Scanner) : Type 0 where
   pub tokens : t.tokens.items ≡ s.tokens.items ++ token_at kind (span_from s.at len)
   pub comments : t.comments.items ≡ s.comments.items ++ comment_at kind (span_from s.at len)
 
--- Holds if the scanner `t` results from the scanner `s` by reading tokens and comments. If one of
--- these begins after the change, no old token or comment began at the same place in the old text.
+-- States that the scanner `s` becomes the scanner `t` by reading tokens and comments. If one of
+-- these begins behind the change, no old token or comment begins at the same place in the old text.
 pub record ReadsOn (old : TextWithTokens) (from removed added : ℕ) (s t : Scanner) : Type 0 where
   pub tokens : List Token
   pub comments : List Span
@@ -73,9 +73,9 @@ pub record ReadsOn (old : TextWithTokens) (from removed added : ℕ) (s t : Scan
   pub tokens_new : All (λ (t : Token). IsNew old from removed added t.span) tokens
   pub comments_new : All (λ (c : Span). IsNew old from removed added c) comments
 
--- Holds if `at` is a byte offset after the change in the new text, and the text ends there or an
--- old token or comment begins there. `tokens` and `comments` are the old ones that begin there or
--- later.
+-- States that a scan of the new text can stop at the byte offset `at`. This offset is behind the
+-- change, and either the text ends there (at `end`) or an old token or comment begins there.
+-- `tokens` and `comments` are the old ones that begin there or later.
 pub record IsMet (old : TextWithTokens) (end from removed added at : ℕ) (tokens : List Token)
     (comments : List Span) : Type 0 where
   pub following : from + added ≤ at
@@ -85,8 +85,8 @@ pub record IsMet (old : TextWithTokens) (end from removed added at : ℕ) (token
       ⊎ IsTrue
       (first_token_begins_at (at + removed - added) tokens || first_comment_begins_at (at + removed - added) comments)
 
--- Returns the scan of the new text: the old tokens and comments before the change, the newly read
--- ones, and the old ones after the change, shifted.
+-- Returns the scan of the new text: the old tokens and comments in front of the change, the newly
+-- read ones, and the old ones behind the change, with shifted spans.
 abbrev pub with_middle : TextWithTokens → List ℕ → ℕ → ℕ → RescannedMiddle → TextWithTokens
 with_middle old new removed added b = record {
   text = new;
@@ -99,8 +99,8 @@ with_middle old new removed added b = record {
       ++ map (span_after_shift removed added) (drop b.following.comments old.comments));
 }
 
--- Holds if `b` has the newly read tokens and comments of the new text, and the range of old ones
--- that they replace.
+-- States that `b` has the newly read tokens and comments of the new text, and the indexes of the
+-- old ones that they replace.
 pub record IsRescannedMiddle (old : TextWithTokens) (new : List ℕ) (from removed added : ℕ) (b : RescannedMiddle)
     : Type 0 where
   pub tokens_ordered : b.front.tokens ≤ b.following.tokens

@@ -1,4 +1,4 @@
--- Defines the result of scanning a changed text in place of the previous tokens.
+-- Defines the result of turning the tokens of an old text into the tokens of a changed text.
 -- Rule: none; for contracts of `rescan_in_place`.
 use Rattle.std.specs.Prelude.{◌≡◌, ℕ, List, true}
 use Rattle.ob0_scan.specs.declared.tokens.RescanInPlace.{RescanInPlace}
@@ -6,9 +6,10 @@ use Rattle.ob0_scan.specs.TextWithTokens.{TextWithTokens, IsScanOf}
 use Rattle.ob0_scan.specs.Reused.{Reuses, kinds, names_in, words_of_tokens}
 use Rattle.ob0_scan.specs.SameKinds.{HasSameTokens, HasSameWords}
 
--- Holds if `r` has the scan of the new text, and is right about what this scan has in common with
--- the old one. If `alike` is true, all tokens have the same kinds as before. If `same_names` is
--- true, the identifiers are the same, and if `same_words` is true, all kinds and spellings are.
+-- States that `r` has the scan of the new text, and compares this scan correctly with the old one.
+-- If `alike` is true, all tokens have the same kinds as the old tokens. If `same_names` is true,
+-- the identifiers have the same spellings. If `same_words` is true, all tokens have the same kinds
+-- and spellings.
 pub record IsRescanOf (old : TextWithTokens) (new : List ℕ) (from removed added : ℕ) (r : RescanInPlace)
     : Type 0 where
   pub scan : IsScanOf new r.rescan.tokens

@@ -8,20 +8,22 @@ use Rattle.ob0_scan.specs.declared.lexeme.TokenKind.{TokenKind}
 use Rattle.ob0_scan.specs.declared.lexeme.TokenKind.TheVariants as kind
 use Rattle.ob0_scan.specs.TextWithTokens.{TextWithTokens, Word, word_of_token, text_in_span}
 
--- Holds if the new text has `added` bytes in place of the `removed` bytes of the old text that
--- start at `from`. Before and after these bytes the two texts are equal.
+-- States that the new text has `added` bytes in place of the `removed` bytes of the old text that
+-- start at the byte offset `from`. In front of these bytes and behind them, the two texts are
+-- equal.
 pub record ReplacesRange (old new : List ℕ) (from removed added : ℕ) : Type 0 where
   pub inside_old : from + removed ≤ length old
   pub inside_new : from + added ≤ length new
   pub front : take from old ≡ take from new
   pub following : drop (from + removed) old ≡ drop (from + added) new
 
--- Returns the kind of a token, ignoring the value of an integer.
+-- Returns the kind of a token with the value of an integer set to 0. Other kinds are returned
+-- unchanged.
 abbrev pub kind_without_value : TokenKind → TokenKind
 kind_without_value (kind.Integer value) = kind.Integer 0
 kind_without_value k = k
 
--- Returns the kinds of the tokens, in order, ignoring the values of integers.
+-- Returns the kinds of the tokens, in order, with the values of integers set to 0.
 abbrev pub kinds : List Token → List TokenKind
 kinds tokens = map (λ (t : Token). kind_without_value t.kind) tokens
 
@@ -41,50 +43,52 @@ names_in text tokens = map (λ (t : Token). name_or_empty t.kind (text_in_span t
 abbrev pub words_of_tokens : List ℕ → List Token → List Word
 words_of_tokens text tokens = map (word_of_token text) tokens
 
--- Returns a span that lies after the change, with `added - removed` added to its start and end.
+-- Returns a span that lies behind the change, with `added - removed` added to its start and end.
 abbrev pub span_after_shift : ℕ → ℕ → Span → Span
 span_after_shift removed added span =
     record { start = span.start + added - removed; end = span.end + added - removed }
 
--- Returns a token that lies after the change, with `added - removed` added to the start and end of
--- its span.
+-- Returns a token that lies behind the change, with `added - removed` added to the start and end of
+-- the token's span.
 abbrev pub token_after_shift : ℕ → ℕ → Token → Token
 token_after_shift removed added token =
     record { kind = token.kind; span = span_after_shift removed added token.span }
 
--- Returns the leading tokens that end before a byte offset.
+-- Returns the leading tokens that end before the byte offset `place`.
 abbrev pub tokens_before_change : ℕ → List Token → List Token
 tokens_before_change place tokens = take (prefix_len (λ t. nat_lt t.span.end place) tokens) tokens
 
--- Returns the leading comments that end before a byte offset.
+-- Returns the leading comments that end before the byte offset `place`.
 abbrev pub comments_before_change : ℕ → List Span → List Span
 comments_before_change place comments =
     take (prefix_len (λ c. nat_lt c.end place) comments) comments
 
--- Returns the tokens without the leading ones that begin before a byte offset.
+-- Returns the tokens without the leading ones that begin before the byte offset `place`.
 abbrev pub tokens_beginning_from : ℕ → List Token → List Token
 tokens_beginning_from place tokens = drop (prefix_len (λ t. nat_lt t.span.start place) tokens) tokens
 
--- Returns the comments without the leading ones that begin before a byte offset.
+-- Returns the comments without the leading ones that begin before the byte offset `place`.
 abbrev pub comments_beginning_from : ℕ → List Span → List Span
 comments_beginning_from place comments = drop (prefix_len (λ c. nat_lt c.start place) comments) comments
 
--- Holds if no token and no comment of the scan begins at this byte offset.
+-- States that no token and no comment of the scan begins at this byte offset.
 pub record NoOldBegins (s : TextWithTokens) (place : ℕ) : Type 0 where
   pub tokens : All (λ (t : Token). t.span.start ≢ place) s.tokens
   pub comments : All (λ (c : Span). c.start ≢ place) s.comments
 
--- Holds if the span begins before the end of the changed bytes. Otherwise holds if no old token or
--- comment began at the same place in the old text.
+-- States that a span of the new text, if it begins behind the change, begins at a place at which no
+-- token or comment of the old text begins. This is true of every span that begins before the end of
+-- the changed bytes.
 abbrev pub IsNew : TextWithTokens → ℕ → ℕ → ℕ → Span → Type 0
 IsNew old from removed added span =
     from + added ≤ span.start → NoOldBegins old (span.start + removed - added)
 
--- Holds if the tokens and comments of the new text have three parts. The first ones are the old
--- ones that end before the change. The last ones are the old ones from a place after the change,
--- with shifted spans. Between them are `read` tokens and comments. If one of these begins after the
--- change, no old token or comment began at the same place in the old text. So the last ones start
--- at the first place at which tokens or comments of both texts begin.
+-- States that the tokens and comments of the new text have three parts. The first part has the old
+-- ones that end before the change. The last part has the old ones that begin at `place` or later,
+-- behind the change, with shifted spans. The part between them has `read` tokens and comments. If
+-- one of these begins behind the change, no old token or comment begins at the same place in the
+-- old text. So the last part, unless it is empty, starts at the first place behind the change at
+-- which tokens or comments of both texts begin.
 pub record Reuses (old new : TextWithTokens) (from removed added read : ℕ) : Type 0 where
   pub place : ℕ
   pub following : from + removed ≤ place

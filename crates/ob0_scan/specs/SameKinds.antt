@@ -1,4 +1,4 @@
--- Defines which tokens of a changed text have the same kinds and spellings as before.
+-- Defines which tokens of a changed text have the same kinds and spellings as in the old text.
 -- Rule: none; for contracts of `rescan_in_place`.
 use Rattle.std.specs.Prelude.{◌≡◌, ◌≤◌, List, length, take, drop}
 use Rattle.ob0_scan.specs.declared.lexeme.Token.{Token}
@@ -6,9 +6,10 @@ use Rattle.ob0_scan.specs.declared.tokens.SameTokens.{SameTokens}
 use Rattle.ob0_scan.specs.Reused.{kinds, words_of_tokens}
 use Rattle.ob0_scan.specs.TextWithTokens.{TextWithTokens}
 
--- Holds if two parts of the new tokens have the same kinds as before: the first `prefix` tokens,
--- and the tokens starting at the index `new_suffix`, which started at the index `old_suffix`
--- before. No token is in both parts. The values of integers may differ.
+-- States that two parts of the new tokens have the same kinds as in the old text. The first part is
+-- the first `prefix` tokens of both texts. The second part reaches to the last token. This part
+-- starts at the index `old_suffix` among the old tokens, and at the index `new_suffix` among the
+-- new tokens. No token is in both parts. The values of integers may differ.
 pub record HasSameTokens (s : SameTokens) (old new : List Token) : Type 0 where
   pub old_range : s.prefix ≤ s.old_suffix
   pub new_range : s.prefix ≤ s.new_suffix
@@ -17,7 +18,8 @@ pub record HasSameTokens (s : SameTokens) (old new : List Token) : Type 0 where
   pub front : take s.prefix (kinds new) ≡ take s.prefix (kinds old)
   pub back : drop s.new_suffix (kinds new) ≡ drop s.old_suffix (kinds old)
 
--- Holds if the tokens that `s` describes also have the same spellings as before.
+-- States that the tokens in the two parts that `s` describes have the same kinds and spellings in
+-- both texts.
 pub record HasSameWords (s : SameTokens) (old new : TextWithTokens) : Type 0 where
   pub front : take s.prefix (words_of_tokens new.text new.tokens)
       ≡ take s.prefix (words_of_tokens old.text old.tokens)

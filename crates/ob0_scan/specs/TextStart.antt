@@ -6,12 +6,13 @@ use Rattle.ob0_scan.specs.declared.lexeme.Symbol.{Symbol}
 use Rattle.ob0_scan.specs.Classes.{symbol_text}
 use Rattle.ob0_scan.specs.Lexed.{Lexeme, IsFirst}
 
--- Holds if the first `len` bytes of the text are its first lexeme, which has this kind.
+-- States that the first `len` bytes of the text are its first lexeme, and that this lexeme has this
+-- kind.
 pub record IsFirstOf (text : List ℕ) (kind : LexemeKind) (len : ℕ) : Type 0 where
   pub in_range : len ≤ length text
   pub first : IsFirst (record { kind = kind; text = take len text }) (drop len text)
 
--- Holds if the text begins with this symbol of `len` bytes, and with no longer symbol.
+-- States that the text begins with this symbol of `len` bytes, and with no longer symbol.
 pub record IsLongestSymbol (text : List ℕ) (symbol : Symbol) (len : ℕ) : Type 0 where
   pub in_range : len ≤ length text
   pub spelled : take len text ≡ symbol_text symbol
@@ -19,10 +20,10 @@ pub record IsLongestSymbol (text : List ℕ) (symbol : Symbol) (len : ℕ) : Typ
       → symbol_text other ++ following ≡ text
       → length (symbol_text other) ≤ len
 
--- Holds if the text begins with no symbol.
+-- States that the text begins with no symbol.
 abbrev pub StartsWithNoSymbol : List ℕ → Type 0
 StartsWithNoSymbol text = (symbol : Symbol) (following : List ℕ) → symbol_text symbol ++ following ≢ text
 
--- Holds if the text begins with no lexeme.
+-- States that the text begins with no lexeme.
 abbrev pub StartsWithNoLexeme : List ℕ → Type 0
 StartsWithNoLexeme text = (l : Lexeme) (after : List ℕ) → IsFirst l after → l.text ++ after ≢ text

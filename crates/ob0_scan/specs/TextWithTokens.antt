@@ -15,18 +15,19 @@ pub record Word : Type 0 where
   pub kind : TokenKind
   pub text : List ℕ
 
--- Returns a list with the lexeme's kind and text if a lexeme of this kind is a token. For white
--- space and comments the list is empty.
+-- Returns a list with one word, of the lexeme's kind and text, if the lexeme is a token. For white
+-- space and comments the list is empty. The second argument is the lexeme's kind.
 abbrev pub word_of : Lexeme → LexemeKind → List Word
 word_of l lexeme.Space = []
 word_of l lexeme.Comment = []
 word_of l (lexeme.Token kind) = record { kind = kind; text = l.text } ∷ []
 
--- Returns the tokens of the lexemes, without white space and comments.
+-- Returns the tokens among the lexemes, as kinds and spellings, in order. White space and comments
+-- are left out.
 abbrev pub words_of_lexemes : List Lexeme → List Word
 words_of_lexemes lexemes = flat_map (λ l. word_of l l.kind) lexemes
 
--- Returns the bytes of a text in a span.
+-- Returns the bytes of a text that are in a span.
 abbrev pub text_in_span : List ℕ → Span → List ℕ
 text_in_span text span = slice_range text span.start span.end
 
@@ -34,18 +35,18 @@ text_in_span text span = slice_range text span.start span.end
 abbrev pub word_of_token : List ℕ → Token → Word
 word_of_token text token = record { kind = token.kind; text = text_in_span text token.span }
 
--- Returns the span of `len` bytes starting at `start`.
+-- Returns the span of `len` bytes that starts at the byte offset `start`.
 abbrev pub span_from : ℕ → ℕ → Span
 span_from start len = record { start = start; end = start + len }
 
--- Returns a list with a token of this kind and span if a lexeme of this kind is a token. For white
+-- Returns a list with one token, of the lexeme's kind and span, if the lexeme is a token. For white
 -- space and comments the list is empty.
 abbrev pub token_at : LexemeKind → Span → List Token
 token_at lexeme.Space span = []
 token_at lexeme.Comment span = []
 token_at (lexeme.Token kind) span = record { kind = kind; span = span } ∷ []
 
--- Returns a list with the span if a lexeme of this kind is a comment, otherwise an empty list.
+-- Returns a list with the lexeme's span if the lexeme is a comment, otherwise an empty list.
 abbrev pub comment_at : LexemeKind → Span → List Span
 comment_at lexeme.Space span = []
 comment_at lexeme.Comment span = span ∷ []
@@ -74,7 +75,7 @@ max_text = 1048576
 abbrev pub max_faults : ℕ
 max_faults = 100
 
--- Holds if the text isn't too long and can be cut into lexemes.
+-- States that the text isn't too long and can be cut into lexemes.
 abbrev pub IsScannable : List ℕ → Type 0
 IsScannable text = (length text ≤ max_text) × ((lexemes : List Lexeme) × Lexed text lexemes)
 
@@ -84,8 +85,8 @@ pub record TextWithTokens : Type 0 where
   pub tokens : List Token
   pub comments : List Span
 
--- Holds if the tokens and comments are exactly the tokens and comments of the text's lexemes, in
--- text order.
+-- States that the tokens and comments in `s` are exactly the ones among the lexemes of its text, in
+-- text order, and that the text isn't too long.
 pub record IsScan (s : TextWithTokens) : Type 0 where
   pub utf8 : IsUtf8 s.text
   pub short : length s.text ≤ max_text
@@ -94,13 +95,13 @@ pub record IsScan (s : TextWithTokens) : Type 0 where
   pub tokens : s.tokens ≡ tokens_from 0 lexemes
   pub comments : s.comments ≡ comments_from 0 lexemes
 
--- Holds if both ends of the span are in the text, in order and at character borders.
+-- States that the span's start and end are in the text, in order and at character borders.
 pub record IsRangeOf (text : List ℕ) (span : Span) : Type 0 where
   pub ordered : span.start ≤ span.end
   pub start : IsCharBoundary text span.start
   pub end : IsCharBoundary text span.end
 
--- Holds if `s` is a scan of this text.
+-- States that `s` is the scan of this text.
 pub record IsScanOf (text : List ℕ) (s : TextWithTokens) : Type 0 where
   pub of : s.text ≡ text
   pub scan : IsScan s

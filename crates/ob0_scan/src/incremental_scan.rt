@@ -1,47 +1,51 @@
-//! Scans a text that was changed at one place, and reuses the tokens and comments of an older scan
-//! before and after the change.
+//! Scans a text that was changed at one place, and reuses the tokens and comments that an older
+//! scan found in front of the change and behind it.
 //!
 //! `rescan_in_place` takes the tokens of the old text and turns them into the tokens of the new
-//! text. If the new text has faults, it returns the old ones. `rescan` does the same with a copy.
-//! Both return the tokens and comments that `scan` of the new text returns. `Reuses`
-//! (`specs/Reused`) says which of them are old:
-//! - Before the change: each that ends before it. (One that ends right at the change may continue
-//!   with the inserted text.)
-//! - After the change, shifted by `added - removed` bytes: each that begins at or after the first
-//!   place at which a token or comment begins in both texts. That place can't be later than
-//!   necessary (`IsNew`).
+//! text. If the new text has faults, the function returns the old tokens with them. `rescan` does
+//! the same with a copy of the old tokens. Both functions return the tokens and comments that
+//! `scan` of the new text returns. `Reuses` (`specs/Reused`) says which of these are old:
+//! - In front of the change: each token and comment that ends before the change. (A token that ends
+//!   right at the change may continue with the inserted text.)
+//! - Behind the change, shifted by `added - removed` bytes: each token and comment that begins at a
+//!   certain place or later. This is the first place behind the change at which a token or comment
+//!   begins in both texts (`IsNew`).
 //!
-//! `alike` says that the tokens have the same kinds as before. `same_names` says that the
-//! identifiers have the same spelling, and `same_words` that all tokens do.
+//! In the result, `alike` says that the new tokens have the same kinds as the old tokens.
+//! `same_names` says that the identifiers have the same spellings. `same_words` says that all
+//! tokens have the same kinds and spellings.
 //!
-//! Binary search finds the tokens and comments before the change (`LexemeSlices::front_before`). A
-//! scanner continues after the last of them; white space isn't kept, so it is read again. Before
-//! each step after the change, the scanner tests whether an old token or comment begins at its
-//! place. Binary search also finds the first old ones after the change (`rest_from`).
-//! `skip_to` skips old ones before each step, so all these tests together visit each old token at
-//! most once. A scan is in order (`AreInOrder`), so binary search finds the number that the
-//! definition counts (`proofs/Halved`).
+//! Binary search finds the old tokens and comments in front of the change
+//! (`LexemeSlices::front_before`). A scanner continues at the end of the last of them. White space
+//! isn't kept, so the white space there is read again. Once the scanner is behind the change, it
+//! tests before each step whether an old token or comment begins at the scanner's place. Binary
+//! search also finds the first old tokens and comments behind the change (`rest_from`). Before each
+//! step, `skip_to` skips the old ones that begin before the scanner's place. So all these tests
+//! together visit each old token at most once. The spans of a scan are in order (`AreInOrder`), so
+//! binary search finds the same number as visiting them one by one (`proofs/Halved`).
 //!
-//! The newly read tokens and comments are placed between the old ones (`IsRescannedMiddle`). When
-//! reading is complete, the later old ones move in their list and the new ones are inserted before
-//! them (`splice_tokens`, `splice_comments`). So memory holds the tokens of only one text; two
-//! lists would leave holes of their size in the heap. Only the changed bytes of the text are
-//! replaced, and the bytes after them move (`ReplacedRange::replace`). If a change begins or ends
-//! inside a character, the new text is written over the old one.
+//! The newly read tokens and comments are placed between the two reused parts
+//! (`IsRescannedMiddle`). When reading is complete, the second reused part is moved within its
+//! list, and the newly read tokens are inserted in front of it (`splice_tokens`,
+//! `splice_comments`). So memory holds the tokens of only one text. Two lists would leave holes of
+//! their size in the heap. Only the changed bytes of the text are replaced, and the bytes behind
+//! them are moved (`ReplacedRange::replace`). If a change begins or ends inside a character, the
+//! new text is written over the old text.
 //!
 //! The change needn't begin and end between characters: a lexeme's last byte is ASCII, so the scan
-//! begins and stops at character borders anyway. A fault ends the search for a common place, so the
-//! faults are those of `scan`, each reported once. Spans fit in 32 bits because of the text's
-//! length: `ScanProgress` says so for a scanner's spans (`short`), `IsMovable` for shifted spans.
-//! Callers have to show `ReplacesRange`. The law `new_middle_replaces_range` gives it for texts
-//! joined from parts, and `Difference::between` of `ob0_analysis` for any two texts.
+//! begins and stops at character borders anyway. After a fault, the scanner doesn't look for
+//! reusable tokens but reads to the end. So the faults are the same as the faults that `scan`
+//! reports, each once. Spans fit in 32 bits because of the text's length: `ScanProgress` says so
+//! for a scanner's spans (`short`), and `IsMovable` says so for shifted spans. Callers have to show
+//! `ReplacesRange`. The law `new_middle_replaces_range` proves this fact for texts joined from
+//! parts, and `Difference::between` of `ob0_analysis` ensures it for any two texts.
 //!
 //! In the proof, `proofs/AtLexemes` gives the places of the tokens and comments of a list of
-//! lexemes. `Fronts` splits the old lexemes before the change. `Reusing` joins old and new lexemes
-//! at two places: a lexeme depends only on its bytes and the next byte, and equal rests have equal
-//! lexemes. `RescannedMiddle` collects the newly read tokens, and `Kept` has the numbers of the
-//! reused old ones. `Named` shows that the tokens before and after have the same spelling. No
-//! clause counts steps, so nothing proves that old tokens aren't scanned again.
+//! lexemes. `Fronts` splits off the old lexemes in front of the change. `Reusing` joins old and new
+//! lexemes at two places: a lexeme depends only on its bytes and the next byte, and equal rests
+//! have equal lexemes. `RescannedMiddle` collects the newly read tokens, and `Kept` has the numbers
+//! of the reused old tokens. `Named` shows that reused tokens have the same spelling in both texts.
+//! No clause counts steps, so it isn't proved that old tokens aren't scanned again.
 
 ghost use Rattle.std.specs.Prelude.{◌≡◌, ℕ, List, [], false, ◌+◌, ◌-◌, ◌<◌, ◌≤◌, true, IfOk, IfErr, OnOk, length, take, drop};
 ghost use Rattle.ob0_scan.specs.declared.lexeme.TokenKind.TheVariants.{Identifier, Integer};
@@ -69,9 +73,9 @@ pub(crate) struct LexemeCounts {
     pub(crate) comments: usize,
 }
 
-/// The newly scanned tokens and comments, and the ranges of old ones that they replace. The old
-/// tokens `front.tokens..following.tokens` and the old comments
-/// `front.comments..following.comments` are replaced.
+/// The newly scanned tokens and comments, and the indexes of the old ones that they replace. These
+/// are the old tokens `front.tokens..following.tokens` and the old comments
+/// `front.comments..following.comments`.
 #[derive(Drop)]
 pub(crate) struct RescannedMiddle {
     pub(crate) front: LexemeCounts,
@@ -81,7 +85,7 @@ pub(crate) struct RescannedMiddle {
 }
 
 impl RescannedMiddle {
-    /// Returns true only if the new tokens have the same kinds as the old ones that they replace.
+    /// Returns whether the new tokens have the same kinds as the old tokens that they replace.
     fn has_kinds_of(&self, old: &[Token]) -> bool
         requires ordered { self.now.front.tokens ≤ self.now.following.tokens }
         requires inside { self.now.following.tokens ≤ length old.now }
@@ -92,8 +96,8 @@ impl RescannedMiddle {
         have_same_kinds(&self.tokens, &old[self.front.tokens..self.following.tokens])
     }
 
-    /// Returns true only if the new identifiers have the same spelling as the old ones that they
-    /// replace.
+    /// Returns whether the new tokens and the old tokens that they replace have the same
+    /// identifiers at the same places in the list.
     fn has_names_of(&self, new_text: &str, old: &Tokens) -> bool
         requires ordered { self.now.front.tokens ≤ self.now.following.tokens }
         requires inside { self.now.following.tokens ≤ length old.now.tokens }
@@ -110,8 +114,8 @@ impl RescannedMiddle {
         )
     }
 
-    /// Returns true only if the new tokens have the same kinds and spelling as the old ones that
-    /// they replace.
+    /// Returns whether the new tokens have the same kinds and spellings as the old tokens that they
+    /// replace.
     fn has_words_of(&self, new_text: &str, old: &Tokens) -> bool
         requires ordered { self.now.front.tokens ≤ self.now.following.tokens }
         requires inside { self.now.following.tokens ≤ length old.now.tokens }
@@ -129,7 +133,7 @@ impl RescannedMiddle {
     }
 }
 
-/// Returns true only if the tokens of two texts have the same kinds and spellings, one by one.
+/// Returns whether the tokens of two texts have the same kinds and spellings, one by one.
 fn have_same_words(new_text: &[u8], new: &[Token], old_text: &[u8], old: &[Token]) -> bool
     ensures { result ≡ true → words_of_tokens new_text.now new.now ≡ words_of_tokens old_text.now old.now }
 {
@@ -144,15 +148,15 @@ fn have_same_words(new_text: &[u8], new: &[Token], old_text: &[u8], old: &[Token
     true
 }
 
-/// Returns true only if two tokens of two texts have the same kind and spelling.
+/// Returns whether a token of one text and a token of another have the same kind and spelling.
 fn is_same_word(new_text: &[u8], new: Token, old_text: &[u8], old: Token) -> bool
     ensures { result ≡ true → word_of_token new_text.now new ≡ word_of_token old_text.now old }
 {
     new.kind == old.kind && is_same_spelling(new_text, new.span, old_text, old.span)
 }
 
-/// Returns true only if the identifiers among the tokens of two texts are at the same indexes and
-/// have the same spellings.
+/// Returns whether two texts have equally many tokens, with identifiers at the same token indexes
+/// and with the same spellings.
 fn have_same_names(new_text: &[u8], new: &[Token], old_text: &[u8], old: &[Token]) -> bool
     ensures { result ≡ true → names_in new_text.now new.now ≡ names_in old_text.now old.now }
 {
@@ -167,8 +171,8 @@ fn have_same_names(new_text: &[u8], new: &[Token], old_text: &[u8], old: &[Token
     true
 }
 
-/// Returns true only if two tokens of two texts are identifiers with the same spelling, or neither
-/// is an identifier.
+/// Returns whether a token of one text and a token of another are identifiers with the same
+/// spelling, or neither is an identifier.
 fn is_same_name(new_text: &[u8], new: Token, old_text: &[u8], old: Token) -> bool
     ensures { result ≡ true → name_or_empty new.kind (text_in_span new_text.now new.span)
         ≡ name_or_empty old.kind (text_in_span old_text.now old.span) }
@@ -180,7 +184,7 @@ fn is_same_name(new_text: &[u8], new: Token, old_text: &[u8], old: Token) -> boo
     }
 }
 
-/// Returns true if a token of this kind is an identifier.
+/// Returns whether a token of this kind is an identifier.
 fn is_name(kind: TokenKind) -> bool
     ensures yes { result ≡ true → kind ≡ Identifier }
     ensures no { result ≡ false → (text : List ℕ) → name_or_empty kind text ≡ [] }
@@ -193,7 +197,8 @@ fn is_name(kind: TokenKind) -> bool
     }
 }
 
-/// Returns true only if two spans are within their texts and contain the same bytes.
+/// Returns whether two spans, each in its own text, contain the same bytes. If a span isn't within
+/// its text, returns false.
 fn is_same_spelling(a: &[u8], in_a: Span, b: &[u8], in_b: Span) -> bool
     ensures { result ≡ true → text_in_span a.now in_a ≡ text_in_span b.now in_b }
 {
@@ -204,8 +209,8 @@ fn is_same_spelling(a: &[u8], in_a: Span, b: &[u8], in_b: Span) -> bool
         && a[in_a.start as usize..in_a.end as usize] == b[in_b.start as usize..in_b.end as usize]
 }
 
-/// Returns true only if two lists of tokens have the same kinds, one by one. The values of integers
-/// may differ.
+/// Returns whether two lists of tokens have the same kinds, one by one. The values of integers may
+/// differ.
 fn have_same_kinds(new: &[Token], old: &[Token]) -> bool
     ensures { result ≡ true → kinds new.now ≡ kinds old.now }
 {
@@ -220,7 +225,7 @@ fn have_same_kinds(new: &[Token], old: &[Token]) -> bool
     true
 }
 
-/// Returns true only if two kinds of tokens are the same. The values of integers may differ.
+/// Returns whether two kinds of tokens are the same, except that the values of integers may differ.
 fn is_same_kind(a: TokenKind, b: TokenKind) -> bool
     ensures { result ≡ true → kind_without_value a ≡ kind_without_value b }
 {
@@ -235,7 +240,7 @@ fn is_same_kind(a: TokenKind, b: TokenKind) -> bool
     }
 }
 
-/// Returns true if a token of this kind is an integer.
+/// Returns whether a token of this kind is an integer.
 fn is_integer(kind: TokenKind) -> bool
     ensures { result ≡ true → kind_without_value kind ≡ Integer 0 }
 {
@@ -247,8 +252,8 @@ fn is_integer(kind: TokenKind) -> bool
     }
 }
 
-/// The reason why a changed text has no tokens: its faults, with the old tokens, or a failed
-/// allocation.
+/// The reason why a changed text wasn't scanned: the text's faults, returned with the old tokens,
+/// or a failed allocation.
 #[derive(Debug, Drop, Error)]
 pub enum RescanRefusal {
     #[error("faults in the text")]
@@ -266,9 +271,10 @@ impl From<AllocError> for RescanRefusal {
 }
 
 /// Returns the tokens and comments of `new_text`, or its faults. `new_text` is the text of `old`
-/// with the `removed` bytes starting at byte `from` replaced by `added` others. The old tokens and
-/// comments before the change are reused. The scan ends at the first place after the change at
-/// which an old token or comment begins. The old ones that begin there or later are also reused.
+/// with the `removed` bytes that start at the byte offset `from` replaced by `added` bytes. The old
+/// tokens and comments in front of the change are reused. The scan ends at the first place behind
+/// the change at which both texts have the beginning of a token or comment. The old tokens and
+/// comments that begin there or later are also reused.
 pub fn rescan(
     alloc: Global,
     old: &Tokens,
@@ -292,8 +298,9 @@ pub fn rescan(
 }
 
 /// Turns the old tokens and comments into the tokens and comments of `new_text`. Works like
-/// `rescan`, but in place: the old tokens before the change aren't copied. If the new text has
-/// faults, they are returned with the old tokens. If an allocation fails, the old tokens are lost.
+/// `rescan`, but in place: the old tokens in front of the change aren't copied. If the new text has
+/// faults, the faults are returned with the old tokens. If an allocation fails, the old tokens are
+/// lost.
 pub fn rescan_in_place(
     alloc: Global,
     old: Tokens,
@@ -370,7 +377,7 @@ fn rescan_refusal(
 }
 
 /// Scans the part of a changed text that has to be read again. Returns the tokens and comments
-/// found there, with the ranges of old ones that they replace.
+/// found there, with the indexes of the old tokens and comments that they replace.
 fn scan_changed_part(
     alloc: Global,
     old: &Tokens,
@@ -414,9 +421,9 @@ fn scan_changed_part(
     })
 }
 
-/// Scans up to the first place after the change at which an old token or comment begins, or else to
-/// the end of the text. Returns the old tokens and comments that begin at that place or later, none
-/// at the end of the text.
+/// Scans up to the first place behind the change at which an old token or comment begins. If there
+/// is no such place or a fault is found, scans to the end of the text. Returns the old tokens and
+/// comments that begin at that place or later, or none at the end of the text.
 fn continue_scan<'o>(
     scanner: &mut Scanner,
     old: &'o Tokens,

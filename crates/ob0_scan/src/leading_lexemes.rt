@@ -24,7 +24,7 @@ pub enum TextStart {
     Fault(FaultCode, usize),
 }
 
-/// Returns true if a byte is white space: a space, a tab, CR or LF.
+/// Returns whether a byte is white space: a space, a tab, CR or LF.
 pub fn is_space(byte: u8) -> bool
     ensures { result ≡ is_space byte }
 {
@@ -101,8 +101,8 @@ fn comment_len(bytes: &[u8]) -> Option<usize>
     None
 }
 
-/// Returns the longest symbol at the beginning of the bytes with its length in bytes, or None if
-/// they begin with no symbol.
+/// Returns the longest symbol at the beginning of the bytes, with its length in bytes. Returns None
+/// if the bytes begin with no symbol.
 fn first_symbol(bytes: &[u8]) -> Option<(Symbol, usize)>
     ensures found { IfSome result (λ found. IsLongestSymbol bytes.now found.0 found.1) }
     ensures none { IfNone result (StartsWithNoSymbol bytes.now) }
@@ -166,8 +166,8 @@ fn first_word(text: &str) -> TextStart
     TextStart::Lexeme(LexemeKind::Token(word_kind(&bytes[..len])), len)
 }
 
-/// Returns the integer at the beginning of a text that begins with a digit. If a letter follows the
-/// digits or the value is too large, returns that fault.
+/// Returns the integer at the beginning of a text that begins with a digit. If a letter directly
+/// follows the digits, or the value is too large, returns the fault instead.
 #[inline(always)]
 fn first_integer(text: &str) -> TextStart
     requires { IsTrue (is_ascii_digit (slice_index text.now 0)) }
@@ -185,7 +185,7 @@ fn first_integer(text: &str) -> TextStart
 }
 
 /// Returns the comment at the beginning of a text that begins with `(*`. If the comment isn't
-/// closed, returns that fault.
+/// closed, returns the fault instead.
 fn first_comment(text: &str) -> TextStart
     requires { take 2 text.now ≡ codes "(*" }
     ensures { StartsWith text.now result }

@@ -1,11 +1,12 @@
-//! Finds the tokens and comments of an older scan that end before a change, and the ones that begin
-//! after it, by binary search. Replaces the ones between them, and shifts the later spans.
+//! Finds, by binary search, the tokens and comments of an older scan that lie in front of a change
+//! of the text, and the ones that lie behind the change. Replaces the tokens and comments between
+//! these two parts, and shifts the spans of the part behind the change.
 //!
-//! A scan is in order (`AreInOrder`), so binary search finds the number that the definition counts
-//! (`proofs/Halved`). The later part of a `Vec` is changed by a loop over indexes (`for index in
-//! first..items.len()`). Its invariant is `ChangedTo`: the items before the index are changed, the
-//! others aren't. A call with `&mut items[first..]` isn't used, because after it the proof would
-//! have no name for the list.
+//! The spans of a scan are in order (`AreInOrder`), so binary search finds the same number as
+//! visiting them one by one (`proofs/Halved`). The later part of a `Vec` is changed by a loop over
+//! indexes (`for index in first..items.len()`). The loop's invariant is `ChangedTo`: the items with
+//! smaller indexes are changed, and the other items aren't. A call with `&mut items[first..]` isn't
+//! used, because the proof would have no name for the list after such a call.
 
 ghost use Rattle.std.specs.Prelude.{◌≡◌, ◌+◌, ◌-◌, ◌<◌, ◌≤◌, ◌^◌, ◌||◌, ◌++◌, OnOk, length, map, take, drop, nat_lt, option_copied, string_bytes};
 ghost use Rattle.std.specs.List.{All, prefix_len};
@@ -18,8 +19,8 @@ ghost use Rattle.ob0_scan.specs.RescanState.{token_end, comment_end, last_end, f
 use crate::lexeme::{Span, Token};
 use std::alloc::AllocError;
 
-/// A change of a text: the `removed` bytes starting at byte `from` were replaced by `added` other
-/// bytes.
+/// A change of a text: the `removed` bytes that start at the byte offset `from` were replaced by
+/// `added` bytes.
 #[derive(Clone, Copy)]
 pub(crate) struct ReplacedRange {
     pub(crate) from: usize,
@@ -28,7 +29,8 @@ pub(crate) struct ReplacedRange {
 }
 
 impl ReplacedRange {
-    /// Converts the offset of a byte after the change from the new text to the old text.
+    /// Returns the byte offset in the old text of the place that is at the byte offset `place` in
+    /// the new text. The place must be behind the changed bytes.
     pub(crate) fn old_offset(self, place: usize) -> usize
         requires following { self.added ≤ place }
         requires small { place + self.removed < 2 ^ 64 }
@@ -37,9 +39,9 @@ impl ReplacedRange {
         place - self.added + self.removed
     }
 
-    /// Turns the old text into the new one. Only the changed bytes are written, and the bytes after
-    /// them move. If the change begins or ends inside a character, the whole new text is copied. If
-    /// an allocation fails, nothing is promised about `old`.
+    /// Turns the old text into the new text. Only the changed bytes are written, and the bytes
+    /// behind them are moved. If the change begins or ends inside a character, the whole new text
+    /// is copied. If an allocation fails, nothing is promised about `old`.
     pub(crate) fn replace(self, old: &mut String, new: &str) -> Result<(), AllocError>
         requires { ReplacesRange (string_bytes old.old) new.now self.from self.removed self.added }
         ensures { OnOk result (string_bytes old.new ≡ new.now) }
@@ -56,7 +58,7 @@ impl ReplacedRange {
         old.push_str(new)
     }
 
-    /// Returns a span that lies after the change, shifted from the old text to the new text.
+    /// Returns the span in the new text of a span that lies behind the change in the old text.
     fn span_after_shift(self, span: Span) -> Span
         requires { IsMovable self.removed self.added span }
         ensures { result ≡ span_after_shift self.removed self.added span }
@@ -68,7 +70,7 @@ impl ReplacedRange {
     }
 }
 
-/// A range of the tokens of a text, and a range of its comments, each in text order.
+/// Consecutive tokens of a text, and consecutive comments of the same text, each in text order.
 #[derive(Clone, Copy)]
 pub(crate) struct LexemeSlices<'t> {
     pub(crate) tokens: &'t [Token],
@@ -76,7 +78,8 @@ pub(crate) struct LexemeSlices<'t> {
 }
 
 impl<'t> LexemeSlices<'t> {
-    /// Returns the leading tokens and comments that end before a byte offset, by binary search.
+    /// Returns the leading tokens and comments that end before the byte offset `place`, by binary
+    /// search. A token or comment that ends at `place` isn't included.
     pub(crate) fn front_before(self, place: usize) -> LexemeSlices<'t>
         requires { AreInOrder self.tokens.now self.comments.now }
         ensures tokens { result.tokens.now ≡ tokens_before_change place self.entry.tokens.now }
@@ -91,8 +94,8 @@ impl<'t> LexemeSlices<'t> {
         }
     }
 
-    /// Returns the tokens and comments without the leading ones that begin before a byte offset, by
-    /// binary search.
+    /// Returns the tokens and comments without the leading ones that begin before the byte offset
+    /// `place`, by binary search.
     pub(crate) fn rest_from(self, place: usize) -> LexemeSlices<'t>
         requires { AreInOrder self.tokens.now self.comments.now }
         ensures tokens { result.tokens.now ≡ tokens_beginning_from place self.entry.tokens.now }
@@ -106,8 +109,8 @@ impl<'t> LexemeSlices<'t> {
         }
     }
 
-    /// Returns the tokens and comments without the leading ones that begin before a byte offset.
-    /// The skipped ones should be few, because they are visited one by one.
+    /// Returns the tokens and comments without the leading ones that begin before the byte offset
+    /// `place`. The skipped ones should be few, because they are visited one by one.
     pub(crate) fn skip_to(self, place: usize) -> LexemeSlices<'t>
         ensures tokens { result.tokens.now ≡ tokens_beginning_from place self.entry.tokens.now }
         ensures comments { result.comments.now ≡ comments_beginning_from place self.entry.comments.now }
@@ -120,7 +123,7 @@ impl<'t> LexemeSlices<'t> {
         }
     }
 
-    /// Returns true if the first token or the first comment begins at a byte offset.
+    /// Returns whether the first token or the first comment begins at the byte offset `place`.
     pub(crate) fn first_begins_at(self, place: usize) -> bool
         ensures { result
             ≡ first_token_begins_at place self.entry.tokens.now
@@ -129,8 +132,8 @@ impl<'t> LexemeSlices<'t> {
         first_token_begins_at(self.tokens, place) || first_comment_begins_at(self.comments, place)
     }
 
-    /// Returns the byte offset at which the last token or comment ends, whichever is later, or 0 if
-    /// there is none.
+    /// Returns the byte offset at which the last token ends or the last comment ends, whichever is
+    /// greater. Returns 0 if there are neither tokens nor comments.
     pub(crate) fn end(self) -> usize
         ensures { result ≡ last_end self.entry.tokens.now self.entry.comments.now }
     {
@@ -138,7 +141,8 @@ impl<'t> LexemeSlices<'t> {
     }
 }
 
-/// Returns true if the first token begins at a byte offset. Returns false if there is no token.
+/// Returns whether the first token begins at the byte offset `place`. Returns false if there is no
+/// token.
 fn first_token_begins_at(tokens: &[Token], place: usize) -> bool
     ensures { result ≡ first_token_begins_at place tokens.now }
 {
@@ -148,7 +152,8 @@ fn first_token_begins_at(tokens: &[Token], place: usize) -> bool
     }
 }
 
-/// Returns true if the first comment begins at a byte offset. Returns false if there is no comment.
+/// Returns whether the first comment begins at the byte offset `place`. Returns false if there is
+/// no comment.
 fn first_comment_begins_at(comments: &[Span], place: usize) -> bool
     ensures { result ≡ first_comment_begins_at place comments.now }
 {
@@ -214,7 +219,8 @@ fn count_comments_beginning_before(comments: &[Span], place: usize) -> usize
     comments.partition_point(|comment| (comment.start as usize) < place)
 }
 
-/// Returns the number of leading tokens that begin before a byte offset. It visits them one by one.
+/// Returns the number of leading tokens that begin before a byte offset. The tokens are visited one
+/// by one.
 fn count_tokens_before_linearly(tokens: &[Token], place: usize) -> usize
     ensures bound { result ≤ length tokens.now }
     ensures count { result ≡ prefix_len (λ (t : Token). nat_lt t.span.start place) tokens.now }
@@ -225,8 +231,8 @@ fn count_tokens_before_linearly(tokens: &[Token], place: usize) -> usize
         .count()
 }
 
-/// Returns the number of leading comments that begin before a byte offset. It visits them one by
-/// one.
+/// Returns the number of leading comments that begin before a byte offset. The comments are visited
+/// one by one.
 fn count_comments_before_linearly(comments: &[Span], place: usize) -> usize
     ensures bound { result ≤ length comments.now }
     ensures count { result ≡ prefix_len (λ (c : Span). nat_lt c.start place) comments.now }
@@ -237,7 +243,8 @@ fn count_comments_before_linearly(comments: &[Span], place: usize) -> usize
         .count()
 }
 
-/// Replaces the tokens `front..following` by `between`, and shifts the spans of the later tokens.
+/// Replaces the tokens with the indexes `front..following` by `between`. Shifts the spans of all
+/// later tokens to their places in the changed text.
 pub(crate) fn splice_tokens(
     tokens: &mut Vec<Token>,
     front: usize,
@@ -259,8 +266,8 @@ pub(crate) fn splice_tokens(
     Ok(())
 }
 
-/// Replaces the comments `front..following` by `between`, and shifts the spans of the later
-/// comments.
+/// Replaces the comments with the indexes `front..following` by `between`. Shifts the spans of all
+/// later comments to their places in the changed text.
 pub(crate) fn splice_comments(
     comments: &mut Vec<Span>,
     front: usize,
@@ -282,7 +289,8 @@ pub(crate) fn splice_comments(
     Ok(())
 }
 
-/// Shifts the spans of the tokens starting at index `first` to their places in the changed text.
+/// Shifts the spans of the token with the index `first` and of all later tokens to their places in
+/// the changed text.
 fn shift_tokens(tokens: &mut Vec<Token>, first: usize, change: ReplacedRange)
     requires inside { first ≤ length tokens.old.items }
     requires movable { All (λ (t : Token). IsMovable change.removed change.added t.span)
@@ -300,7 +308,8 @@ fn shift_tokens(tokens: &mut Vec<Token>, first: usize, change: ReplacedRange)
     }
 }
 
-/// Shifts the spans of the comments starting at index `first` to their places in the changed text.
+/// Shifts the spans of the comment with the index `first` and of all later comments to their places
+/// in the changed text.
 fn shift_comments(comments: &mut Vec<Span>, first: usize, change: ReplacedRange)
     requires inside { first ≤ length comments.old.items }
     requires movable { All (λ (c : Span). IsMovable change.removed change.added c)

@@ -13,8 +13,8 @@ use Rattle.ob0_language_names.specs.Parts.{formal_names, formal_sections}
 use Rattle.ob0_scope_table.specs.Resolution.{ordinal_in}
 use Rattle.ob0_language_names.specs.Scopes.{same_ordinal}
 
--- A search: the text, the ordinal to which each token is bound, the declaration (the block that
--- declares it is searched), and the sought name.
+-- A search for another declaration with a given name: the text, the ordinal to which each token is bound, the
+-- declaration whose block is searched, and the name (`new`).
 pub record BlockSearch : Type 0 where
   pub source : TextWithTokens
   pub ordinals : List (Option ℕ)
@@ -26,23 +26,22 @@ pub record BlockSearch : Type 0 where
 abbrev pub ordinal_in_search : BlockSearch → ℕ → Option ℕ
 ordinal_in_search s i = ordinal_in s.ordinals i
 
--- returns true for a token that is bound to the declaration whose block is searched
+-- returns whether a token is bound to the declaration whose block is searched
 abbrev pub is_bound_to_declaration : BlockSearch → ℕ → Bool
 is_bound_to_declaration s i = same_ordinal (ordinal_in_search s i) s.declaration
 
--- returns true for a token that has the sought name and isn't bound to the declaration whose block
--- is searched
+-- returns whether a token has the sought name and isn't bound to the declaration whose block is searched
 abbrev pub has_name_and_other_binding : BlockSearch → ℕ → Bool
 has_name_and_other_binding s i = same_name (text_at s.source i) s.new && not (is_bound_to_declaration s i)
 
--- returns the ordinal of the last of these tokens that has the sought name and isn't bound to the
--- declaration itself; `found` if there is none
+-- Searches these tokens for the last one that has the sought name and isn't bound to the declaration itself. Returns
+-- that token's ordinal, or `found` if there is no such token.
 abbrev pub last_namesake : BlockSearch → Option ℕ → List ℕ → Option ℕ
 last_namesake s found [] = found
 last_namesake s found (i ∷ is) = last_namesake s (if has_name_and_other_binding s i then ordinal_in_search s i else found) is
 
--- Returns the last other declaration with the sought name among these tokens of a block. Returns
--- None if there is none, or if the declaration itself isn't among them.
+-- Returns the ordinal of the last other declaration with the sought name among these tokens of a block. Returns None if
+-- there is none, or if the declaration itself isn't among these tokens.
 abbrev pub namesake_among : BlockSearch → List ℕ → Option ℕ
 namesake_among s is = if list_any (is_bound_to_declaration s) is then last_namesake s None is else None
 

@@ -30,8 +30,8 @@ first_or first i = if is_some first then first else Some i
 abbrev pub with_use : ℕ → NamesInBody → NamesInBody
 with_use i names = record names { uses = names.uses ++ (i ∷ []) }
 
--- adds an identifier with its role to the names of a body; it is an occurrence only if it is looked
--- up
+-- adds an identifier with its role to the names of a body; the identifier is an occurrence only if its role is
+-- `LookedUp`
 abbrev pub with_name : Role → ℕ → NamesInBody → NamesInBody
 with_name role.LookedUp i names =
     record { first = first_or names.first i; uses = names.uses ++ (i ∷ []) }
@@ -40,17 +40,17 @@ with_name role.ClosingName i names = record names { first = first_or names.first
 with_name role.FieldName i names = record names { first = first_or names.first i }
 with_name role.ModuleName i names = record names { first = first_or names.first i }
 
--- returns the tokens of a list that are before a body
+-- returns the tokens of a list that are before a body in the text
 abbrev pub tokens_before_body : BodyRange → List ℕ → List ℕ
 tokens_before_body range [] = []
 tokens_before_body range (i ∷ is) =
     if nat_lt i range.first then i ∷ tokens_before_body range is else tokens_before_body range is
 
--- returns the new index of a token that is after the replaced body; at most 2^64 - 1
+-- returns the index in the changed text of a token after the replaced body, given its old index; at most 2^64 - 1
 abbrev pub shifted_token : BodyRange → ℕ → ℕ
 shifted_token range i = min (i - range.old_closing + range.closing) (2 ^ 64 - 1)
 
--- returns the tokens of a list that are after a body, with their new indexes
+-- returns the tokens of a list that are after a body in the text, with their new indexes
 abbrev pub tokens_after_body : BodyRange → List ℕ → List ℕ
 tokens_after_body range [] = []
 tokens_after_body range (i ∷ is) =
@@ -62,7 +62,7 @@ tokens_after_body range (i ∷ is) =
 abbrev pub carried_tokens : BodyRange → List ℕ → List ℕ → List ℕ
 carried_tokens range tokens own = tokens_before_body range tokens ++ (own ++ tokens_after_body range tokens)
 
--- returns the first `n` entries of a table; missing entries are None
+-- returns the first `n` entries of a table, filled up with None if the table is shorter
 abbrev pub padded : ℕ → List (Option ℕ) → List (Option ℕ)
 padded n table = take n table ++ replicate (n - length table) None
 
@@ -72,14 +72,13 @@ abbrev pub carried_ordinals : BodyRange → List (Option ℕ) → List (Option �
 carried_ordinals range table =
     padded range.closing (take range.first table) ++ drop range.old_closing table
 
--- returns the old index of the closing name after the replaced statements, given its new index; at
--- most 2^64 - 1
+-- returns the old token index of the closing name after the replaced statements, given its index in the changed text;
+-- at most 2^64 - 1
 abbrev pub old_closing_token : SameTokens → ℕ → ℕ
 old_closing_token same closing = min (closing - same.new_suffix + same.old_suffix) (2 ^ 64 - 1)
 
--- Holds if `range` is the range of the new statements in a module in which one body's statements
--- were replaced. `own` has the occurrences in these statements, and `b` has the bindings of the old
--- module.
+-- States that `range` is the range of the new statements in a module in which one body's statements were replaced.
+-- `own` has the occurrences in these statements, and `b` has the bindings of the old module.
 pub record IsNewBody (m : ParsedModule) (b : Bindings) (range : BodyRange) (own : List ℕ) : Type 0 where
   pub same : SameTokens
   pub was : WasBoundElsewhere m b same

@@ -7,26 +7,26 @@ use Rattle.ob0_scan.specs.declared.lexeme.TokenKind.TheVariants as kind
 use Rattle.ob0_language_names.specs.Scopes.{same_ordinal}
 use Rattle.ob0_scope_table.specs.Spans.{is_on}
 
--- returns true for the kind of an identifier
+-- returns whether this is the kind of an identifier
 abbrev pub is_identifier : TokenKind → Bool
 is_identifier kind.Identifier = true
 is_identifier (kind.ReservedWord word) = false
 is_identifier (kind.Integer value) = false
 is_identifier (kind.Symbol symbol) = false
 
--- returns true for an identifier that contains the place `offset` or ends there
+-- returns whether a token is an identifier that contains the byte offset `offset` or ends there
 abbrev pub is_identifier_on : ℕ → Token → Bool
 is_identifier_on offset t = is_identifier t.kind && is_on offset t.span
 
--- holds if each token has at least one byte and begins at or after the end of the token before it;
--- the first one begins at or after `from`
+-- States that each token has at least one byte and begins at or after the end of the token before it. The first token
+-- begins at or after the byte offset `from`.
 abbrev pub TokensAreApart : ℕ → List Token → Type 0
 TokensAreApart from [] = Unit {0}
 TokensAreApart from (t ∷ ts) =
     (from ≤ t.span.start) × ((t.span.start < t.span.end) × TokensAreApart t.span.end ts)
 
--- Returns the index of each entry of a table that equals the ordinal `d`, except the index
--- `omitted`. The first entry has the index `i`.
+-- Returns the index of each entry of a table that equals the ordinal `d`, except the index `omitted`. Indexes are
+-- counted from `i`, the index of the first entry.
 abbrev pub tokens_with_ordinal : Option ℕ → ℕ → ℕ → List (Option ℕ) → List ℕ
 tokens_with_ordinal omitted d i [] = []
 tokens_with_ordinal omitted d i (ordinal ∷ ordinals) =
@@ -34,8 +34,7 @@ tokens_with_ordinal omitted d i (ordinal ∷ ordinals) =
     then i ∷ tokens_with_ordinal omitted d (i + 1) ordinals
     else tokens_with_ordinal omitted d (i + 1) ordinals
 
--- returns the tokens from `first` upwards that have the ordinal `d` in a table, except the token
--- `omitted`
+-- returns the tokens with indexes of at least `first` that have the ordinal `d` in a table, except the token `omitted`
 abbrev pub tokens_bound_from : Option ℕ → ℕ → ℕ → List (Option ℕ) → List ℕ
 tokens_bound_from omitted d first ordinals = tokens_with_ordinal omitted d first (drop first ordinals)
 

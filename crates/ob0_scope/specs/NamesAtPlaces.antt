@@ -15,7 +15,7 @@ use Rattle.ob0_scope_table.specs.Spans.{is_on}
 use Rattle.ob0_language_names.specs.Scopes.{numbered, renamed}
 use Rattle.ob0_scope.specs.declared.naming.Named as named
 
--- an identifier: its role, its token, and its label
+-- an identifier: its role, its token, and its label, which has the ordinal of its declaration if it is bound
 abbrev pub BoundIdentifier : Type 0
 BoundIdentifier = (Role × ℕ) × Label
 
@@ -38,7 +38,7 @@ bound_name_of s = option_map (λ ordinal. record { token = s.0.1; ordinal = ordi
 abbrev pub name_on : ParsedModule → ℕ → Option named.Named
 name_on m offset = option_and_then bound_name_of (identifier_on m offset)
 
--- returns true for the role of a declaring identifier
+-- returns whether this is the role of a declaring identifier
 abbrev pub is_declaring : Role → Bool
 is_declaring role.Declaring = true
 is_declaring role.LookedUp = false
@@ -46,23 +46,23 @@ is_declaring role.ClosingName = false
 is_declaring role.FieldName = false
 is_declaring role.ModuleName = false
 
--- returns true for an identifier that is bound to the declaration with ordinal `d`; the declaring
--- one counts only if `include` is true
+-- returns whether an identifier is bound to the declaration with ordinal `d`; the declaring identifier counts only if
+-- `include` is true
 abbrev pub is_bound_to : Bool → ℕ → BoundIdentifier → Bool
 is_bound_to include d s = same_label s.1 (declared d) && (include || not (is_declaring s.0.0))
 
--- returns the tokens of the identifiers that are bound to the declaration with ordinal `d`; the
--- declaring one is among them only if `include` is true
+-- returns the tokens of the identifiers that are bound to the declaration with ordinal `d`; the declaring identifier is
+-- included only if `include` is true
 abbrev pub tokens_bound_to : ParsedModule → ℕ → Bool → List ℕ
 tokens_bound_to m d include = map (λ s. s.0.1) (filter (is_bound_to include d) (bound_identifiers m))
 
--- returns true if a token is in a list
+-- returns whether a token is in a list
 abbrev pub is_among : ℕ → List ℕ → Bool
 is_among i [] = false
 is_among i (x ∷ xs) = i == x || is_among i xs
 
--- Holds if renaming the declaration with ordinal `d` to any name writes this name at these tokens
--- and changes nothing else.
+-- States that renaming the declaration with ordinal `d`, to any name, writes this name at these tokens and changes
+-- nothing else.
 abbrev pub IsRenamedAt : ParsedModule → ℕ → List ℕ → Type 0
 IsRenamedAt m d tokens =
     (new : Name)

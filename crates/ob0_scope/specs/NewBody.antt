@@ -7,8 +7,8 @@ use Rattle.ob0_scope_table.specs.BodyReplaced.{IsBodyReplaced, WayToBody}
 use Rattle.ob0_scope_table.specs.Resolution.{IsResolution}
 use Rattle.ob0_scope_table.specs.declared.resolved.Bindings.{Bindings}
 
--- Holds if `b` has the bindings of an older module, and `m` is that module with the statements of
--- one body replaced. `s` says which tokens both have in common.
+-- States that `b` has the bindings of an older module, and that `m` is that module with the statements of one body
+-- replaced. `s` says which tokens both modules have in common.
 pub record WasBoundElsewhere (m : ParsedModule) (b : Bindings) (s : SameTokens) : Type 0 where
   pub old : ParsedModule
   pub way : WayToBody

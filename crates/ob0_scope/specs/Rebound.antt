@@ -8,8 +8,8 @@ use Rattle.ob0_scope_table.specs.Resolution.{IsResolution}
 use Rattle.ob0_scope_table.specs.declared.resolved.Bindings.{Bindings}
 use Rattle.std.specs.Prelude.{ℕ}
 
--- Holds if only tokens of one body changed, from `low` to before `high`, and `b` has the bindings
--- of the module before this change.
+-- States that only tokens of one body changed, and that `b` has the bindings of the module before this change. The
+-- changed tokens have the indexes from `low` up to, but not including, `high`.
 pub record WasBound (m : ParsedModule) (b : Bindings) (low high : ℕ) : Type 0 where
   pub old : TextWithTokens
   pub change : IsBodyChange old m low high

@@ -23,8 +23,8 @@ other_with_name [] d new = None
 other_with_name (b ∷ own) d new =
     if same_name b.0 new && not (b.1 == d) then Some b.1 else other_with_name own d new
 
--- returns the ordinal of a declaration with the name `new`, other than `d`, in a block that
--- declares `d`; None if there is none
+-- Returns the ordinal of a declaration with the name `new`, other than `d`, in a block that declares `d`. If several of
+-- these blocks have one, the first block counts. Returns None if there is no such declaration.
 abbrev pub namesake_in : List (Scope Name) → ℕ → Name → Option ℕ
 namesake_in [] d new = None
 namesake_in (own ∷ others) d new =
@@ -36,8 +36,7 @@ namesake_in (own ∷ others) d new =
 abbrev pub namesake : Tree Name module_text → ℕ → Name → Option ℕ
 namesake m d new = namesake_in (blocks_in predeclared_count [] (module_block m)) d new
 
--- converts a conflict of the code to a conflict of the definitions, which doesn't have the ordinal
--- of the other declaration
+-- converts a conflict of the code to a conflict of the definitions; this drops the ordinal of the other declaration
 abbrev pub conflict_of : reported.FirstConflict → NameConflict
 conflict_of (reports.Duplicate other) = at_declaration
 conflict_of (reports.Occurrence k) = at_occurrence k
@@ -49,7 +48,7 @@ other_declaration None = None
 other_declaration (Some (reports.Duplicate other)) = Some other
 other_declaration (Some (reports.Occurrence k)) = None
 
--- returns true if both names are bound to the same declaration, or neither is bound
+-- returns whether two names are bound to the same declaration, or both are unbound (None)
 abbrev pub have_same_binding : Option ℕ → Option ℕ → Bool
 have_same_binding None None = true
 have_same_binding None (Some k) = false
@@ -61,12 +60,12 @@ abbrev pub renamed_writing : Resolution → ℕ → Name → Spellings
 renamed_writing r d new =
     record { source = r.module_read.source; ordinals = r.ordinals; declaration = Some d; new = new }
 
--- holds if no token of a text has this spelling
+-- states that no token of a text has this spelling
 abbrev pub OccursNowhere : TextWithTokens → Name → Type 0
 OccursNowhere source x = (i : ℕ) → same_name (text_at source i) x ≡ false
 
--- Holds if the table has, for each identifier, the ordinal of its declaration in the module in
--- which `d` is renamed to `new`.
+-- States that the table has, for each identifier, the ordinal to which it is bound after the declaration `d` is renamed
+-- to `new`.
 abbrev pub IsRenumbering : Resolution → ℕ → Name → List (Option ℕ) → Type 0
 IsRenumbering r d new ordinals =
     numbered (renamed (named_tree_of r.module_read) d new)

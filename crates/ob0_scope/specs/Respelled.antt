@@ -11,14 +11,13 @@ use Rattle.ob0_scope_table.specs.FaultTokens.{AreWrittenAlike, moved_faults}
 use Rattle.ob0_scope_table.specs.Resolution.{IsResolution}
 use Rattle.ob0_scope_table.specs.declared.resolved.Bindings.{Bindings}
 
--- holds if the tokens of two texts have the same kinds, one by one, and their identifiers the same
--- spellings
+-- states that the tokens of two texts have the same kinds, one by one, and their identifiers the same spellings
 pub record AreNamedAlike (old new : TextWithTokens) : Type 0 where
   pub same_kinds : kinds new.tokens ≡ kinds old.tokens
   pub same_names : names_in new.text new.tokens ≡ names_in old.text old.tokens
 
--- The bindings of a valid module are also the bindings of its tree over the tokens of another text.
--- That text's tokens must have the same kinds, and its identifiers the same spellings.
+-- States that the bindings of a valid module are also the bindings of its tree over the tokens of another text. That
+-- text's tokens must have the same kinds, and its identifiers the same spellings.
 abbrev pub BindingsDependOnNames : Type 0
 BindingsDependOnNames =
     (old new : TextWithTokens) (tree : ModuleTree) (b : Bindings)
@@ -28,17 +27,16 @@ BindingsDependOnNames =
     → b.faults.items ≡ []
     → IsResolution (resolution_with (parsed_module new tree) b)
 
--- holds if the bindings `c` are the bindings `b` with each fault moved from the text `old` to the
--- same tokens of the text `new`
+-- states that the bindings `c` are the bindings `b` with each fault moved from the text `old` to the same tokens of the
+-- text `new`
 pub record AreMoved (old new : TextWithTokens) (b c : Bindings) : Type 0 where
   pub ordinals : c.ordinals.items ≡ b.ordinals.items
   pub declarations : c.declarations.items ≡ b.declarations.items
   pub occurrences : c.occurrences.items ≡ b.occurrences.items
   pub faults : c.faults.items ≡ moved_faults old new b.faults.items
 
--- The bindings of a module are also the bindings of its tree over another text, if the tokens of
--- both texts have the same spellings. Only the faults are moved to the same tokens of the other
--- text.
+-- States that the bindings of a module are also the bindings of its tree over another text. The tokens of both texts
+-- must have the same spellings. Only the spans of the faults change, to those tokens' places in the other text.
 abbrev pub BindingsMoveWithTokens : Type 0
 BindingsMoveWithTokens =
     (old new : TextWithTokens) (tree : ModuleTree) (b c : Bindings)

@@ -73,9 +73,9 @@ impl BodyNames {
     }
 }
 
-/// Returns the body around the token `low`: in the first procedure whose closing name isn't before
-/// `low`, or this block's own body if there is no such procedure. `own` is this block's closing
-/// name.
+/// Returns the body that contains the token `low`, if there is one. The result is in the first
+/// procedure whose closing name isn't before `low`. If there is no such procedure, the result is
+/// this block's own body. `own` is this block's closing name.
 #[cycle(blocks)]
 pub(crate) fn body_in<'t>(inner: &'t Block, own: usize, low: usize) -> ReplacedBody<'t>
     ensures statements { body_of result.statements.now
@@ -94,7 +94,8 @@ pub(crate) fn body_in<'t>(inner: &'t Block, own: usize, low: usize) -> ReplacedB
     }
 }
 
-/// Returns the body around the token `low`: the body of this procedure, or of one inside it.
+/// Returns the body that contains the token `low`, if there is one: the body of this procedure, or
+/// of a procedure inside it.
 #[cycle(blocks)]
 fn body_inside<'t>(p: &'t Procedure, low: usize) -> ReplacedBody<'t>
     ensures statements { body_of result.statements.now
@@ -105,8 +106,8 @@ fn body_inside<'t>(p: &'t Procedure, low: usize) -> ReplacedBody<'t>
     body_in(&p.block, p.closing, low)
 }
 
-/// Returns the old index of the closing name after the replaced statements, given its new index.
-/// A result over 2^64 - 1 becomes 2^64 - 1.
+/// Returns the old token index of the closing name that follows the replaced statements, given its
+/// index in the changed text. A result over 2^64 - 1 becomes 2^64 - 1.
 pub(crate) fn old_closing_token(same: SameTokens, closing: usize) -> usize
     ensures { result ≡ old_closing_token same closing }
 {
@@ -116,7 +117,8 @@ pub(crate) fn old_closing_token(same: SameTokens, closing: usize) -> usize
 }
 
 impl BodyRange {
-    /// Returns the new index of a token after the body, at most 2^64 - 1.
+    /// Returns the index in the changed text of a token that follows the body, given its old index.
+    /// A result over 2^64 - 1 becomes 2^64 - 1.
     fn shifted_token(self, token: usize) -> usize
         ensures { result ≡ shifted_token self token }
     {
@@ -125,7 +127,7 @@ impl BodyRange {
             .saturating_add(self.closing)
     }
 
-    /// Appends the tokens that are before the body.
+    /// Appends the tokens of the list `tokens` that are before the body in the text.
     fn append_tokens_before(self, out: &mut Vec<usize>, tokens: &[usize]) -> Result<(), AllocError>
         ensures { OnOk result (out.new.items ≡ out.old.items ++ tokens_before_body self tokens.now) }
     {
@@ -137,7 +139,8 @@ impl BodyRange {
         Ok(())
     }
 
-    /// Appends the tokens that are after the body, with their new indexes.
+    /// Appends the tokens of the list `tokens` that are after the body in the text, with their new
+    /// indexes.
     fn append_tokens_after(self, out: &mut Vec<usize>, tokens: &[usize]) -> Result<(), AllocError>
         ensures { OnOk result (out.new.items ≡ out.old.items ++ tokens_after_body self tokens.now) }
     {

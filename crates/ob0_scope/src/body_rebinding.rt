@@ -1,4 +1,4 @@
-//! Binds the names of a module again after the tokens of one body changed or its statements were
+//! Binds the names of a module again after tokens of one body changed or the body's statements were
 //! replaced.
 
 ghost use Rattle.std.specs.Prelude.{IfOk};
@@ -19,8 +19,9 @@ use ob0_tree::Module;
 use ob0_tree::walk::walk_body;
 use std::alloc::{AllocError, Global};
 
-/// Returns the bindings of a module after tokens of one body changed: from `low` up to, but not
-/// including, `high`. `old` has the bindings before. Only that body is numbered again.
+/// Returns the bindings of a module after tokens of one body changed. The changed tokens have the
+/// indexes from `low` up to, but not including, `_high`. `old` has the bindings before the change.
+/// Only that body is numbered again.
 pub fn rebind_body(
     alloc: Global,
     read: &Module<'_>,
@@ -53,7 +54,8 @@ pub fn rebind_body(
 }
 
 /// Returns the bindings of a module after the statements of one body were replaced. `old` has the
-/// bindings before. Only that body is numbered again; everything else is kept.
+/// bindings before the replacement. Only that body is numbered again. If it has no identifiers, all
+/// names are bound from scratch.
 pub fn rebind_new_body(
     alloc: Global,
     read: &Module<'_>,
@@ -80,8 +82,9 @@ pub fn rebind_new_body(
     carry_unchanged_bindings(alloc, read, &old, range, &names.uses)
 }
 
-/// Returns the bindings of a module after the statements in a range of tokens were replaced. `old` has the bindings
-/// before, and `own` the occurrences in the new statements. The new body's entries in the table are None.
+/// Returns the bindings of a module after the statements in a range of tokens were replaced. `old`
+/// has the bindings before the replacement, and `own` the occurrences in the new statements. Only
+/// the names in these statements are bound again.
 fn carry_unchanged_bindings(
     alloc: Global,
     read: &Module<'_>,

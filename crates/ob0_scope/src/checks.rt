@@ -1,7 +1,8 @@
 //! Finds the duplicate declarations and wrong closing names of a module.
 //!
-//! `FoundFaults` has the faults found so far, and each check appends its own faults. Up to 16 names of a
-//! block or record are compared with one another. If there are more, they are inserted into a set.
+//! `FoundFaults` has the faults found so far, and each check appends its own faults. If a block or
+//! record has at most 16 names, each name is compared with all names before it. If there are more,
+//! the names are inserted into a set.
 
 ghost use Rattle.std.specs.Prelude.{◌≡◌, ◌++◌, [], IfOk, OnOk, map, not};
 ghost use Rattle.std.specs.List.{list_any};
@@ -24,8 +25,8 @@ use std::alloc::{AllocError, Global};
 use std::collections::BTreeSet;
 use std::marker::Model;
 
-/// The greatest number of names that are compared with one another. More names are inserted into a
-/// set.
+/// The greatest number of names that are compared with one another. If there are more names, they
+/// are inserted into a set.
 const MAX_PAIRWISE: usize = 16;
 
 /// The duplicate declarations and wrong closing names that were found so far.
@@ -60,8 +61,8 @@ pub(crate) fn check_declarations<'t>(
     Ok(checks.into_faults())
 }
 
-/// Returns the duplicate declarations and wrong closing names of a module. `known` must contain such a fault exactly if
-/// the module has one. If `known` contains none, the module isn't walked.
+/// Returns the duplicate declarations and wrong closing names of a module. `known` must contain
+/// such a fault exactly if the module has one. If `known` contains none, the module isn't walked.
 pub(crate) fn recheck_declarations<'t>(
     alloc: Global,
     read: &'t Module<'t>,
@@ -77,7 +78,7 @@ pub(crate) fn recheck_declarations<'t>(
     Ok(Vec::new(alloc))
 }
 
-/// Returns true if one of the faults is a duplicate declaration or a wrong closing name.
+/// Returns whether one of the faults is a duplicate declaration or a wrong closing name.
 fn has_declaration_fault(faults: &[Fault]) -> bool
     ensures { result ≡ list_any is_declaration_fault faults.now }
 {
@@ -89,14 +90,14 @@ fn has_declaration_fault(faults: &[Fault]) -> bool
     false
 }
 
-/// Returns true if the fault is a duplicate declaration or a wrong closing name.
+/// Returns whether the fault is a duplicate declaration or a wrong closing name.
 fn is_declaration_fault(fault: &Fault) -> bool
     ensures { result ≡ is_declaration_fault fault.now }
 {
     fault.code == FaultCode::Duplicate || fault.code == FaultCode::EndName
 }
 
-/// Returns true if two identifiers have the same spelling.
+/// Returns whether two identifiers have the same spelling.
 fn have_same_spelling(tokens: &Tokens, a: usize, b: usize) -> bool
     ensures { result ≡ same_name (text_at tokens.now a) (text_at tokens.now b) }
 {
@@ -113,7 +114,7 @@ fn duplicate_fault(tokens: &Tokens, name: usize) -> Fault
     }
 }
 
-/// Returns true if one of these identifiers has the spelling `text`.
+/// Returns whether one of these identifiers has the spelling `text`.
 fn contains_spelling(tokens: &Tokens, names: &[usize], text: &str) -> bool
     ensures { result ≡ is_among text.now (map (text_at tokens.now) names.now) }
 {
@@ -241,7 +242,7 @@ impl FoundFaults {
         faults
     }
 
-    /// Reports the fault if the condition doesn't hold.
+    /// Reports the fault `fault` if `holds` is false.
     fn report_unless(&mut self, holds: bool, fault: Fault) -> Result<(), AllocError>
         ensures { OnOk result (self.new ≡ self.old ++ fault_unless holds fault) }
     {
@@ -251,7 +252,7 @@ impl FoundFaults {
         Ok(())
     }
 
-    /// Reports a closing name that isn't the name of its module or procedure.
+    /// Reports the closing name if it differs from the name of its module or procedure.
     fn closing(&mut self, tokens: &Tokens, name: usize, closing: usize) -> Result<(), AllocError>
         ensures { OnOk result (self.new ≡ self.old ++ closing_name_faults tokens.now name closing) }
     {
@@ -262,7 +263,7 @@ impl FoundFaults {
         self.report_unless(have_same_spelling(tokens, name, closing), fault)
     }
 
-    /// Reports each name that equals an earlier one.
+    /// Reports each name in the list that is spelled like an earlier name.
     fn report_duplicates(&mut self, tokens: &Tokens, names: &[usize]) -> Result<(), AllocError>
         ensures { OnOk result (self.new ≡ self.old ++ duplicate_faults tokens.now [] names.now) }
     {
@@ -273,8 +274,8 @@ impl FoundFaults {
         }
     }
 
-    /// Reports each name that equals an earlier one. Each name is compared with all names before
-    /// it, so there should be few.
+    /// Reports each name in the list that is spelled like an earlier name. Each name is compared
+    /// with all names before it, so the list should be short.
     fn report_duplicates_pairwise(
         &mut self,
         tokens: &Tokens,
@@ -289,8 +290,8 @@ impl FoundFaults {
         Ok(())
     }
 
-    /// Reports each name that equals an earlier one. Each name is looked up in the set of the names
-    /// before it.
+    /// Reports each name in the list that is spelled like an earlier name. Each name is looked up
+    /// in the set of the names before it.
     fn report_duplicates_by_set(
         &mut self,
         tokens: &Tokens,
@@ -397,7 +398,8 @@ impl FoundFaults {
         Ok(())
     }
 
-    /// Reports the wrong closing name and the duplicate declarations of a procedure and of the blocks inside it.
+    /// Reports the wrong closing name and the duplicate declarations of a procedure and of the
+    /// blocks inside it.
     #[cycle(blocks)]
     fn check_procedure(&mut self, tokens: &Tokens, p: &Procedure) -> Result<(), AllocError>
         ensures { OnOk result
@@ -410,8 +412,8 @@ impl FoundFaults {
         self.block(tokens, own, &p.block)
     }
 
-    /// Reports the duplicate declarations of a block and of the blocks inside it. `own` has the tokens of the
-    /// parameters, which count as declared in the block.
+    /// Reports the duplicate declarations of a block and of the blocks inside it. `own` has the
+    /// tokens of the parameters, which count as declared in the block.
     #[cycle(blocks)]
     fn block(&mut self, tokens: &Tokens, own: Vec<usize>, b: &Block) -> Result<(), AllocError>
         ensures { OnOk result

@@ -12,8 +12,8 @@ use ob0_tree::Module;
 use std::alloc::{AllocError, Global};
 
 /// Binds each name of a module to its declaration, according to the scope rules of Wirth's Compiler
-/// Construction. A name is visible after its declaration up to the end of its block, and an inner
-/// block may declare it again.
+/// Construction. A name is visible from its declaration to the end of the declaring block. An inner
+/// block may declare the name again.
 pub fn resolve<'t>(alloc: Global, module: &'t Module<'t>) -> Result<Resolved<'t>, AllocError>
     ensures { IfOk result (λ r. (r.module_read ≡ «module».now) × IsResolution r) }
 {
@@ -21,8 +21,8 @@ pub fn resolve<'t>(alloc: Global, module: &'t Module<'t>) -> Result<Resolved<'t>
     Ok(Resolved::new(module, bindings))
 }
 
-/// Returns the bindings of a module's names. They borrow nothing, so that they can be kept next to
-/// the module's tree.
+/// Returns the bindings of a module's names. The bindings borrow nothing, so that they can be kept
+/// next to the module's tree.
 pub fn bindings_of(alloc: Global, module: &Module<'_>) -> Result<Bindings, AllocError>
     ensures { IfOk result (λ b. IsResolution (resolution_with «module».now b)) }
 {

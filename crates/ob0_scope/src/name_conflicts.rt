@@ -1,9 +1,10 @@
 //! Finds the first conflict of a new name for a declaration.
 //!
-//! If no token of the text has the new name, the name is free and no walk is needed. Otherwise the
-//! first walk searches the same block for another declaration with that name, and examines each
-//! name once. The second walk finds the first occurrence whose ordinal changes if the new name is
-//! used. It takes O(n log n).
+//! If no token of the text has the new name, and the declaration isn't predeclared, the name is
+//! free and no walk is needed. Otherwise two walks are needed. The first walk searches the block of
+//! the declaration for another declaration with that name, and examines each name once. The second
+//! walk finds the first occurrence that would be bound to another declaration. This walk takes O(n
+//! log n) time for n names.
 
 ghost use Rattle.std.specs.Prelude.{◌≡◌, ◌↔◌, IfOk, None, not, option_map, true};
 ghost use Rattle.std.specs.List.{position_from};
@@ -24,13 +25,15 @@ use ob0_tree::{Block, Procedure, text_at};
 use std::alloc::{AllocError, Global};
 use std::marker::Model;
 
-/// The first conflict of a new name for a declaration, in text order.
+/// The first conflict of a new name for a declaration. A duplicate declaration counts before any
+/// occurrence. Occurrences count in text order.
 #[derive(Clone, Copy, Debug, PartialEq, Eq)]
 pub enum FirstConflict {
-    /// Another declaration of the same block has the name; this is its ordinal.
+    /// Another declaration of the same block has the name. The number is that declaration's
+    /// ordinal.
     Duplicate(usize),
-    /// An occurrence would be bound to another declaration; this is its number, counted from 0 in
-    /// text order.
+    /// An occurrence would be bound to another declaration. The number is the occurrence's index in
+    /// the list of all occurrences in text order, from 0.
     Occurrence(usize),
 }
 
@@ -59,7 +62,8 @@ pub fn captures(
     }
 }
 
-/// Returns true only if no token of the text has this spelling. For an empty name the result is false.
+/// Returns true only if no token of the text has this spelling. For an empty name the result is
+/// false.
 fn occurs_nowhere(tokens: &Tokens, name: &str) -> bool
     ensures { result ≡ true → OccursNowhere tokens.now name.now }
 {
@@ -74,8 +78,8 @@ fn occurs_nowhere(tokens: &Tokens, name: &str) -> bool
     true
 }
 
-/// Returns the first occurrence that would be bound to another declaration after a declaration is renamed to `new`.
-/// Returns None if there is none.
+/// Returns the conflict at the first occurrence that would be bound to another declaration after a
+/// declaration is renamed to `new`. Returns None if there is no such occurrence.
 fn first_captured_occurrence(
     alloc: Global,
     names: &Resolved,
@@ -94,8 +98,8 @@ fn first_captured_occurrence(
     }
 }
 
-/// Returns the number of the first occurrence to which this table gives another ordinal than the module's own table.
-/// Returns None if there is none.
+/// Returns the index of the first occurrence, among all occurrences in text order, to which this
+/// table gives another ordinal than the module's own table. Returns None if there is none.
 fn first_changed_occurrence(names: &Resolved, ordinals: &[OrdinalEntry]) -> Option<usize>
     ensures { result
         ≡ position_from (λ token. not
@@ -108,7 +112,7 @@ fn first_changed_occurrence(names: &Resolved, ordinals: &[OrdinalEntry]) -> Opti
     ))
 }
 
-/// Returns true if both names are bound to the same declaration, or neither is bound.
+/// Returns whether two names are bound to the same declaration, or both are unbound (None).
 fn have_same_binding(a: Option<usize>, b: Option<usize>) -> bool
     ensures { result ≡ have_same_binding a b }
 {
@@ -122,7 +126,8 @@ fn have_same_binding(a: Option<usize>, b: Option<usize>) -> bool
 }
 
 /// Returns the ordinal of another declaration with the name `new` in the block that declares
-/// `declaration`. If there are several, it is the last one. Returns None if there is none.
+/// `declaration`. If there are several, returns the ordinal of the last. Returns None if there is
+/// none.
 fn namesake(
     alloc: Global,
     names: &Resolved,
@@ -142,7 +147,7 @@ fn namesake(
 }
 
 /// A search for another declaration with a given name: the text, the ordinal to which each token is
-/// bound, the declaration whose block is searched, and the name.
+/// bound, the declaration whose block is searched, and the name (`new`).
 #[derive(Drop)]
 struct NamesakeSearch<'t> {
     tokens: &'t Tokens,
@@ -165,7 +170,7 @@ impl<'t> Model for NamesakeSearch<'t> {
 }
 
 impl<'t> NamesakeSearch<'t> {
-    /// Returns true if the token is bound to the declaration whose block is searched.
+    /// Returns whether the token is bound to the declaration whose block is searched.
     fn is_bound_to_declaration(&self, token: usize) -> bool
         ensures { result ≡ is_bound_to_declaration self.now token }
     {
@@ -175,7 +180,8 @@ impl<'t> NamesakeSearch<'t> {
         }
     }
 
-    /// Returns true if a token has the sought name and isn't bound to the declaration whose block is searched.
+    /// Returns whether a token has the sought name and isn't bound to the declaration whose block
+    /// is searched.
     fn has_name_and_other_binding(&self, token: usize) -> bool
         ensures { result ≡ has_name_and_other_binding self.now token }
     {
@@ -199,8 +205,9 @@ impl<'t> NamesakeSearch<'t> {
         if is_here { found } else { None }
     }
 
-    /// Searches a block, then the blocks inside it, and returns the ordinal that is found, or None.
-    /// `own` has the tokens of the parameters, which count as declared in the block.
+    /// Searches a block, then the blocks inside it. Returns the ordinal of the declaration that is
+    /// found, or None. `own` has the tokens of the parameters, which count as declared in the
+    /// block.
     #[cycle(blocks)]
     fn block(&self, alloc: Global, own: Vec<usize>, b: &Block) -> Result<Option<usize>, AllocError>
         ensures { IfOk result
@@ -215,8 +222,8 @@ impl<'t> NamesakeSearch<'t> {
         Ok(found)
     }
 
-    /// Searches the block of a procedure, whose parameters count as declared in the block. Returns
-    /// the ordinal that is found, or None.
+    /// Searches the block of a procedure. The procedure's parameters count as declared in the
+    /// block. Returns the ordinal of the declaration that is found, or None.
     #[cycle(blocks)]
     fn find_in_procedure(&self, alloc: Global, p: &Procedure) -> Result<Option<usize>, AllocError>
         ensures { IfOk result (λ other. other ≡ found_in_procedure self.now (procedure_of p.now)) }

@@ -1,8 +1,9 @@
 //! Finds the name at a place of a module's text, and the tokens that refer to a declaration.
 //!
-//! The definitions pair the identifiers of the tree, each with its role and token, with the labels of the numbered
-//! tree. They don't use a table of ordinals. The code reads the tokens of a declaration from the table, starting at the
-//! declaring token, and doesn't walk the tree.
+//! The definitions pair each identifier of the tree, with its role and token, with its label in the
+//! numbered tree. The definitions don't use a table of ordinals. The code doesn't walk the tree. It
+//! reads the tokens that are bound to a declaration from the table of ordinals, starting at the
+//! declaring token.
 
 ghost use Rattle.std.specs.Prelude.{◌≡◌, ◌≤◌, IfOk, false, length, nat_lt, true};
 ghost use Rattle.std.specs.List.{position_from};
@@ -23,9 +24,9 @@ pub struct Named {
     pub ordinal: usize,
 }
 
-/// Returns the name that contains a place, as a byte offset, or ends there. The name may be predeclared. A closing name
-/// of a procedure counts as the procedure's name. Returns None at a field, at the module's name, at an unbound name,
-/// and if there is no name.
+/// Returns the name that contains the byte offset `offset` or ends there. The name may be
+/// predeclared. A closing name of a procedure counts as the procedure's name. Returns None at a
+/// field, at the module's name, at an unbound name, and if there is no name.
 pub fn name_at(names: &Resolved, offset: usize) -> Option<Named>
     ensures { result ≡ name_on names.now.module_read offset }
 {
@@ -41,8 +42,9 @@ pub fn name_at(names: &Resolved, offset: usize) -> Option<Named>
     }
 }
 
-/// Returns the tokens that are bound to a declaration, in text order, including a procedure's closing name. The
-/// declaring token is one of them only if `include` is true.
+/// Returns the tokens that are bound to the declaration with the ordinal `declaration`, in text
+/// order, including a procedure's closing name. The declaring token is included only if `include`
+/// is true.
 pub fn tokens_bound_to(
     alloc: Global,
     names: &Resolved,
@@ -71,7 +73,8 @@ fn omitted_token(include: bool, declaring: Option<usize>) -> Option<usize>
     if include { None } else { declaring }
 }
 
-/// Returns the first token that can refer to a declaration: the declaring token, or 0 for a predeclared name.
+/// Returns the first token that can refer to a declaration: the declaring token, or 0 for a
+/// predeclared name.
 fn first_bound_token(declaring: Option<usize>) -> usize
     ensures { result ≡ first_bound_token declaring }
 {
@@ -81,7 +84,8 @@ fn first_bound_token(declaring: Option<usize>) -> usize
     }
 }
 
-/// Returns the tokens from `first` upwards that a table binds to a declaration, without the omitted token.
+/// Returns the tokens with indexes of at least `first` that a table of ordinals binds to a
+/// declaration, except the token `omitted`.
 fn tokens_bound_from(
     alloc: Global,
     ordinals: &[OrdinalEntry],
@@ -101,8 +105,8 @@ fn tokens_bound_from(
     Ok(found)
 }
 
-/// Returns the tokens at which renaming a declaration changes the text: the declaring token, a procedure's closing
-/// name, and the occurrences bound to the declaration.
+/// Returns the tokens at which renaming a declaration changes the text: the declaring token, a
+/// procedure's closing name, and the occurrences bound to the declaration.
 pub fn tokens_changed_by_rename(
     alloc: Global,
     names: &Resolved,
@@ -122,9 +126,9 @@ pub fn tokens_changed_by_rename(
     tokens_bound_to(alloc, names, declaration, true)
 }
 
-/// Returns the index of the first identifier that contains a place or ends there, found by binary
-/// search. Only the first token that doesn't end before the place, and the token after it, can be
-/// that identifier. Returns None if neither of them is such an identifier.
+/// Returns the token index of the first identifier that contains the byte offset `offset` or ends
+/// there, found by binary search. Only the first token that doesn't end before `offset`, and the
+/// token after it, can be that identifier. Returns None if neither token is.
 fn first_identifier_on(tokens: &[Token], offset: usize) -> Option<usize>
     ensures { TokensAreApart 0 tokens.now
         → result ≡ position_from (is_identifier_on offset) 0 tokens.now }
@@ -146,7 +150,7 @@ fn first_identifier_on(tokens: &[Token], offset: usize) -> Option<usize>
     None
 }
 
-/// Returns the number of tokens that end before a place.
+/// Returns the number of tokens that end before the byte offset `offset`.
 fn count_ended_before(tokens: &[Token], offset: usize) -> usize
     ensures bound { result ≤ length tokens.now }
     ensures point { IsNonDecreasingBy (λ (t : token.Token). t.span.end) tokens.now
@@ -156,7 +160,7 @@ fn count_ended_before(tokens: &[Token], offset: usize) -> usize
     tokens.partition_point(|token| (token.span.end as usize) < offset)
 }
 
-/// Returns true if the token is an identifier that contains the place, as a byte offset, or ends there.
+/// Returns whether the token is an identifier that contains the byte offset `offset` or ends there.
 fn is_identifier_on(token: &Token, offset: usize) -> bool
     ensures { result ≡ is_identifier_on offset token.now }
 {
@@ -165,7 +169,7 @@ fn is_identifier_on(token: &Token, offset: usize) -> bool
         && offset <= token.span.end as usize
 }
 
-/// Returns true for the kind of an identifier.
+/// Returns whether `kind` is the kind of an identifier.
 fn is_identifier(kind: TokenKind) -> bool
     ensures { result ≡ is_identifier kind }
 {

@@ -12,9 +12,9 @@ use ob0_scope_numbering::{Spellings, number_identifiers};
 use ob0_scope_table::{OrdinalEntry, Resolved};
 use std::alloc::{AllocError, Global};
 
-/// Returns an entry for each occurrence of a module in text order: the ordinal of the declaration
-/// to which `name` would be bound if it replaced the occurrence. The entry is None if `name` would
-/// be unbound.
+/// Returns an entry for each occurrence of a module, in text order. The entry is the ordinal to
+/// which `name` would be bound if it replaced the occurrence. The entry is None if `name` would be
+/// unbound there.
 pub fn resolve_at_occurrences(
     alloc: Global,
     names: &Resolved,
@@ -27,8 +27,7 @@ pub fn resolve_at_occurrences(
     ordinals_at(alloc, &ordinals, names.occurrences())
 }
 
-/// Returns a table with the ordinal of each identifier, by token, in the module in which `name` replaces each
-/// occurrence.
+/// Returns the table of ordinals, by token, of the module in which `name` replaces each occurrence.
 fn number_with_replacement(
     alloc: Global,
     names: &Resolved,

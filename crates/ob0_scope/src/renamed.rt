@@ -11,9 +11,10 @@ use ob0_scope_numbering::{Spellings, number_identifiers};
 use ob0_scope_table::{OrdinalEntry, Resolved, ordinal_at};
 use std::alloc::{AllocError, Global};
 
-/// Returns, for each occurrence of the module in text order, the ordinal of its declaration after a declaration is
-/// renamed to `new`. All names bound to the declaration are renamed with it. An entry is None if the occurrence would
-/// be unbound.
+/// Returns an entry for each occurrence of the module, in text order, after a declaration is
+/// renamed to `new`. The entry is the ordinal of the declaration to which the occurrence would be
+/// bound, or None if it would be unbound. All names bound to the renamed declaration are renamed
+/// with it.
 pub fn resolve_renamed(
     alloc: Global,
     names: &Resolved,
@@ -28,7 +29,8 @@ pub fn resolve_renamed(
     ordinals_at(alloc, &ordinals, names.occurrences())
 }
 
-/// Returns the table of ordinals, by token, after a declaration is renamed to `new`.
+/// Returns the table of ordinals, by token, after the declaration with the ordinal `declaration` is
+/// renamed to `new`.
 pub(crate) fn renumber(
     alloc: Global,
     names: &Resolved,

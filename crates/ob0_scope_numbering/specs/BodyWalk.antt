@@ -1,5 +1,5 @@
--- The walk over a module's identifiers to the body that contains a token. It visits the
--- declarations on the way to the body, and the body's statements.
+-- Defines the walk over a module's identifiers to the body that contains a token. The walk visits
+-- the declarations on the way to the body, and the body's statements.
 -- Rule: none; for contracts of the walk over identifiers.
 use Rattle.std.specs.Prelude.{ℕ, ◌+◌, nat_lt, List, [], ◌∷◌, ◌++◌, Option, length, drop, if◌then◌else◌}
 use Rattle.ob0_tree.specs.Tree.{Tree, block, body, declares, declares_procedure, end, has_body, is_module, item, items, maybe, module_text, more, procedure}
@@ -11,41 +11,42 @@ use Rattle.ob0_scope_numbering.specs.IdentifierWalk.{WalkState, state_after_head
 use Rattle.ob0_scope_numbering.specs.Written.{Spellings}
 use Rattle.ob0_scope_table.specs.OneBody.{closing_name}
 
--- returns the longest prefix of a list whose tokens are all before this one
+-- returns the longest prefix of a list of tokens in which all tokens are before `token`
 abbrev pub prefix_before : ℕ → List ℕ → List ℕ
 prefix_before token [] = []
 prefix_before token (x ∷ xs) = if nat_lt x token then x ∷ prefix_before token xs else []
 
--- appends the further declarations before a token to the list of declarations, without visiting
--- them; `all` has the declaring tokens of the whole module
+-- Appends the declarations before a token that aren't in the list of declarations yet, without
+-- visiting them. `all` has the declaring tokens of the whole module, in text order.
 abbrev pub with_declarations_before : {M : Type 0} → List ℕ → ℕ → WalkState M → WalkState M
 with_declarations_before all token v =
     record v {
       declarations = v.declarations ++ prefix_before token (drop (length v.declarations) all);
     }
 
--- appends a declaration to the list of declarations, without visiting it
+-- appends this declaring token to the list of declarations, without visiting the declaration
 abbrev pub with_declaration : {M : Type 0} → ℕ → WalkState M → WalkState M
 with_declaration token v = record v { declarations = v.declarations ++ (token ∷ []) }
 
--- makes the procedure's name at the token `x` visible with the next ordinal, and skips the
--- procedure itself
+-- makes the name of the procedure that is declared at the token `x` visible with the next ordinal,
+-- without visiting the procedure
 abbrev pub with_procedure_skipped : {M : Type 0} → ℕ → WalkState M → WalkState M
 with_procedure_skipped x v = show_declaration x (predeclared_count + length v.declarations) v
 
--- `put_ordinal` adds the ordinal of the identifier at a token to the ordinals so far. `all` has the
--- module's declaring tokens. The walk goes to the body that contains the token `low`.
+-- In the following definitions, `put_ordinal` adds the ordinal of the identifier at a token to the
+-- ordinals so far. `all` has the declaring tokens of the whole module. The walk goes to the body
+-- that contains the token `low`.
 module _ {M : Type 0} (put_ordinal : ℕ → Option ℕ → M → M) (all : List ℕ) (low : ℕ) where
   abbrev mutual
-    -- visits a block: its constants, types and variables, and then the procedure that contains the
-    -- token `low`, or the block's statements if there is no such procedure
+    -- Visits a block: its constants, types and variables, and then only the procedure that contains
+    -- the token `low`. If there is no such procedure, visits the block's statements.
     pub renumber_block : Tree ℕ block → WalkState M → WalkState M
     renumber_block (has_body (declares cs ts vs ps) statements) v =
         renumber_procedures ps statements
         (visit_variable_section put_ordinal vs (visit_type_section put_ordinal ts (visit_constant_section put_ordinal cs v)))
 
-    -- visits the first procedure whose closing name isn't before `low`, after passing over the
-    -- procedures before it; if there is none, visits the statements
+    -- Visits the first procedure whose closing name isn't before the token `low`. The procedures
+    -- before it only become visible. If there is no such procedure, visits the statements.
     pub renumber_procedures : Tree ℕ (items procedure) → Tree ℕ (maybe body) → WalkState M → WalkState M
     renumber_procedures end statements v = visit_part put_ordinal statements v
     renumber_procedures (more p ps) statements v =
@@ -71,7 +72,7 @@ initial_walk_over writing table =
       marks = table;
     }
 
--- returns the state after the visit of the body that contains the token `low`; `all` has the
--- module's declaring tokens
+-- Returns the state after the walk to the body that contains the token `low`. `all` has the
+-- declaring tokens of the whole module.
 abbrev pub renumber_module : List ℕ → ℕ → Tree ℕ module_text → tabling.WalkState → tabling.WalkState
 renumber_module all low (is_module x b closing) v = renumber_block tabling.put_ordinal all low b v

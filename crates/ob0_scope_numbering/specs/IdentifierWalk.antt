@@ -1,5 +1,5 @@
--- The walk over a module's identifiers in text order: the state after each part. How the ordinals
--- are collected is a parameter (`put_ordinal`).
+-- Defines the walk over a module's identifiers in text order, by the state after each part of the
+-- module. The parameter `put_ordinal` says how the ordinals are collected.
 -- Rule: none; for contracts of the walk over identifiers.
 use Rattle.std.specs.Prelude.{ℕ, ◌+◌, ◌-◌, List, [], ◌∷◌, ◌++◌, Option, Some, None, map, length, drop}
 use Rattle.ob0_tree.specs.declared.tree.Role.{Role}
@@ -12,8 +12,9 @@ use Rattle.ob0_language_names.specs.Parts.{names_in_list}
 use Rattle.ob0_language_names.specs.Scopes.{Scope, declare_names, ordinal_of, predeclared_count}
 
 -- The state of the walk. `writing` has the spellings of all identifiers, and `scope` the visible
--- names. The other parts are about the identifiers visited so far. `declarations` has the tokens of
--- declaring names, `uses` the tokens of looked-up names, and `marks` the ordinals of all.
+-- names. The other fields are about the identifiers visited so far. `declarations` has the tokens
+-- of declaring names, `uses` the tokens of looked-up names, and `marks` the ordinals of all
+-- identifiers.
 pub record WalkState (M : Type 0) : Type 0 where
   pub writing : Spellings
   pub scope : Scope Name
@@ -21,12 +22,12 @@ pub record WalkState (M : Type 0) : Type 0 where
   pub uses : List ℕ
   pub marks : M
 
--- makes the name at the token `i` visible as the declaration with this ordinal
+-- makes the name at the token `i` visible, bound to the declaration with this ordinal
 abbrev pub show_declaration : {M : Type 0} → ℕ → ℕ → WalkState M → WalkState M
 show_declaration i ordinal v = record v { scope = (spelling_at v.writing i, ordinal) ∷ v.scope }
 
--- makes the names of the declarations so far visible, except the first `first`; predeclared names
--- aren't counted
+-- Makes the names of the declarations so far visible, in order. The first `first` declarations are
+-- left out. Predeclared names don't count as declarations here.
 abbrev pub show_declarations_from : {M : Type 0} → ℕ → WalkState M → WalkState M
 show_declarations_from first v =
     record v {
@@ -34,13 +35,13 @@ show_declarations_from first v =
           = declare_names (predeclared_count + first) (map (spelling_at v.writing) (drop first v.declarations)) v.scope;
     }
 
--- keeps only the oldest `len` bindings of the scope
+-- removes all bindings of the scope except the oldest `len`
 abbrev pub truncate_scope : {M : Type 0} → ℕ → WalkState M → WalkState M
 truncate_scope len v = record v { scope = drop (length v.scope - len) v.scope }
 
--- Returns the state after the heading of a procedure. `own` is the number of declarations before
--- the procedure, and `outside` the number of bindings before it. The bindings of the parameters are
--- removed. Then the procedure and its parameters are bound, in this order.
+-- Returns the state after the heading of a procedure. First, the bindings of the parameters are
+-- removed. Then the procedure and its parameters are bound, in this order. `own` is the number of
+-- declarations before the procedure, and `outside` the number of bindings before the procedure.
 abbrev pub state_after_heading : {M : Type 0} → ℕ → ℕ → WalkState M → WalkState M
 state_after_heading own outside v = show_declarations_from own (truncate_scope outside v)
 
@@ -49,14 +50,15 @@ state_after_heading own outside v = show_declarations_from own (truncate_scope o
 abbrev pub leave_block : {M : Type 0} → ℕ → ℕ → ℕ → WalkState M → WalkState M
 leave_block x ordinal outside v = show_declaration x ordinal (truncate_scope outside v)
 
--- The following definitions are for any `put_ordinal`, which adds the ordinal of the identifier at
--- a token to the ordinals so far.
+-- The following definitions are for any function `put_ordinal`. It adds the ordinal of the
+-- identifier at a token to the ordinals so far.
 module _ {M : Type 0} (put_ordinal : ℕ → Option ℕ → M → M) where
-  -- gives the identifier at the token `i` this ordinal; None means that it has no ordinal
+  -- gives the identifier at the token `i` this ordinal, or no ordinal (None)
   abbrev pub with_mark : ℕ → Option ℕ → WalkState M → WalkState M
   with_mark i ordinal v = record v { marks = put_ordinal i ordinal v.marks }
 
-  -- appends the declaring name at the token `i` to the declarations, and gives it the next ordinal
+  -- appends the token `i` of a declaring name to the declarations, and gives this name the next
+  -- ordinal
   abbrev pub number_declaration : ℕ → WalkState M → WalkState M
   number_declaration i v =
       record v {
@@ -68,8 +70,8 @@ module _ {M : Type 0} (put_ordinal : ℕ → Option ℕ → M → M) where
   number_declarations [] v = v
   number_declarations (i ∷ is) v = number_declarations is (number_declaration i v)
 
-  -- visits an identifier in a part that declares nothing; a looked-up name gets the ordinal of its
-  -- declaration, any other name none
+  -- Visits the identifier at the token `i` in a part that declares nothing. A looked-up name gets
+  -- the ordinal of its declaration, or None if the name is unbound. Any other identifier gets None.
   abbrev pub visit_identifier : Role → ℕ → WalkState M → WalkState M
   visit_identifier role.LookedUp i v =
       record v {
@@ -88,7 +90,7 @@ module _ {M : Type 0} (put_ordinal : ℕ → Option ℕ → M → M) where
   abbrev pub visit_part : {s : Sort} → Tree ℕ s → WalkState M → WalkState M
   visit_part t v = state_after_visit visit_identifier t v
 
-  -- visits the declaration of a constant, whose name is visible after it
+  -- visits the declaration of a constant, and then makes the constant's name visible
   abbrev pub visit_constant : Tree ℕ (item constant) → WalkState M → WalkState M
   visit_constant (declares_constant x e) v =
       show_declarations_from (length v.declarations) (visit_part e (number_declaration x v))

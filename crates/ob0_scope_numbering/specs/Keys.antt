@@ -1,5 +1,5 @@
--- The keys of names in a map. A key is a name preceded by a number made of its last bytes, which
--- distinguish most names.
+-- Defines the keys of names in a map. A key is a name preceded by a number made of the name's last
+-- eight bytes, which distinguish most names.
 -- Rule: none; for private contracts: keys of a map.
 use Rattle.std.specs.Prelude.{ℕ, ◌+◌, ◌-◌, ◌*◌, ◌%◌, ◌^◌, List, [], ◌∷◌, drop, length}
 use Rattle.std.specs.Borrow.{Bor}
@@ -8,21 +8,20 @@ use Rattle.std.specs.Cmp.Lexicographic.{slice_cmp}
 use Rattle.std.specs.Ordering.{nat_cmp, ordering_then}
 use Rattle.ob0_language_names.specs.Names.{Name}
 
--- Appends a byte to a number as its last digit. Digits count to the base 256, and the result is
--- reduced modulo 2^64.
+-- appends a byte to a number as its last digit to the base 256, modulo 2^64
 abbrev pub append_byte : ℕ → ℕ → ℕ
 append_byte number byte = (number * 256 % 2 ^ 64 + byte) % 2 ^ 64
 
--- appends bytes to a number as its last digits; only the last eight bytes matter
+-- appends bytes to a number, one after another, as its last digits to the base 256, modulo 2^64
 abbrev pub append_bytes : List ℕ → ℕ → ℕ
 append_bytes [] number = number
 append_bytes (byte ∷ bytes) number = append_bytes bytes (append_byte number byte)
 
--- returns the number of a name, made of its last eight bytes
+-- returns the number that precedes a name in its key, made of the name's last eight bytes
 abbrev pub suffix_number : Name → ℕ
 suffix_number x = append_bytes (drop (length x - 8) x) 0
 
--- a name preceded by its number
+-- a key of the map: a name preceded by the number made of its last eight bytes
 abbrev pub Key : Type 0
 Key = ℕ × Bor Name
 
@@ -30,6 +29,6 @@ Key = ℕ × Bor Name
 abbrev pub compare_keys : Key → Key → Ordering
 compare_keys a b = ordering_then (nat_cmp a.0 b.0) (slice_cmp nat_cmp a.1.now b.1.now)
 
--- compares a name with a key by their numbers, and by the names if the numbers are equal
+-- compares a name with a key by their numbers, and by their names if the numbers are equal
 abbrev pub compare_name_with_key : Name → Key → Ordering
 compare_name_with_key x key = ordering_then (nat_cmp (suffix_number x) key.0) (slice_cmp nat_cmp x key.1.now)

@@ -1,5 +1,5 @@
--- The walk over a module's identifiers in text order, which collects their ordinals in a list of
--- marks. It visits as `IdentifierWalk` defines.
+-- Defines the walk over a module's identifiers in text order that collects their ordinals in a list
+-- of marks. The order of the visits is defined in `IdentifierWalk`.
 -- Rule: none; for contracts of the walk over identifiers.
 use Rattle.std.specs.Prelude.{ℕ, List, [], ◌∷◌, ◌++◌, Option}
 use Rattle.ob0_scope_numbering.specs.Marks.{OrdinalMark}
@@ -14,7 +14,7 @@ use Rattle.ob0_scope_numbering.specs.Written.{Spellings}
 abbrev pub WalkState : Type 0
 WalkState = visit.WalkState (List OrdinalMark)
 
--- appends a mark to a list: a token with its ordinal
+-- appends to a list the mark that gives the token `i` this ordinal
 abbrev pub put_ordinal : ℕ → Option ℕ → List OrdinalMark → List OrdinalMark
 put_ordinal i ordinal ms = ms ++ (record { token = i; ordinal = ordinal } ∷ [])
 
@@ -112,13 +112,13 @@ visit_procedure = visit.visit_procedure put_ordinal
 abbrev pub visit_module : Tree ℕ module_text → WalkState → WalkState
 visit_module = visit.visit_module put_ordinal
 
--- returns the state after making declarations visible, in the walk that collects marks; the number
--- says how many of the first declarations so far are left out
+-- Returns the state after making the declarations so far visible, in the walk that collects marks.
+-- The number says how many of the first declarations are left out.
 abbrev pub show_declarations_from : ℕ → WalkState → WalkState
 show_declarations_from = visit.show_declarations_from
 
--- returns the state that keeps only this many of the oldest bindings, in the walk that collects
--- marks
+-- returns the state after removing all bindings except this many of the oldest ones, in the walk
+-- that collects marks
 abbrev pub truncate_scope : ℕ → WalkState → WalkState
 truncate_scope = visit.truncate_scope
 
@@ -130,7 +130,7 @@ state_after_heading = visit.state_after_heading
 abbrev pub leave_block : ℕ → ℕ → ℕ → WalkState → WalkState
 leave_block = visit.leave_block
 
--- returns the state before the first identifier of a module, with no marks
+-- returns the state before the first identifier of a module, with an empty list of marks
 abbrev pub initial_walk : Spellings → WalkState
 initial_walk writing =
     record {

@@ -1,5 +1,5 @@
--- A scope as the code stores it: bindings, oldest first, each with the index of the binding that it
--- hides.
+-- Defines a scope as the code stores it: bindings, oldest first, each with the index of the binding
+-- that it hides.
 -- Rule: none; for contracts: a scope as it is stored.
 use Rattle.std.specs.Prelude.{◌≡◌, ℕ, List, [], ◌∷◌, Option, Some, None, if◌then◌else◌, map, length, reverse}
 use Rattle.ob0_scope_numbering.specs.declared.visible.Binding.{Binding}
@@ -12,20 +12,20 @@ use Rattle.ob0_language_names.specs.Scopes.{Scope}
 abbrev pub scope_of : List Binding → Scope Name
 scope_of bindings = map (λ b. (b.name.now, b.ordinal)) (reverse bindings)
 
--- Returns the index of a name's newest binding, counted from the oldest one. The bindings are given
--- newest first. Returns None if the name has no binding.
+-- Returns the index of a name's newest binding, counted from the oldest of the bindings. The
+-- bindings are given newest first. Returns None if the name has no binding.
 abbrev pub newest_binding_index : Name → List Binding → Option ℕ
 newest_binding_index x [] = None
 newest_binding_index x (b ∷ bs) = if same_name x b.name.now then Some (length bs) else newest_binding_index x bs
 
--- Holds if each binding has the index, counted from the oldest, of the binding that it hides, or
--- None if it hides none. The bindings are given newest first.
+-- States that each binding has the index, counted from the oldest one, of the binding that it
+-- hides, or None if it hides none. The bindings are given newest first.
 abbrev pub HaveHiddenIndexes : List Binding → Type 0
 HaveHiddenIndexes [] = Unit {0}
 HaveHiddenIndexes (b ∷ bs) = (b.hidden ≡ newest_binding_index b.name.now bs) × HaveHiddenIndexes bs
 
--- Holds if the list has the index of each name's newest binding, and each binding has the index of
--- the binding that it hides. The bindings are given oldest first.
+-- States that the list `newest` has the index of each name's newest binding. Also, each binding has
+-- the index of the binding that it hides. The bindings are given oldest first.
 pub record HasNewestBindings (newest : List BoundName) (bindings : List Binding) : Type 0 where
   pub found : (x : Name) → newest_binding_in newest x ≡ newest_binding_index x (reverse bindings)
   pub hidden : HaveHiddenIndexes (reverse bindings)
@@ -35,18 +35,19 @@ pub record VisibleNames : Type 0 where
   pub new_name : Name
   pub scope : Scope Name
 
--- replaces the scope, and keeps the new name
+-- returns these visible names with another scope and the same new name
 abbrev pub with_scope : VisibleNames → Scope Name → VisibleNames
 with_scope v scope = record { new_name = v.new_name; scope = scope }
 
--- holds if each binding has the position of its name in the list `newest`
+-- states that each binding has the position of its name in the list `newest`
 abbrev pub HaveNamePlaces : List BoundName → List Binding → Type 0
 HaveNamePlaces newest [] = Unit {0}
 HaveNamePlaces newest (b ∷ bs) =
     (place_of newest b.name.now ≡ Some b.place) × HaveNamePlaces newest bs
 
--- Holds if the list has the index of each name's newest binding, and each binding has its name's
--- position. The new name has the first position.
+-- States that the list `newest` has the index of each name's newest binding. Each binding has the
+-- index of the binding that it hides, and the position of its name in the list. The new name has
+-- the first position.
 pub record IsConsistentScope (new : Name) (newest : List BoundName) (bindings : List Binding) : Type 0 where
   pub is : HasNewestBindings newest bindings
   pub placed : HaveNamePlaces newest bindings

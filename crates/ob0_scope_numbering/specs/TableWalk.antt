@@ -1,5 +1,5 @@
--- The walk over a module's identifiers in text order, which enters their ordinals into a table by
--- token. It visits as `IdentifierWalk` defines.
+-- Defines the walk over a module's identifiers in text order that enters their ordinals into a
+-- table by token index. The order of the visits is defined in `IdentifierWalk`.
 -- Rule: none; for contracts of the walk over identifiers.
 use Rattle.std.specs.Prelude.{ℕ, List, [], Option, None, length, replicate, slice_set}
 use Rattle.ob0_tree.specs.declared.tree.Role.{Role}
@@ -16,8 +16,8 @@ use Rattle.ob0_scope_numbering.specs.Written.{Spellings}
 abbrev pub WalkState : Type 0
 WalkState = visit.WalkState (List (Option ℕ))
 
--- writes an ordinal into a table at a token; an ordinal that is too large for an entry is stored as
--- the greatest one that fits
+-- Writes an ordinal, or None, into a table at the index of the token `i`. An ordinal that is too
+-- large for an entry is stored as the greatest ordinal that fits.
 abbrev pub put_ordinal : ℕ → Option ℕ → List (Option ℕ) → List (Option ℕ)
 put_ordinal i ordinal table = slice_set table i (stored_ordinal ordinal)
 
@@ -117,13 +117,13 @@ visit_module = visit.visit_module put_ordinal
 abbrev pub show_declaration : ℕ → ℕ → WalkState → WalkState
 show_declaration = visit.show_declaration
 
--- returns the state after making declarations visible, in the walk that fills a table; the number
--- says how many of the first declarations so far are left out
+-- Returns the state after making the declarations so far visible, in the walk that fills a table.
+-- The number says how many of the first declarations are left out.
 abbrev pub show_declarations_from : ℕ → WalkState → WalkState
 show_declarations_from = visit.show_declarations_from
 
--- returns the state that keeps only this many of the oldest bindings, in the walk that fills a
--- table
+-- returns the state after removing all bindings except this many of the oldest ones, in the walk
+-- that fills a table
 abbrev pub truncate_scope : ℕ → WalkState → WalkState
 truncate_scope = visit.truncate_scope
 
@@ -135,7 +135,8 @@ state_after_heading = visit.state_after_heading
 abbrev pub leave_block : ℕ → ℕ → ℕ → WalkState → WalkState
 leave_block = visit.leave_block
 
--- returns the state before the first identifier of a module, with None for each token
+-- returns the state before the first identifier of a module, with a table that has None for each
+-- token
 abbrev pub initial_walk : Spellings → WalkState
 initial_walk writing =
     record {
@@ -146,8 +147,8 @@ initial_walk writing =
       marks = replicate (length writing.source.tokens) None;
     }
 
--- converts a state of the walk that collects marks to a state of the walk that fills a table, by
--- entering the marks into this table
+-- Converts a state of the walk that collects marks to a state of the walk that fills a table. The
+-- marks are entered into the table `table`.
 abbrev pub enter_marks : List (Option ℕ) → marking.WalkState → WalkState
 enter_marks table v =
     record {
@@ -158,7 +159,7 @@ enter_marks table v =
       marks = with_marks table v.marks;
     }
 
--- returns the state after a module, in which the table has the ordinals of the module's identifiers
+-- returns the state after a module, with the ordinals of the module's identifiers in the table
 abbrev pub number_module : Tree ℕ module_text → Spellings → WalkState
 number_module m writing =
     enter_marks (replicate (length writing.source.tokens) None)

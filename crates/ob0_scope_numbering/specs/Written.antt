@@ -1,4 +1,4 @@
--- The spellings of identifiers: as in the text, or a new name for the identifiers of one
+-- Defines the spellings of identifiers: as in the text, or a new name for the identifiers of one
 -- declaration.
 -- Rule: none; for contracts: identifiers as they are written.
 use Rattle.std.specs.Prelude.{ℕ, Bool, false, if◌then◌else◌, List, [], Option, Some, None}
@@ -9,30 +9,31 @@ use Rattle.ob0_language_names.specs.Names.{Name}
 use Rattle.ob0_scope_table.specs.Resolution.{ordinal_in}
 use Rattle.ob0_language_names.specs.Scopes.{same_ordinal}
 
--- A text with the ordinals of its identifiers by token. `declaration` is the ordinal of the renamed
--- declaration, or None if no declaration is renamed. `new` is its new name.
+-- A text, with the ordinals of its identifiers by token index. `declaration` is the ordinal of the
+-- renamed declaration, or None if no declaration is renamed. `new` is the new name of the renamed
+-- declaration.
 pub record Spellings : Type 0 where
   pub source : TextWithTokens
   pub ordinals : List (Option ℕ)
   pub declaration : Option ℕ
   pub new : Name
 
--- returns true if an identifier's ordinal (the second argument) is the ordinal of the renamed
--- declaration (the first)
+-- Returns whether an identifier's ordinal (the second argument) is the ordinal of the renamed
+-- declaration (the first argument). Returns false if no declaration is renamed (None).
 abbrev pub is_renamed : Option ℕ → Option ℕ → Bool
 is_renamed None ordinal = false
 is_renamed (Some d) ordinal = same_ordinal ordinal d
 
--- returns the spelling of the identifier at a token, which is the new name if its declaration is
--- renamed
+-- returns the spelling of the identifier at a token: the new name if its declaration is renamed,
+-- otherwise its spelling in the text
 abbrev pub spelling_at : Spellings → ℕ → Name
 spelling_at w i =
     if is_renamed w.declaration (ordinal_in w.ordinals i) then w.new else text_at w.source i
 
--- returns the spellings of the text, without a new name
+-- returns the spellings of the identifiers as in the text, without a new name
 abbrev pub original_spellings : TextWithTokens → Spellings
 original_spellings source = record { source = source; ordinals = []; declaration = None; new = [] }
 
--- returns a tree over indexes of tokens, with the spellings in place of the indexes
+-- returns a tree of token indexes in which each identifier has its spelling in place of its index
 abbrev pub spelled_tree : {s : Sort} → Spellings → Tree ℕ s → Tree Name s
 spelled_tree w t = mapped (spelling_at w) (value_at w.source) t

@@ -1,6 +1,6 @@
 //! Visits the identifiers of a module and gives each the ordinal of its declaration, according to
-//! the names visible at its place. One declaration may have a new name instead of its name in the
-//! text.
+//! the names that are visible at the identifier. One declaration may have a new name instead of its
+//! name in the text.
 #![tactic(auto)]
 
 mod newest;

@@ -1,16 +1,18 @@
 //! Finds the newest binding of each name.
 //!
-//! Each name that was ever bound is in a list with its newest binding, and a map has its position in that list. A name
-//! keeps its position, so hiding and removing a binding change only the list and allocate nothing. A binding has its
-//! name's position, so no text is read when the binding is removed.
+//! A list has each name that was ever bound, with the index of its newest binding. A map has the
+//! position of each name in this list. A name keeps its position. So hiding or removing a binding
+//! changes only the list and allocates nothing. A binding has the position of its name, so the name
+//! isn't read when the binding is removed.
 //!
-//! A key of the map is a name preceded by a number made of its last eight bytes. Nearly all comparisons are between two
-//! numbers. If these are equal, the names decide, so no text can make a look-up slow.
+//! A key of the map is a name preceded by a number made of the name's last eight bytes. Nearly all
+//! comparisons of keys are between two numbers. If the numbers are equal, the names are compared,
+//! so even names with the same last bytes are found in logarithmic time.
 //!
-//! A small table of recent names is searched before the map, by a few bytes of the name. A slot has
-//! the position of the last name with these bytes that was looked up. The position is only a hint:
-//! the name at the position is compared with the sought name. So the proof needs no fact about the
-//! table.
+//! A small table of recent names is searched before the map. A name's length and a few of its bytes
+//! select a slot, which has the position of the last name that was looked up there. The position is
+//! only a hint: the name at the position is compared with the sought name. So the proof needs no
+//! fact about the table.
 
 ghost use Rattle.std.specs.Prelude.{◌≡◌, [], IfOk, IfSome, OnErr, OnOk, None, Some};
 ghost use Rattle.ob0_scope_numbering.specs.Keys.{suffix_number, append_byte, append_bytes};
@@ -24,19 +26,19 @@ use std::marker::Model;
 /// The number of slots of the table of recent names. It is a power of two.
 const RECENT_SLOTS: usize = 1024;
 
-/// A name as a key of the map. The number before the name is made of its last bytes, which
-/// distinguish most names.
+/// A name as a key of the map. The number before the name is made of the name's last eight bytes,
+/// which distinguish most names.
 type Key<'t> = (u64, &'t str);
 
-/// Returns the key of a name.
+/// Returns the key of a name in the map.
 fn key_of<'t>(name: &'t str) -> (u64, &'t str)
     ensures { result ≡ (suffix_number name.entry.now, name.entry) }
 {
     (suffix_number(name.as_bytes()), name)
 }
 
-/// Returns the number that precedes a name in its key. It is made of the name's last eight bytes,
-/// so a long name costs no more than a short one.
+/// Returns the number that precedes a name in its key. The number is made of the name's last eight
+/// bytes, so a long name costs no more than a short one.
 fn suffix_number(bytes: &[u8]) -> u64
     ensures { result ≡ suffix_number bytes.now }
 {
@@ -62,7 +64,7 @@ fn append_byte(number: u64, byte: u8) -> u64
 }
 
 /// Returns the length of a name and a few of its bytes in one number, enough to distinguish most
-/// names. If the name has four bytes or more, these are the first byte and the last three.
+/// names. If the name has four bytes or more, the first byte and the last three are used.
 fn name_fingerprint(name: &str) -> u64 {
     let bytes = name.as_bytes();
     let len = bytes.len();
@@ -79,27 +81,29 @@ fn name_fingerprint(name: &str) -> u64 {
 }
 
 /// Returns the slot of a name in the table of recent names. The slot is the ten highest bits of a
-/// product, which depend on all bits of `name_fingerprint`.
+/// product with `name_fingerprint`, because these bits depend on all bits of the fingerprint.
 fn slot_of(name: &str) -> usize {
     (name_fingerprint(name).wrapping_mul(0x9E37_79B9_7F4A_7C15) >> 54) as usize
 }
 
-/// Returns a table of recent names with position 0 in each slot. An entry is used only if the
-/// sought name is at its position.
+/// Returns a table of recent names with position 0 in each slot. A slot's position is used only if
+/// the sought name is at this position in the list.
 fn empty_recent_slots(alloc: Global) -> Result<Vec<usize>, AllocError> {
     vec![in alloc; 0; RECENT_SLOTS]
 }
 
-/// A name that was bound, with the index of its newest binding, or None if it has no binding now.
+/// A name, with the index of its newest binding, counted from the oldest of all bindings. The index
+/// is None if the name has no binding.
 #[derive(Clone, Copy)]
 pub(crate) struct BoundName<'t> {
     name: &'t str,
     newest: Option<usize>,
 }
 
-/// The names that were bound so far, each once, in the order in which they were first bound. A
-/// name's position is found in logarithmic time, whatever the names are. A name that was looked up
-/// recently is usually found at once.
+/// A list of names with their newest bindings, each name once. The new name of a renaming is first,
+/// followed by the other names in the order in which they were first bound. A name's position is
+/// found in logarithmic time, whatever the names are. A name that was looked up recently is usually
+/// found at once.
 #[derive(Drop)]
 pub(crate) struct NewestBindings<'t> {
     entries: Vec<BoundName<'t>>,
@@ -120,8 +124,8 @@ impl<'t> Model for NewestBindings<'t> {
 }
 
 impl<'t> NewestBindings<'t> {
-    /// Returns a list in which the name `first` has the first position and no name has a binding.
-    /// The name `first` is found there without reading its text.
+    /// Returns a list with only the name `first`, which has position 0 and no binding. The binding
+    /// of this name is found without reading the name.
     pub(crate) fn new(alloc: Global, first: &'t str) -> Result<NewestBindings<'t>, AllocError>
         ensures none { IfOk result (λ t. (x : Name) → newest_binding_in t x ≡ None) }
         ensures first { IfOk result (λ t. place_of t first.now ≡ Some 0) }
@@ -153,7 +157,8 @@ impl<'t> NewestBindings<'t> {
         self.entries[0].newest
     }
 
-    /// Returns the position of a name if the recent names have it in this slot. Otherwise returns None.
+    /// Returns the position of a name if the recent names have it in this slot. Otherwise returns
+    /// None.
     #[inline(always)]
     fn find_in_recent(&self, slot: usize, name: &'t str) -> Option<usize>
         ensures { IfSome result (λ place. place_of self.now name.now ≡ Some place) }
@@ -169,7 +174,7 @@ impl<'t> NewestBindings<'t> {
         }
     }
 
-    /// Enters the position of a name in a slot of the recent names.
+    /// Writes the position of a name into a slot of the recent names.
     fn remember_place(&mut self, slot: usize, place: usize)
         ensures { self.new ≡ self.old }
     {
@@ -191,8 +196,8 @@ impl<'t> NewestBindings<'t> {
         }
     }
 
-    /// Looks up the position of a name in the map, and remembers it for the next look-up. Returns
-    /// None if the name isn't in the list.
+    /// Looks up the position of a name in the map, and writes it into this slot of the recent
+    /// names. Returns None if the name isn't in the list.
     #[cold]
     fn find_in_map(&mut self, slot: usize, name: &'t str) -> Option<usize>
         ensures found { result ≡ place_of self.old name.now }
@@ -206,8 +211,8 @@ impl<'t> NewestBindings<'t> {
         Some(place)
     }
 
-    /// Adds a name that isn't in the list. It has no binding yet. If an allocation fails, the list
-    /// is unchanged.
+    /// Adds a name without a binding at the end of the list. The name must not be in the list. If
+    /// an allocation fails, the list is unchanged.
     fn add_name(&mut self, name: &'t str) -> Result<(), AllocError>
         requires { place_of self.old name.now ≡ None }
         ensures added { OnOk result (AppendsName self.old self.new name.now) }
@@ -220,7 +225,7 @@ impl<'t> NewestBindings<'t> {
         Ok(())
     }
 
-    /// Returns the position of a name, and adds the name first if it isn't in the list. If an
+    /// Returns the position of a name. If the name isn't in the list, it is added first. If an
     /// allocation fails, the list is unchanged.
     pub(crate) fn place_or_add(&mut self, name: &'t str) -> Result<usize, AllocError>
         ensures placed { IfOk result (λ place. place_of self.new name.now ≡ Some place) }

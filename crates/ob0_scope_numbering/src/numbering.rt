@@ -2,25 +2,26 @@
 //! declaration.
 //!
 //! Expressions, types and statements declare nothing. The walk of `ob0_tree` visits them, with
-//! `Numbering` as its `Visitor`. Each clause is an equation between whole states: `self.new ≡
-//! visit_constant c self.old`. With such clauses most descents and loops over declarations need no
-//! proof file.
+//! `Numbering` as its `Visitor`. The contract of each function is an equation between whole states:
+//! `self.new ≡ visit_constant c self.old`. With such contracts, most descents and loops over
+//! declarations need no proof file.
 //!
-//! Names become visible in the order of their ordinals (`show_names_from`). This works for
-//! constants, groups of variables, and a procedure's heading. After a heading, the bindings of the
-//! parameters are removed. Then `show_names_from` binds the procedure and after it the parameters,
-//! so a parameter with the procedure's name hides the procedure.
+//! Names become visible in the order of their ordinals (`show_names_from`), for constants, for
+//! groups of variables, and after a procedure's heading. After a heading, the bindings of the
+//! parameters are removed. Then `show_names_from` binds the procedure, and after the procedure its
+//! parameters. So a parameter with the procedure's name hides the procedure.
 //!
-//! Each identifier's ordinal is written into the table at its token as soon as it is known. The
-//! entries of fields and of the module's name are None. The definition of the walk (`IdentifierWalk`)
-//! leaves open how ordinals are kept. `TableWalk` has the table, like the code, and `MarkWalk` a list
-//! of marks (token, ordinal). The contract says that the table results from entering the marks into
-//! an empty table. So all other proofs are about the marks, which are in the order of their tokens.
+//! Each identifier's ordinal is written into the table, at the index of the identifier's token, as
+//! soon as the ordinal is known. The entries of fields and of the module's name are None. The
+//! definition of the walk (`IdentifierWalk`) leaves open how ordinals are kept. `TableWalk` keeps
+//! them in a table, like the code, and `MarkWalk` in a list of marks (token, ordinal). The contract
+//! says that the table results from entering the marks into an empty table. So all other proofs are
+//! about the marks, which are in the order of their tokens.
 //!
 //! An entry of the table has 32 bits (`OrdinalEntry`). An ordinal that is too large for an entry is
-//! stored as the greatest one, so no function of the walk needs a bound. A text has no more tokens
-//! than bytes, and each declaration has a different token. So entries can hold the ordinals of all
-//! marks.
+//! stored as the greatest one, so no function of the walk requires that ordinals are small. A text
+//! has no more tokens than bytes, and each declaration has a different token. So entries can hold
+//! the ordinals of all marks.
 
 ghost use Rattle.std.specs.Prelude.{◌≡◌, ◌+◌, ◌<◌, ◌^◌, [], OnOk, IfOk, length, Some, None};
 ghost use Rattle.ob0_tree.specs.declared.tree.Role.TheVariants as roles;
@@ -47,8 +48,10 @@ use ob0_tree::{
 use std::alloc::{AllocError, Global};
 use std::marker::Model;
 
-/// The state of the walk inside a module. The table has the ordinal of each identifier visited so
-/// far, at the index of its token.
+/// The state of the walk inside a module. `table` has the ordinal of each identifier visited so
+/// far, at the index of its token. `declarations` and `occurrences` have the tokens of the
+/// declaring and of the looked-up names so far. `ordinals` and `declaration` say which identifiers
+/// have the new name of a renamed declaration.
 #[derive(Drop)]
 pub struct Numbering<'t> {
     tokens: &'t Tokens,
@@ -79,7 +82,7 @@ impl<'t> Model for Numbering<'t> {
     } };
 }
 
-/// Visits the identifiers in the parts that declare nothing.
+/// Visits the identifiers in expressions, types and statements, which declare nothing.
 impl<'t> Visitor for Numbering<'t> {
     ghost use Rattle.ob0_scope_numbering.specs.TableWalk.{visit_identifier};
 
@@ -97,7 +100,8 @@ impl<'t> Visitor for Numbering<'t> {
     }
 }
 
-/// Returns the ordinal of the declaration with this index among the declarations of the text.
+/// Returns the ordinal of the declaration with this index among the declarations of the text,
+/// counted from 0.
 fn ordinal_at_index(index: usize) -> usize
     requires { index < 2 ^ 63 }
     ensures { result ≡ predeclared_count + index }
@@ -105,8 +109,8 @@ fn ordinal_at_index(index: usize) -> usize
     PREDECLARED_COUNT + index
 }
 
-/// Returns a scope in which the predeclared names are bound. It also has the new name of a renamed
-/// declaration, which isn't bound yet.
+/// Returns a scope in which only the predeclared names are bound. The scope also has the new name
+/// of a renamed declaration, but that name isn't bound yet.
 fn predeclared_names<'t>(alloc: Global, new: &'t str) -> Result<VisibleBindings<'t>, AllocError>
     ensures { IfOk result
         (λ v. v ≡ record { new_name = new.entry.now; scope = predeclared_scope naming_by_spelling }) }
@@ -116,7 +120,7 @@ fn predeclared_names<'t>(alloc: Global, new: &'t str) -> Result<VisibleBindings<
     Ok(visible)
 }
 
-/// Makes the predeclared names visible in an empty scope.
+/// Binds the predeclared names in an empty scope, to the ordinals 0 to 6.
 fn declare_predeclared(visible: &mut VisibleBindings<'_>) -> Result<(), AllocError>
     ensures { OnOk result (visible.old.scope ≡ []
         → visible.new ≡ with_scope visible.old (predeclared_scope naming_by_spelling)) }
@@ -131,7 +135,8 @@ fn declare_predeclared(visible: &mut VisibleBindings<'_>) -> Result<(), AllocErr
     Ok(())
 }
 
-/// Visits a module whose identifiers have the spellings `writing`, and returns the state after it.
+/// Visits a module whose identifiers have the spellings `writing`, and returns the state after the
+/// visit.
 fn visit_module<'t>(
     alloc: Global,
     read: &'t Module<'t>,
@@ -155,9 +160,9 @@ fn visit_module<'t>(
     Ok(numbering)
 }
 
-/// Looks up the names of the body that contains the token `low` again, and returns the changed
-/// table. The given table must have the ordinals of all other identifiers. `all` has the module's
-/// declaring tokens.
+/// Gives the names of the body that contains the token `low` their ordinals again, and returns the
+/// changed table. `table` has the ordinals of all other identifiers. `all` has the declaring tokens
+/// of the whole module, in text order.
 pub fn renumber_body(
     alloc: Global,
     read: &Module<'_>,
@@ -183,8 +188,9 @@ pub fn renumber_body(
     Ok(ordinals)
 }
 
-/// Numbers a module whose identifiers have the spellings `writing`, and returns the state after it. The table can hold
-/// every ordinal, because a text has no more declarations than bytes.
+/// Gives the identifiers of a module, spelled as in `writing`, their ordinals, and returns the
+/// state after the visit. The table can hold every ordinal, because a text has no more declarations
+/// than bytes.
 pub fn number_identifiers<'t>(
     alloc: Global,
     read: &'t Module<'t>,
@@ -198,7 +204,8 @@ pub fn number_identifiers<'t>(
 }
 
 impl<'t> Numbering<'t> {
-    /// Returns the declaring tokens, the tokens of the occurrences, and the table of ordinals.
+    /// Returns the tokens of the declaring names, the tokens of the looked-up names, and the table
+    /// of ordinals.
     pub fn into_parts(self) -> (Vec<usize>, Vec<usize>, Vec<OrdinalEntry>)
         ensures declarations { result.0.items ≡ self.entry.declarations }
         ensures uses { result.1.items ≡ self.entry.uses }
@@ -223,14 +230,14 @@ impl<'t> Numbering<'t> {
         self.declarations.len()
     }
 
-    /// Returns the number of visible bindings, including hidden ones.
+    /// Returns the number of bindings in the scope, including the hidden ones.
     fn binding_count(&self) -> usize
         ensures { result ≡ length self.now.scope }
     {
         self.visible.len()
     }
 
-    /// Enters an ordinal into the table at a token.
+    /// Writes an ordinal, or None, into the table at the index of a token.
     fn mark(&mut self, token: usize, ordinal: Option<usize>)
         ensures { self.new ≡ with_mark token ordinal self.old }
     {
@@ -239,7 +246,8 @@ impl<'t> Numbering<'t> {
         }
     }
 
-    /// Gives a declaring name the next ordinal, and returns that ordinal. The name isn't visible yet.
+    /// Gives the declaring name at a token the next ordinal, and returns this ordinal. The name
+    /// isn't visible yet.
     fn number_name(&mut self, token: usize) -> Result<usize, AllocError>
         ensures next { IfOk result (λ ordinal. ordinal ≡ predeclared_count + length self.old.declarations) }
         ensures numbered { OnOk result (self.new ≡ number_declaration token self.old) }
@@ -250,7 +258,7 @@ impl<'t> Numbering<'t> {
         Ok(ordinal)
     }
 
-    /// Makes the name at a token visible as the declaration with this ordinal.
+    /// Makes the name at a token visible, bound to the declaration with this ordinal.
     fn show_name(&mut self, token: usize, ordinal: usize) -> Result<(), AllocError>
         ensures { OnOk result (self.new ≡ show_declaration token ordinal self.old) }
     {
@@ -261,7 +269,8 @@ impl<'t> Numbering<'t> {
         }
     }
 
-    /// Makes the names of the declarations so far visible, except the first `first`.
+    /// Makes the names of the declarations so far visible, in order. The first `first` declarations
+    /// are left out.
     fn show_names_from(&mut self, first: usize) -> Result<(), AllocError>
         ensures { OnOk result (self.new ≡ show_declarations_from first self.old) }
     {
@@ -272,14 +281,15 @@ impl<'t> Numbering<'t> {
         Ok(())
     }
 
-    /// Drops the newest bindings until `len` are left.
+    /// Drops the newest bindings until at most `len` bindings are left.
     fn truncate_bindings(&mut self, len: usize)
         ensures { self.new ≡ truncate_scope len self.old }
     {
         self.visible.truncate_bindings(len);
     }
 
-    /// Returns true if an identifier has the new name, because its declaration is the renamed one.
+    /// Returns whether the identifier at a token has the new name, because its declaration is
+    /// renamed.
     fn is_renamed(&self, token: usize) -> bool
         ensures { result
             ≡ is_renamed self.now.writing.declaration (ordinal_in self.now.writing.ordinals token) }
@@ -301,7 +311,7 @@ impl<'t> Numbering<'t> {
         }
     }
 
-    /// Enters None into the table for an identifier that has no ordinal.
+    /// Writes None into the table at the token of an identifier that has no ordinal.
     #[inline(always)]
     fn mark_unbound(&mut self, token: usize) -> Result<(), AllocError>
         ensures { OnOk result (self.new ≡ with_mark token None self.old) }
@@ -310,7 +320,7 @@ impl<'t> Numbering<'t> {
         Ok(())
     }
 
-    /// Looks up the name at a token. Enters the ordinal of its declaration into the table, or None
+    /// Looks up the name at a token. Writes the ordinal of its declaration into the table, or None
     /// if the name is unbound.
     #[inline(always)]
     fn look_up(&mut self, token: usize) -> Result<(), AllocError>
@@ -322,7 +332,8 @@ impl<'t> Numbering<'t> {
         Ok(())
     }
 
-    /// Gives each declaring name of a list the next ordinal. The names aren't visible yet.
+    /// Gives the declaring names of a list the next ordinals, in order. The names aren't visible
+    /// yet.
     fn number_names(&mut self, ns: &Names) -> Result<(), AllocError>
         ensures { OnOk result (self.new ≡ number_declarations (names_in_list (names_of ns.now)) self.old) }
     {
@@ -410,7 +421,7 @@ impl<'t> Numbering<'t> {
         Ok(())
     }
 
-    /// Visits the parameters of a heading. The parameters of each section are visible to the later
+    /// Visits the parameters of a heading. The parameters of each section are visible in the later
     /// sections.
     fn walk_heading(&mut self, formals: &Option<Vec<ParameterSection>>) -> Result<(), AllocError>
         ensures { OnOk result (self.new ≡ visit_formals (formals_of formals.now) self.old) }
@@ -429,8 +440,9 @@ impl<'t> Numbering<'t> {
     {
         let own = self.declaration_count();
         let outside = self.binding_count();
-        // The parameters are bound and removed twice: a heading doesn't see its own procedure, and
-        // a body sees it below its parameters.
+        // The parameters are bound and removed twice. In the heading, the procedure's name isn't
+        // visible. In the block it is visible, so for the block the name is bound before the
+        // parameters.
         let ordinal = self.number_name(p.name)?;
         self.walk_heading(&p.formals)?;
         self.truncate_bindings(outside);
@@ -455,8 +467,9 @@ impl<'t> Numbering<'t> {
         walk_body(self, &b.body)
     }
 
-    /// Appends the further declarations before a token to the list of declarations, without
-    /// visiting them. `all` has the declaring tokens of the whole module.
+    /// Appends the declarations before the token `token` that aren't in the list of declarations
+    /// yet, without visiting them. `all` has the declaring tokens of the whole module, in text
+    /// order.
     fn count_declarations_before(&mut self, all: &[usize], token: usize) -> Result<(), AllocError>
         ensures { OnOk result (self.new ≡ with_declarations_before all.now token self.old) }
     {
@@ -470,7 +483,8 @@ impl<'t> Numbering<'t> {
         Ok(())
     }
 
-    /// Appends a declaration to the list of declarations, without visiting it.
+    /// Appends the declaring token `token` to the list of declarations, without visiting the
+    /// declaration.
     fn count_declaration(&mut self, token: usize) -> Result<(), AllocError>
         ensures { OnOk result (self.new ≡ with_declaration token self.old) }
     {
@@ -478,8 +492,8 @@ impl<'t> Numbering<'t> {
         Ok(())
     }
 
-    /// Makes the procedure's name at a token visible with the next ordinal, and skips the procedure
-    /// itself.
+    /// Makes the name of the procedure that is declared at a token visible with the next ordinal,
+    /// without visiting the procedure.
     fn skip_procedure(&mut self, token: usize) -> Result<(), AllocError>
         ensures { OnOk result (self.new ≡ with_procedure_skipped token self.old) }
     {
@@ -487,8 +501,8 @@ impl<'t> Numbering<'t> {
         self.show_name(token, ordinal_at_index(next))
     }
 
-    /// Visits a procedure's name, its parameters and its block again, on the way to the body that contains the token
-    /// `low`. `all` has the module's declaring tokens.
+    /// Visits a procedure's name, its parameters and its block again, on the way to the body that
+    /// contains the token `low`. `all` has the module's declaring tokens.
     #[cycle(blocks_again)]
     fn revisit_procedure(
         &mut self,
@@ -508,9 +522,9 @@ impl<'t> Numbering<'t> {
         self.revisit_block(&p.block, all, low)
     }
 
-    /// Visits a block again: its constants, types and variables, and then the procedure that
+    /// Visits a block again: its constants, types and variables, and then only the procedure that
     /// contains the token `low`. If there is no such procedure, visits the block's statements.
-    /// `all` has the module's declaring tokens.
+    /// `all` has the declaring tokens of the whole module.
     #[cycle(blocks_again)]
     fn revisit_block(&mut self, inner: &Block, all: &[usize], low: usize) -> Result<(), AllocError>
         ensures { OnOk result

@@ -1,4 +1,5 @@
-//! Keeps the names that are visible at a place of a module.
+//! Keeps the names that are visible at a place of a module, with the declarations to which they are
+//! bound.
 
 ghost use Rattle.std.specs.Prelude.{◌≡◌, [], ◌∷◌, OnErr, OnOk, IfOk, length, drop, ◌-◌};
 ghost use Rattle.ob0_scope_numbering.specs.StoredScopes.{with_scope};
@@ -9,8 +10,9 @@ use crate::newest::NewestBindings;
 use std::alloc::{AllocError, Global};
 use std::marker::Model;
 
-/// A binding of a name to an ordinal. `place` is the name's position in the list of names, and
-/// `hidden` is the index of the binding that it hides, or None.
+/// A binding of a name to an ordinal. `place` is the name's position in the list of names
+/// (`NewestBindings`). `hidden` is the index of the older binding that this binding hides, or None
+/// if there is none.
 #[derive(Drop)]
 pub(crate) struct Binding<'t> {
     name: &'t str,
@@ -19,9 +21,9 @@ pub(crate) struct Binding<'t> {
     hidden: Option<usize>,
 }
 
-/// The bindings at a place, oldest first, and the new name of a renamed declaration. Each name has
-/// the index of its newest binding. The new name may be far longer than the names of the text, so
-/// its binding is found without reading it.
+/// The bindings at a place, oldest first, and the new name of a renamed declaration. `newest` has
+/// the index of the newest binding of each name. The new name may be far longer than the names of
+/// the text, so its binding is found without reading the name.
 #[derive(Drop)]
 pub(crate) struct VisibleBindings<'t> {
     new_name: &'t str,
@@ -40,7 +42,7 @@ impl<'t> Model for VisibleBindings<'t> {
 }
 
 impl<'t> VisibleBindings<'t> {
-    /// Returns bindings with an empty scope, for a renaming to `new_name`.
+    /// Returns an empty scope, for a renaming to `new_name`. That name isn't bound yet.
     pub(crate) fn new(alloc: Global, new_name: &'t str) -> Result<VisibleBindings<'t>, AllocError>
         ensures { IfOk result (λ v. v ≡ record { new_name = new_name.entry.now; scope = [] }) }
     {
@@ -51,14 +53,15 @@ impl<'t> VisibleBindings<'t> {
         })
     }
 
-    /// Returns the number of bindings.
+    /// Returns the number of bindings, including the hidden ones.
     pub(crate) fn len(&self) -> usize
         ensures { result ≡ length self.now.scope }
     {
         self.bindings.len()
     }
 
-    /// Returns the ordinal of the declaration to which a name is bound, or None if it is unbound.
+    /// Returns the ordinal of the declaration to which a name is bound, or None if the name is
+    /// unbound.
     pub(crate) fn look_up(&mut self, name: &'t str) -> Option<usize>
         ensures found { result ≡ ordinal_of naming_by_spelling self.old.scope name.now }
         ensures same { self.new ≡ self.old }
@@ -70,7 +73,8 @@ impl<'t> VisibleBindings<'t> {
         Some(self.bindings[index].ordinal)
     }
 
-    /// Returns the ordinal of the declaration to which the new name is bound, or None if it is unbound.
+    /// Returns the ordinal of the declaration to which the new name is bound, or None if the new
+    /// name is unbound.
     pub(crate) fn look_up_new_name(&self) -> Option<usize>
         ensures { result ≡ ordinal_of naming_by_spelling self.now.scope self.now.new_name }
     {
@@ -81,8 +85,8 @@ impl<'t> VisibleBindings<'t> {
         Some(self.bindings[index].ordinal)
     }
 
-    /// Binds the new name, and hides its earlier binding. If an allocation fails, the scope is
-    /// unchanged.
+    /// Binds the new name to an ordinal, and hides the earlier binding of this name, if there is
+    /// one. If an allocation fails, the scope is unchanged.
     pub(crate) fn declare_new_name(&mut self, ordinal: usize) -> Result<(), AllocError>
         ensures bound { OnOk result
             (self.new ≡ with_scope self.old ((self.old.new_name, ordinal) ∷ self.old.scope)) }
@@ -91,7 +95,8 @@ impl<'t> VisibleBindings<'t> {
         self.declare(self.new_name, ordinal)
     }
 
-    /// Binds a name, and hides its earlier binding. If an allocation fails, the scope is unchanged.
+    /// Binds a name to an ordinal, and hides the earlier binding of this name, if there is one. If
+    /// an allocation fails, the scope is unchanged.
     pub(crate) fn declare(&mut self, name: &'t str, ordinal: usize) -> Result<(), AllocError>
         ensures bound { OnOk result
             (self.new ≡ with_scope self.old ((name.entry.now, ordinal) ∷ self.old.scope)) }
@@ -111,7 +116,7 @@ impl<'t> VisibleBindings<'t> {
         Ok(())
     }
 
-    /// Drops the newest bindings until `len` bindings are left.
+    /// Drops the newest bindings until at most `len` bindings are left.
     pub(crate) fn truncate_bindings(&mut self, len: usize)
         ensures { self.new
             ≡ with_scope self.old (drop (length self.old.scope - len) self.old.scope) }
@@ -121,7 +126,8 @@ impl<'t> VisibleBindings<'t> {
         }
     }
 
-    /// Removes the newest binding, so that the binding that it hid is visible again.
+    /// Removes the newest binding, so that the binding that it hid is visible again. Does nothing
+    /// if there is no binding.
     fn pop_binding(&mut self)
         ensures { self.new ≡ with_scope self.old (drop 1 self.old.scope) }
     {

@@ -1,7 +1,8 @@
-//! Returns the spellings of a text's identifiers, with a new name for one declaration.
+//! Gives the spellings of a text's identifiers, with a new name for one declaration if it is
+//! renamed.
 //!
-//! An identifier is spelled as in the text. If the table gives it the ordinal of the renamed
-//! declaration, it has the new name instead. So one walk numbers a module as it is or as it is
+//! An identifier has its spelling in the text, unless the table of ordinals binds it to the renamed
+//! declaration. In that case it has the new name. So one walk numbers a module as it is or as it is
 //! after a renaming.
 
 ghost use Rattle.std.specs.Prelude.{◌≡◌};
@@ -11,7 +12,9 @@ use ob0_scan::Tokens;
 use ob0_scope_table::OrdinalEntry;
 use std::marker::Model;
 
-/// A text, and a new name for the identifiers of one declaration. If `declaration` is None, no declaration is renamed.
+/// A text, with the table of its ordinals by token index, and a new name for the identifiers of one
+/// declaration. `declaration` is the ordinal of this declaration, or None if no declaration is
+/// renamed.
 #[derive(Drop)]
 pub struct Spellings<'t> {
     pub tokens: &'t Tokens,
@@ -33,8 +36,8 @@ impl<'t> Model for Spellings<'t> {
     } };
 }
 
-/// Returns true if `ordinal` is the ordinal of the renamed declaration. The result is false if no declaration is
-/// renamed or the identifier is unbound.
+/// Returns whether an identifier's ordinal (`ordinal`) is the ordinal of the renamed declaration
+/// (`declaration`). Returns false if no declaration is renamed or the identifier has no ordinal.
 pub(crate) fn is_renamed(declaration: Option<usize>, ordinal: Option<usize>) -> bool
     ensures { result ≡ is_renamed declaration ordinal }
 {
@@ -48,7 +51,7 @@ pub(crate) fn is_renamed(declaration: Option<usize>, ordinal: Option<usize>) -> 
 }
 
 impl<'t> Spellings<'t> {
-    /// Returns the spellings of the text, without any new name.
+    /// Returns the spellings of the identifiers as in the text, without any new name.
     pub fn original_spellings(tokens: &'t Tokens) -> Spellings<'t>
         ensures { result ≡ original_spellings tokens.now }
     {

@@ -1,10 +1,10 @@
--- A module joined to the bindings of its names.
+-- Joins a module to the bindings of its names.
 -- Rule: docs/LANGUAGE.md, Scopes 2 to 4.
 use Rattle.ob0_tree.specs.ParsedModule.{ParsedModule}
 use Rattle.ob0_scope_table.specs.Resolution.{Resolution}
 use Rattle.ob0_scope_table.specs.declared.resolved.Bindings.{Bindings}
 
--- returns the resolved module with these bindings
+-- returns the resolved module that joins a parsed module and these bindings
 abbrev pub resolution_with : ParsedModule → Bindings → Resolution
 resolution_with m b =
     record {

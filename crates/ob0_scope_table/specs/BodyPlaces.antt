@@ -1,4 +1,4 @@
--- The place of a body: its first identifier, and the closing name of its block.
+-- Defines the place of a body: its first identifier, and the closing name of its block.
 -- Rule: none; for contracts: the body in which a range of tokens lies.
 use Rattle.std.specs.Prelude.{ℕ, Bool, Option, None, if◌then◌else◌, option_map}
 use Rattle.ob0_tree.specs.FirstIdentifier.{first_identifier}
@@ -9,7 +9,7 @@ use Rattle.ob0_scope_table.specs.BodyReplaced.{body_at, body_in, body_inside, cl
 use Rattle.ob0_scope_table.specs.OneBody.{is_in_block, is_in_body, is_in_procedure}
 use Rattle.ob0_scope_table.specs.declared.one_body.BodyPlace.{BodyPlace}
 
--- returns a module's tree, whose names are indexes of tokens
+-- returns a module's tree of the code as a tree of the definitions, with token indexes as names
 abbrev pub module_tree_of : ModuleTree → Tree ℕ module_text
 module_tree_of t = is_module t.name (block_of t.block) t.closing
 
@@ -23,22 +23,22 @@ body_place_if sought statements closing =
     else None
 
 -- Returns the place of the body, in this block or a procedure inside it, that contains the tokens
--- from `low` to before `high`. `closing` is the block's closing name. Returns None if no body
--- contains them.
+-- from `low` up to, but not including, `high`. `closing` is the token of the block's closing name.
+-- Returns None if no body contains the tokens.
 abbrev pub body_place_in_block : ℕ → ℕ → ℕ → Tree ℕ block → Option BodyPlace
 body_place_in_block low high closing b =
     body_place_if (is_in_block low high b) (body_in (way_in_block low b) b)
     (closing_name_in_block (way_in_block low b) closing b)
 
 -- Returns the place of the body, in this procedure or one inside it, that contains the tokens from
--- `low` to before `high`. Returns None if no body contains them.
+-- `low` up to, but not including, `high`. Returns None if no body contains them.
 abbrev pub body_place_in_procedure : ℕ → ℕ → Tree ℕ (item procedure) → Option BodyPlace
 body_place_in_procedure low high p =
     body_place_if (is_in_procedure low high p) (body_inside (way_in_procedure low p) p)
     (closing_name_in_procedure (way_in_procedure low p) p)
 
--- Returns the place of the body, in this module, that contains the tokens from `low` to before
--- `high`. Returns None if no body contains them.
+-- Returns the place of the body, in this module, that contains the tokens from `low` up to, but not
+-- including, `high`. Returns None if no body contains them.
 abbrev pub body_place_around : ℕ → ℕ → Tree ℕ module_text → Option BodyPlace
 body_place_around low high t =
     body_place_if (is_in_body low high t) (body_at (way_in_module low t) t) (closing_name_in_module (way_in_module low t) t)

@@ -1,6 +1,7 @@
--- A module in which the statements of one body were replaced, so that its number of tokens may
--- differ: the way to that body, the module without it, and the parts that both versions share.
--- Rule: none; for contracts: what stays where the tokens of one body are replaced.
+-- Defines a module in which the statements of one body were replaced, so that its number of tokens
+-- may differ. Also defines the way to that body, the module without the body, and the parts that
+-- both versions of the module share.
+-- Rule: none; for contracts: a replacement of the tokens of one body.
 use Rattle.std.specs.Prelude.{◌≡◌, ◌<◌, ◌≤◌, ◌+◌, ◌-◌, ℕ, zero, suc, true, nat_lt, List, [], ◌∷◌, Option, Some, None, if◌then◌else◌, slice_get}
 use Rattle.ob0_scan.specs.Reused.{words_of_tokens}
 use Rattle.ob0_scan.specs.TextWithTokens.{IsScan}
@@ -10,13 +11,14 @@ use Rattle.ob0_tree.specs.ParsedModule.{IsParsed, ParsedModule, tree_of}
 use Rattle.ob0_tree.specs.Tree.{Tree, block, body, declares, declares_procedure, end, has_body, is_module, item, items, mapped, maybe, module_text, more, none, procedure}
 use Rattle.ob0_scope_table.specs.OneBody.{closing_name, is_in_body, is_outside}
 
--- A way to a body: the numbers of the procedures to enter, from the module inwards. In each block,
--- procedures are counted from 0. The way leads to the body of the procedure that is entered last.
--- An empty way leads to the module's own body.
+-- A way to a body, which is a path in the tree: in each block, the number of the procedure to
+-- enter, from the module inwards. The procedures of a block are counted from 0. The way leads to
+-- the body of the procedure that is entered last. An empty way leads to the module's own body.
 abbrev pub WayToBody : Type 0
 WayToBody = List ℕ
 
--- returns the way to the same body after one more procedure is put before a block's procedures
+-- returns the way to the same body if one more procedure is put before the procedures of the first
+-- block on the way
 abbrev pub shift_way : WayToBody → WayToBody
 shift_way [] = []
 shift_way (k ∷ way) = suc k ∷ way
@@ -27,8 +29,8 @@ abbrev mutual
   pub way_in_block : ℕ → Tree ℕ block → WayToBody
   way_in_block low (has_body (declares cs ts vs ps) statements) = way_in_procedures low ps
 
-  -- Returns the way through the first procedure whose closing name isn't before `low`. If there is
-  -- no such procedure, the way is empty.
+  -- Returns the way into the first procedure whose closing name isn't before the token `low`. If
+  -- there is no such procedure, the way is empty.
   pub way_in_procedures : ℕ → Tree ℕ (items procedure) → WayToBody
   way_in_procedures low end = []
   way_in_procedures low (more p ps) =
@@ -51,8 +53,8 @@ abbrev mutual
   block_without (k ∷ way) (has_body (declares cs ts vs ps) statements) =
       has_body (declares cs ts vs (procedures_without k way ps)) statements
 
-  -- returns procedures in which procedure `k`, counted from 0, is without the statements to which a
-  -- way leads
+  -- returns these procedures, but procedure `k`, counted from 0, is without the statements to which
+  -- the way leads from there
   pub procedures_without : {N : Type 0}
       → ℕ
       → WayToBody
@@ -78,8 +80,8 @@ abbrev mutual
   body_in [] (has_body ds statements) = statements
   body_in (k ∷ way) (has_body (declares cs ts vs ps) statements) = body_among k way ps
 
-  -- returns the statements to which a way leads from procedure `k`, counted from 0; `none` if there
-  -- is no such procedure
+  -- Returns the statements to which a way leads from procedure `k`, counted from 0. Returns `none`
+  -- if there is no such procedure.
   pub body_among : {N : Type 0} → ℕ → WayToBody → Tree N (items procedure) → Tree N (maybe body)
   body_among k way end = none
   body_among zero way (more p ps) = body_inside way p
@@ -95,15 +97,15 @@ body_at way (is_module x b closing) = body_in way b
 
 -- Returns the closing name of the block to which a way leads.
 abbrev mutual
-  -- returns the closing name of the block to which a way leads from a block, whose own closing name
-  -- is `own`
+  -- Returns the closing name of the block to which a way leads from a block. The closing name of
+  -- the block itself is `own`.
   pub closing_name_in_block : {N : Type 0} → WayToBody → N → Tree N block → N
   closing_name_in_block [] own b = own
   closing_name_in_block (k ∷ way) own (has_body (declares cs ts vs ps) statements) =
       closing_name_in_procedures k way own ps
 
-  -- returns the closing name of the block to which a way leads from procedure `k`, counted from 0;
-  -- `own` if there is no such procedure
+  -- Returns the closing name of the block to which a way leads from procedure `k`, counted from 0.
+  -- Returns `own` if there is no such procedure.
   pub closing_name_in_procedures : {N : Type 0} → ℕ → WayToBody → N → Tree N (items procedure) → N
   closing_name_in_procedures k way own end = own
   closing_name_in_procedures zero way own (more p ps) = closing_name_in_procedure way p
@@ -117,15 +119,16 @@ abbrev mutual
 abbrev pub closing_name_in_module : {N : Type 0} → WayToBody → Tree N module_text → N
 closing_name_in_module way (is_module x b closing) = closing_name_in_block way closing b
 
--- returns the new index of a token outside the range that a change replaced
+-- Returns the new index of a token whose index in the old text is `i`. The token must be outside
+-- the replaced range.
 abbrev pub moved_token_index : SameTokens → ℕ → ℕ
 moved_token_index s i = if nat_lt i s.prefix then i else s.new_suffix + (i - s.old_suffix)
 
--- Holds if two modules are the same except for the statements of one body, to which `way` leads. In
--- these statements, new tokens from `prefix` to before `new_suffix` replace the old tokens from
--- `prefix` to before `old_suffix`. All other tokens have the same spellings, and the later ones may
--- have new indexes. In both modules, the body's first identifier is before the range, and its
--- block's closing name after it.
+-- States that two modules are the same except for the statements of one body, to which `way` leads.
+-- In these statements, the tokens `s.prefix..s.new_suffix` of the module `new` replace the tokens
+-- `s.prefix..s.old_suffix` of the module `old`. All other tokens have the same spellings, and the
+-- later ones may have other indexes. In both modules, the body's first identifier is before the
+-- replaced tokens, and the closing name of its block is after them.
 pub record IsBodyReplaced (old new : ParsedModule) (way : WayToBody) (s : SameTokens) : Type 0 where
   pub old_range : s.prefix ≤ s.old_suffix
   pub new_range : s.prefix ≤ s.new_suffix

@@ -1,5 +1,5 @@
--- The faults of duplicate declarations and wrong closing names, in the order in which they are
--- reported. The names of these trees are tokens.
+-- Defines the faults of duplicate declarations and wrong closing names, in the order in which they
+-- are reported. The trees have token indexes in place of names.
 -- Rule: docs/LANGUAGE.md, Faults of scopes and types, `Duplicate`, `EndName`.
 use Rattle.std.specs.Prelude.{ℕ, Bool, not, List, [], ◌∷◌, ◌++◌, if◌then◌else◌}
 use Rattle.ob0_scan.specs.declared.fault.FaultCode.TheVariants as code
@@ -13,7 +13,7 @@ use Rattle.ob0_language_names.specs.Names.{Name, same_name}
 use Rattle.ob0_language_names.specs.Parts.{formal_names, formal_sections, section_type, section_types, section_variables}
 use Rattle.ob0_scope_table.specs.Spans.{span_at}
 
--- returns the fault in a list if a condition doesn't hold, otherwise an empty list
+-- returns a list with only this fault if the condition `holds` is false, otherwise an empty list
 abbrev pub fault_unless : Bool → Fault → List Fault
 fault_unless holds fault = if holds then [] else fault ∷ []
 
@@ -25,22 +25,25 @@ duplicate_fault source token = record { code = code.Duplicate; span = span_at so
 abbrev pub end_name_fault : TextWithTokens → ℕ → Fault
 end_name_fault source token = record { code = code.EndName; span = span_at source token }
 
--- returns a fault `Duplicate` for each name that is also earlier in the list, or in `before`
+-- Returns a fault `Duplicate` for each token in the list whose name is a duplicate. A name is a
+-- duplicate if an earlier token in the list has it, or if it is among the names `before`.
 abbrev pub duplicate_faults : TextWithTokens → List Name → List ℕ → List Fault
 duplicate_faults source before [] = []
 duplicate_faults source before (x ∷ xs) =
     fault_unless (not (is_among (text_at source x) before)) (duplicate_fault source x)
     ++ duplicate_faults source (text_at source x ∷ before) xs
 
--- returns the fault `EndName` in a list if a closing name differs from its opening name, otherwise
--- an empty list
+-- returns a list with only the fault `EndName` if a closing name differs from its opening name,
+-- otherwise an empty list
 abbrev pub closing_name_faults : TextWithTokens → ℕ → ℕ → List Fault
 closing_name_faults source x closing =
     fault_unless (same_name (text_at source x) (text_at source closing)) (end_name_fault source closing)
 
--- Returns the faults of the duplicate fields of a record, then of the records in it.
+-- Returns the faults of a record's duplicate fields, followed by the faults of the records inside
+-- it.
 abbrev mutual
-  -- returns the faults of duplicate fields in a written type, in the outer record first
+  -- returns the faults of duplicate fields in a written type: of an outer record first, then of the
+  -- records inside it
   pub duplicate_fields : TextWithTokens → Tree ℕ written_type → List Fault
   duplicate_fields source (named_type x) = []
   duplicate_fields source (array_type e t) = duplicate_fields source t
@@ -75,10 +78,11 @@ duplicate_fields_in_formals source end = []
 duplicate_fields_in_formals source (more (then_section s) fs) =
     duplicate_fields source (section_type s) ++ duplicate_fields_in_formals source fs
 
--- Returns the faults of a block's duplicate names, then of its types, variables and procedures.
+-- Returns the faults of a block's duplicate names, followed by the faults of its types, variables
+-- and procedures.
 abbrev mutual
-  -- returns the faults of a block; `own` has the names of its procedure's parameters, which belong
-  -- to the block
+  -- Returns the faults of a block. `own` has the tokens of the names of its procedure's parameters,
+  -- which count as declared in the block.
   pub block_declaration_faults : TextWithTokens → List ℕ → Tree ℕ block → List Fault
   block_declaration_faults source own (has_body (declares cs ts vs ps) statements) =
       duplicate_faults source [] (own ++ block_names (has_body (declares cs ts vs ps) statements))

@@ -1,4 +1,4 @@
--- The entries of a table of ordinals.
+-- Defines the entries of a table of ordinals.
 -- Rule: none; for contracts: ordinals in 32 bits.
 use Rattle.std.specs.Prelude.{ℕ, zero, suc, min, Option, Some, None, option_map}
 
@@ -6,8 +6,8 @@ use Rattle.std.specs.Prelude.{ℕ, zero, suc, min, Option, Some, None, option_ma
 abbrev pub greatest_ordinal : ℕ
 greatest_ordinal = 4294967294
 
--- returns an optional ordinal as an entry holds it: an ordinal above the greatest counts as the
--- greatest
+-- Returns an optional ordinal as an entry stores it. An ordinal above the greatest one is stored as
+-- the greatest one.
 abbrev pub stored_ordinal : Option ℕ → Option ℕ
 stored_ordinal ordinal = option_map (λ n. min n greatest_ordinal) ordinal
 

@@ -1,6 +1,6 @@
--- Faults with the tokens at which they begin and end. In two texts whose tokens have the same
--- spellings, the faults are at the same tokens.
--- Rule: none; for contracts: what stays where the tokens of a text are written as they were.
+-- Defines faults with the tokens at which they begin and end. In two texts whose tokens have the
+-- same spellings, the faults are at the same tokens.
+-- Rule: none; for contracts: the results that stay the same if all tokens keep their spellings.
 use Rattle.std.specs.Prelude.{◌≡◌, ◌==◌, ℕ, nat_lt, List, length, map, if◌then◌else◌}
 use Rattle.std.specs.List.{prefix_len}
 use Rattle.ob0_scan.specs.declared.fault.Fault.{Fault}
@@ -10,19 +10,21 @@ use Rattle.ob0_scan.specs.TextWithTokens.{IsScan, TextWithTokens}
 use Rattle.ob0_scope_table.specs.Spans.{span_at}
 use Rattle.ob0_scope_table.specs.declared.fault_tokens.FaultByTokens.{FaultByTokens}
 
--- returns the start of the first token, in bytes; 0 if there is no token
+-- returns the byte offset at which the first token starts, or 0 if there is no token
 abbrev pub first_token_start : TextWithTokens → ℕ
 first_token_start source = (span_at source 0).start
 
--- Holds if the tokens of two texts have the same kinds and spellings, one by one. Both texts must
--- begin with a token, or neither. A text without tokens counts as one that begins with a token.
+-- States that the tokens of two texts have the same kinds and spellings, one by one. Either both
+-- texts must begin with a token, or neither of them. A text without tokens counts as one that
+-- begins with a token.
 pub record AreWrittenAlike (old new : TextWithTokens) : Type 0 where
   pub old_scan : IsScan old
   pub new_scan : IsScan new
   pub same_words : words_of_tokens new.text new.tokens ≡ words_of_tokens old.text old.tokens
   pub same_front : (first_token_start new == 0) ≡ (first_token_start old == 0)
 
--- returns a fault with its span, from the start of its first token to the end of its last token
+-- returns a fault with its span, which goes from the start of its first token to the end of its
+-- last token
 abbrev pub fault_at : TextWithTokens → FaultByTokens → Fault
 fault_at source f =
     record {
@@ -31,15 +33,17 @@ fault_at source f =
           record { start = (span_at source f.first).start; end = (span_at source f.last).end };
     }
 
--- Returns the index of the first token that doesn't begin before a place. Returns the number of
--- tokens for place 0, because place 0 counts as a place at which no token begins.
+-- Returns the index of the first token that begins at or after the byte offset `place`, or the
+-- number of tokens if there is none. Also returns the number of tokens for offset 0, because no
+-- token counts as beginning there.
 abbrev pub index_starting_at : List Token → ℕ → ℕ
 index_starting_at tokens place =
     if place == 0 then length tokens
     else prefix_len (λ (t : Token). nat_lt t.span.start place) tokens
 
--- Returns the index of the first token that doesn't end before a place. Returns the number of
--- tokens for place 0, because no token ends at place 0.
+-- Returns the index of the first token that ends at or after the byte offset `place`, or the number
+-- of tokens if there is none. Also returns the number of tokens for offset 0, because no token ends
+-- there.
 abbrev pub index_ending_at : List Token → ℕ → ℕ
 index_ending_at tokens place =
     if place == 0 then length tokens
@@ -58,8 +62,8 @@ fault_by_tokens tokens f =
 abbrev pub moved_faults : TextWithTokens → TextWithTokens → List Fault → List Fault
 moved_faults old new faults = map (fault_at new) (map (fault_by_tokens old.tokens) faults)
 
--- Holds if the faults `before` of the text `old` match the faults `after` of the text `new`, one by
--- one. Two faults match if they have the same code and are at the same tokens.
+-- States that the faults `before` of the text `old` match the faults `after` of the text `new`, one
+-- by one. Two faults match if they have the same code and are at the same tokens.
 pub record AreAtSameTokens (old new : TextWithTokens) (before after : List Fault) : Type 0 where
   pub tokens : List FaultByTokens
   pub in_old : before ≡ map (fault_at old) tokens

@@ -1,4 +1,5 @@
--- Trees with labels in place of their tokens.
+-- Defines trees with labels in place of their tokens. A label is the ordinal of a name's
+-- declaration, or the spelling of an identifier without an ordinal.
 -- Rule: none; for contracts: trees with labels.
 use Rattle.std.specs.Prelude.{ℕ}
 use Rattle.ob0_tree.specs.Tree.{Sort, Tree, mapped}
@@ -6,7 +7,8 @@ use Rattle.ob0_tree.specs.Places.{value_at}
 use Rattle.ob0_language_names.specs.Names.{Label}
 use Rattle.ob0_scope_table.specs.Resolution.{Resolution, label_at}
 
--- returns the label of the identifier at a token
+-- returns the label of the identifier at a token: the ordinal of its declaration, or its spelling
+-- if it has no ordinal
 abbrev pub label_at_token : Resolution → ℕ → Label
 label_at_token r token = label_at r.module_read.source r.ordinals token
 

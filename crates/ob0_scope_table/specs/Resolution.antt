@@ -1,4 +1,4 @@
--- A resolved module: the declaration to which each name is bound, and the faults of names.
+-- Defines a resolved module: the declaration to which each name is bound, and the faults of names.
 -- Rule: docs/LANGUAGE.md, Scopes, Faults of scopes and types, `Undeclared`.
 use Rattle.std.specs.Prelude.{◌≡◌, ℕ, ◌-◌, nat_lt, Bool, true, false, not, ◌==◌, List, [], ◌∷◌, ◌++◌, Option, None, slice_get, slice_index_or, if◌then◌else◌, is_some}
 use Rattle.std.specs.List.{filter, list_any}
@@ -19,17 +19,18 @@ use Rattle.ob0_language_names.specs.DeclaredOnce.{declared_once}
 use Rattle.ob0_scope_table.specs.DeclaredTwice.{declaration_faults}
 use Rattle.ob0_scope_table.specs.Spans as spans
 
--- returns the ordinal that a table has at a token; None if the token has no ordinal or the table
--- has no such token
+-- Returns the ordinal that a table has at a token. Returns None if the token has no ordinal, or if
+-- the token is outside the table.
 abbrev pub ordinal_in : List (Option ℕ) → ℕ → Option ℕ
 ordinal_in ordinals token = slice_index_or ordinals token None
 
--- returns the label of the identifier at a token, from a table of ordinals
+-- returns the label of the identifier at a token: its ordinal in the table, or its spelling if it
+-- has no ordinal
 abbrev pub label_at : TextWithTokens → List (Option ℕ) → ℕ → Label
 label_at source ordinals token =
     label_from_ordinal naming_by_spelling (ordinal_in ordinals token) (text_at source token)
 
--- returns the declaring names among identifiers, in text order
+-- returns the declaring names among these identifiers, in the same order
 abbrev pub declaring_names : {N : Type 0} → List (Role × N) → List N
 declaring_names [] = []
 declaring_names ((role.Declaring, n) ∷ xs) = n ∷ declaring_names xs
@@ -38,34 +39,34 @@ declaring_names ((role.ClosingName, n) ∷ xs) = declaring_names xs
 declaring_names ((role.FieldName, n) ∷ xs) = declaring_names xs
 declaring_names ((role.ModuleName, n) ∷ xs) = declaring_names xs
 
--- returns the token that declares the object with this ordinal; None for a predeclared name, and if
--- there is no such ordinal
+-- Returns the token that declares the object with this ordinal. Returns None for a predeclared
+-- name, and if there is no such ordinal.
 abbrev pub declaration_token : List ℕ → ℕ → Option ℕ
 declaration_token declarations ordinal =
     if nat_lt ordinal predeclared_count
     then None
     else slice_get declarations (ordinal - predeclared_count)
 
--- returns true for the label of an unbound name
+-- returns whether this is the label of an unbound name
 abbrev pub is_unbound : Label → Bool
 is_unbound (declared k) = false
 is_unbound (as_written x) = true
 
--- returns true for the fault of a duplicate declaration or a wrong closing name
+-- returns whether this is the fault of a duplicate declaration or of a wrong closing name
 abbrev pub is_declaration_fault : Fault → Bool
 is_declaration_fault fault =
     elim (fault.code) [ code.Duplicate ↦ true | code.EndName ↦ true | _ ↦ false ]
 
--- returns true for the fault of an undeclared name
+-- returns whether this is the fault of an undeclared name
 abbrev pub is_undeclared_fault : Fault → Bool
 is_undeclared_fault fault = elim (fault.code) [ code.Undeclared ↦ true | _ ↦ false ]
 
--- returns the span of a token, in bytes; if there is no such token, an empty span at the text's
--- start
+-- returns the span of a token, in bytes, or an empty span at the text's start if there is no such
+-- token
 abbrev pub span_at : TextWithTokens → ℕ → Span
 span_at source token = spans.span_at source token
 
--- returns a fault `Undeclared` for each of these occurrences that has no ordinal in the table
+-- returns a fault `Undeclared` for each of these looked-up names that has no ordinal in the table
 abbrev pub undeclared_faults_by_table : TextWithTokens → List (Option ℕ) → List ℕ → List Fault
 undeclared_faults_by_table source ordinals [] = []
 undeclared_faults_by_table source ordinals (token ∷ tokens) =
@@ -74,8 +75,8 @@ undeclared_faults_by_table source ordinals (token ∷ tokens) =
     ∷ undeclared_faults_by_table source ordinals tokens
 
 -- A module with its resolved names. `ordinals` has the ordinal at each token. `declarations` has
--- the declaring tokens in text order, the first of which has the ordinal `predeclared_count`.
--- `uses` has the tokens of the occurrences in text order.
+-- the tokens of the declaring names in text order. The first of these names has the ordinal
+-- `predeclared_count`. `uses` has the tokens of the looked-up names in text order.
 pub record Resolution : Type 0 where
   pub module_read : ParsedModule
   pub ordinals : List (Option ℕ)
@@ -83,30 +84,31 @@ pub record Resolution : Type 0 where
   pub uses : List ℕ
   pub faults : List Fault
 
--- Holds if the table of ordinals gives the labels of the module's numbered tree.
+-- States that the module's numbered tree results from replacing each identifier in its tree by the
+-- label from this table of ordinals.
 abbrev pub IsNumberingTable : ParsedModule → List (Option ℕ) → Type 0
 IsNumberingTable m ordinals =
     numbered (named_tree_of m) ≡ mapped (label_at m.source ordinals) (value_at m.source) (tree_of m)
 
--- returns a name's spelling together with the ordinal of its declaration, which is None for an
--- unbound name
+-- returns a pair: the ordinal of a name's declaration, or None for an unbound name, and the name's
+-- spelling
 abbrev pub ordinal_and_spelling : Labelling Name (Option ℕ × Name)
 ordinal_and_spelling ordinal x = (ordinal, x)
 
--- returns the ordinal to which the identifier at a token is bound (None if it is unbound), and the
--- identifier's spelling
+-- returns a pair: the ordinal to which the identifier at a token is bound, or None if it is
+-- unbound, and the identifier's spelling
 abbrev pub binding_at : TextWithTokens → List (Option ℕ) → ℕ → Option ℕ × Name
 binding_at source ordinals token = (ordinal_in ordinals token, text_at source token)
 
--- Holds if the table of ordinals gives each identifier the ordinal of its declaration by the scope
--- rules, or None if it is unbound.
+-- States that the table of ordinals is right according to the scope rules. It gives each identifier
+-- the ordinal of its declaration, or None if the identifier is unbound.
 abbrev pub IsBindingTable : ParsedModule → List (Option ℕ) → Type 0
 IsBindingTable m ordinals =
     relabel_module naming_by_spelling ordinal_and_spelling (named_tree_of m)
     ≡ mapped (binding_at m.source ordinals) (value_at m.source) (tree_of m)
 
--- returns a fault `Undeclared` for each of these occurrences whose label is an unbound name; an
--- occurrence and its label have the same index in the two lists
+-- Returns a fault `Undeclared` for each of these looked-up names whose label is an unbound name. A
+-- looked-up name and its label have the same index in the two lists.
 abbrev pub undeclared_faults_by_labels : TextWithTokens → List ℕ → List Label → List Fault
 undeclared_faults_by_labels source [] labels = []
 undeclared_faults_by_labels source (token ∷ tokens) [] = []
@@ -116,29 +118,29 @@ undeclared_faults_by_labels source (token ∷ tokens) (label ∷ labels) =
     ∷ undeclared_faults_by_labels source tokens labels
     else undeclared_faults_by_labels source tokens labels
 
--- returns the faults of the undeclared names of a module, in text order
+-- returns a fault for each undeclared name of a module, in text order
 abbrev pub undeclared_faults : ParsedModule → List Fault
 undeclared_faults m = undeclared_faults_by_labels m.source (occurrences (tree_of m)) (bindings (named_tree_of m))
 
--- Holds if these are the faults of a module. Duplicate declarations and wrong closing names come
--- first, then one fault for each undeclared name, in text order. There are faults of the first two
--- kinds exactly if a name is declared twice or a closing name is wrong.
+-- States that these are the faults of a module's names. Duplicate declarations and wrong closing
+-- names come first. A fault for each undeclared name follows, in text order. There are faults of
+-- the first two kinds exactly if a name is declared twice or a closing name is wrong.
 pub record AreFaultsOf (m : ParsedModule) (faults : List Fault) : Type 0 where
   pub by_kind : faults ≡ declaration_faults m ++ undeclared_faults m
   pub declared_twice : list_any is_declaration_fault faults ≡ not (declared_once (named_tree_of m))
   pub undeclared : filter is_undeclared_fault faults ≡ undeclared_faults m
 
--- returns true if an identifier of the module is at this token
+-- returns whether this token is an identifier of the module
 abbrev pub is_identifier_token : ParsedModule → ℕ → Bool
 is_identifier_token m token = list_any (λ i. i == token) (leaves (tree_of m))
 
--- holds if a table has no ordinal at a token that isn't an identifier of the module
+-- states that a table has no ordinal at a token that isn't an identifier of the module
 abbrev pub OnlyNamesHaveOrdinals : ParsedModule → List (Option ℕ) → Type 0
 OnlyNamesHaveOrdinals m ordinals =
     (token : ℕ) → is_identifier_token m token ≡ false → ordinal_in ordinals token ≡ None
 
--- Holds if the ordinals, declaring tokens, occurrences and faults of a resolved module are correct
--- for its text.
+-- States that the ordinals, the declaring names, the looked-up names and the faults of a resolved
+-- module are correct for its text.
 pub record IsResolution (r : Resolution) : Type 0 where
   pub parsed : IsParsed r.module_read
   pub numbering : IsNumberingTable r.module_read r.ordinals

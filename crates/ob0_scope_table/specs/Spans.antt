@@ -1,19 +1,19 @@
--- The spans of tokens.
+-- Defines the spans of tokens.
 -- Rule: none; for contracts: places of tokens.
 use Rattle.std.specs.Prelude.{ℕ, Bool, nat_le, ◌&&◌, Option, Some, None, slice_get}
 use Rattle.ob0_scan.specs.declared.lexeme.Span.{Span}
 use Rattle.ob0_scan.specs.declared.lexeme.Token.{Token}
 use Rattle.ob0_scan.specs.TextWithTokens.{TextWithTokens}
 
--- returns the span of an optional token; if there is none, an empty span at the text's start
+-- returns the span of a token, or an empty span at the text's start for None
 abbrev pub span_or_empty : Option Token → Span
 span_or_empty None = record { start = 0; end = 0 }
 span_or_empty (Some t) = t.span
 
--- returns the span of a token; if there is no such token, an empty span at the text's start
+-- returns the span of a token, or an empty span at the text's start if there is no such token
 abbrev pub span_at : TextWithTokens → ℕ → Span
 span_at source token = span_or_empty (slice_get source.tokens token)
 
--- returns true if a byte offset is in a span or at its end
+-- returns whether a byte offset is in a span or at its end
 abbrev pub is_on : ℕ → Span → Bool
 is_on offset span = nat_le span.start offset && nat_le offset span.end

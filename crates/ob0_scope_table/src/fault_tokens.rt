@@ -10,7 +10,7 @@ use crate::table::token_span;
 use ob0_scan::{Fault, FaultCode, Span, Token, Tokens};
 use std::alloc::{AllocError, Global};
 
-/// A fault, with the first and the last token of its range.
+/// A fault, with the indexes of the first and the last token of its range instead of its span.
 #[derive(Clone, Copy)]
 pub struct FaultByTokens {
     pub code: FaultCode,
@@ -49,7 +49,7 @@ fn find_fault_tokens(tokens: &Tokens, fault: &Fault) -> FaultByTokens
     }
 }
 
-/// Returns each of these faults with its span in the text, instead of its first and last token.
+/// Returns these faults with their spans in the text, computed from their first and last tokens.
 pub fn faults_at_tokens(
     alloc: Global,
     tokens: &Tokens,
@@ -79,8 +79,9 @@ fn fault_from_tokens(tokens: &Tokens, fault: &FaultByTokens) -> Fault
     }
 }
 
-/// Returns the index of the first token that doesn't begin before a place, found by binary search. Returns the number
-/// of tokens for place 0, because place 0 counts as a place at which no token begins.
+/// Returns the index of the first token that begins at or after the byte offset `place`, found by
+/// binary search. Returns the number of tokens if there is none. Also returns the number of tokens
+/// for offset 0, because no token counts as beginning there.
 fn find_token_starting_at(tokens: &[Token], place: usize) -> usize
     ensures { IsNonDecreasingBy (λ (t : token.Token). t.span.start) tokens.now
         → result ≡ index_starting_at tokens.now place }
@@ -91,8 +92,9 @@ fn find_token_starting_at(tokens: &[Token], place: usize) -> usize
     tokens.partition_point(|token| (token.span.start as usize) < place)
 }
 
-/// Returns the index of the first token that doesn't end before a place, found by binary search. Returns the number of
-/// tokens for place 0, because no token ends at place 0.
+/// Returns the index of the first token that ends at or after the byte offset `place`, found by
+/// binary search. Returns the number of tokens if there is none. Also returns the number of tokens
+/// for offset 0, because no token ends there.
 fn find_token_ending_at(tokens: &[Token], place: usize) -> usize
     ensures { IsNonDecreasingBy (λ (t : token.Token). t.span.end) tokens.now
         → result ≡ index_ending_at tokens.now place }

@@ -1,5 +1,5 @@
-//! Defines the result of resolving a module's names: the ordinal of each token, the faults of
-//! names, and trees labelled with the ordinals.
+//! Defines the result of resolving a module's names: the ordinal of the declaration at each token,
+//! the faults of names, and trees labelled with ordinals.
 #![tactic(auto)]
 
 mod fault_tokens;

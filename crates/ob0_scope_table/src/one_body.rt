@@ -10,25 +10,25 @@ ghost use Rattle.ob0_scope_table.specs.OneBody.{begins_at_or_before, is_in_body}
 
 use ob0_tree::{Block, Module, ModuleTree, Procedure, Statement, first_identifier};
 
-/// The place of a body: the token of its first identifier, and the token of its block's closing
-/// name.
+/// The place of a body: the token index of its first identifier, and the token index of its block's
+/// closing name.
 #[derive(Clone, Copy)]
 pub struct BodyPlace {
     pub first: usize,
     pub closing: usize,
 }
 
-/// Returns true if the tokens from `low` up to, but not including, `high` are inside the statements
-/// of one block. They begin at or after the first identifier of these statements, and end before
-/// the block's closing name.
+/// Returns whether the tokens from `low` up to, but not including, `high` are inside the statements
+/// of one block. These tokens must begin at or after the first identifier of the statements, and
+/// end before the block's closing name.
 pub fn is_in_body(read: &Module<'_>, low: usize, high: usize) -> bool
     ensures { result ≡ is_in_body low high (tree_of read.now) }
 {
     body_place_in_module(read, low, high).is_some()
 }
 
-/// Returns the place of the body that contains the tokens from `low` up to, but not including, `high`. Returns None if
-/// no body contains them.
+/// Returns the place of the body, in a tree, that contains the tokens from `low` up to, but not
+/// including, `high`. Returns None if no body contains them.
 pub fn body_place_in_tree(tree: &ModuleTree, low: usize, high: usize) -> Option<BodyPlace>
     ensures { result ≡ body_place_around low high (module_tree_of tree.now) }
 {
@@ -38,8 +38,8 @@ pub fn body_place_in_tree(tree: &ModuleTree, low: usize, high: usize) -> Option<
     body_place_in_block(&tree.block, tree.closing, low, high)
 }
 
-/// Returns the place of the body of a module that contains the tokens from `low` up to, but not including, `high`.
-/// Returns None if no body contains them.
+/// Returns the place of the body, in a module, that contains the tokens from `low` up to, but not
+/// including, `high`. Returns None if no body contains them.
 pub fn body_place_in_module(read: &Module<'_>, low: usize, high: usize) -> Option<BodyPlace>
     ensures { result ≡ body_place_around low high (tree_of read.now) }
 {
@@ -49,8 +49,9 @@ pub fn body_place_in_module(read: &Module<'_>, low: usize, high: usize) -> Optio
     body_place_in_block(read.block(), read.closing_name(), low, high)
 }
 
-/// Returns the place of the body, in this block or a procedure inside it, that contains the tokens from `low` to before
-/// `high`. `closing` is the block's closing name. Returns None if no body contains them.
+/// Returns the place of the body, in this block or a procedure inside it, that contains the tokens
+/// from `low` up to, but not including, `high`. `closing` is the token of the block's closing name.
+/// Returns None if no body contains the tokens.
 #[cycle(places)]
 fn body_place_in_block(b: &Block, closing: usize, low: usize, high: usize) -> Option<BodyPlace>
     ensures { result ≡ body_place_in_block low high closing (block_of b.now) }
@@ -66,8 +67,8 @@ fn body_place_in_block(b: &Block, closing: usize, low: usize, high: usize) -> Op
     body_place_of_statements(&b.body, closing, low)
 }
 
-/// Returns the place of the body, in this procedure or one inside it, that contains the tokens from `low` to before
-/// `high`. Returns None if no body contains them.
+/// Returns the place of the body, in this procedure or one inside it, that contains the tokens from
+/// `low` up to, but not including, `high`. Returns None if no body contains them.
 #[cycle(places)]
 fn body_place_in_procedure(p: &Procedure, low: usize, high: usize) -> Option<BodyPlace>
     ensures { result ≡ body_place_in_procedure low high (procedure_of p.now) }
@@ -75,8 +76,9 @@ fn body_place_in_procedure(p: &Procedure, low: usize, high: usize) -> Option<Bod
     body_place_in_block(&p.block, p.closing, low, high)
 }
 
-/// Returns the place of a body with these statements, whose block has this closing name. Returns
-/// None if the statements have no identifier, or their first identifier is after the token `low`.
+/// Returns the place of a body with these statements, in a block with this closing name. Returns
+/// None if the statements have no identifier, or if their first identifier is after the token
+/// `low`.
 fn body_place_of_statements(
     statements: &Option<Vec<Statement>>,
     closing: usize,

@@ -27,7 +27,8 @@ impl Model for OrdinalEntry {
 }
 
 impl OrdinalEntry {
-    /// Returns the entry of an optional ordinal. An ordinal above the greatest one counts as the greatest.
+    /// Returns the entry for an ordinal, or for None. An ordinal above the greatest one is stored
+    /// as the greatest one.
     pub fn new(ordinal: Option<usize>) -> OrdinalEntry
         ensures { result ≡ stored_ordinal ordinal }
     {
@@ -39,7 +40,7 @@ impl OrdinalEntry {
         }
     }
 
-    /// Returns the ordinal of an entry, or None if it has none.
+    /// Returns the ordinal of an entry, or None if the entry has no ordinal.
     pub fn ordinal(self) -> Option<usize>
         ensures { result ≡ self }
     {

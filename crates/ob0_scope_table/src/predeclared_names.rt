@@ -1,4 +1,4 @@
-//! The ordinals of the predeclared names (docs/LANGUAGE.md, Scopes 1).
+//! Defines the ordinals of the predeclared names (docs/LANGUAGE.md, Scopes 1).
 
 /// The number of predeclared names: INTEGER, BOOLEAN, TRUE, FALSE, Read, Write and WriteLn, with
 /// the ordinals 0 to 6.

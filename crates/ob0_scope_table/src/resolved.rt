@@ -1,4 +1,4 @@
-//! Keeps a module with its names resolved.
+//! Keeps a module together with the bindings of its names.
 
 ghost use Rattle.std.specs.Prelude.{◌≡◌, ◌-◌, ◌<◌, slice_get, Some, None};
 ghost use Rattle.ob0_tree.specs.ParsedModule.{named_tree_of};
@@ -13,9 +13,9 @@ use ob0_tree::Module;
 use std::borrow::Cow;
 use std::marker::Model;
 
-/// The bindings of a module's names, as indexes of tokens and ordinals only: the ordinal of each
-/// token's name, the declaring tokens, the tokens of the occurrences, and the faults. Bindings
-/// borrow nothing.
+/// The bindings of a module's names, as token indexes and ordinals. `ordinals` has an entry for
+/// each token. `declarations` has the tokens of the declaring names, and `occurrences` the tokens
+/// of the looked-up names. `faults` has the faults of names. Bindings borrow nothing.
 #[derive(Drop)]
 pub struct Bindings {
     pub ordinals: Vec<OrdinalEntry>,
@@ -25,9 +25,9 @@ pub struct Bindings {
 }
 
 /// A module in which each name is bound to its declaration. Declarations are identified by
-/// ordinals: 0 to 6 are the predeclared names, and those from 7 upwards are the declarations of the
-/// text, in text order. The invariant `IsResolution` states that all parts are correct for the
-/// text. The contract of `module` gives this invariant.
+/// ordinals. The predeclared names have the ordinals 0 to 6. The declarations of the text have the
+/// ordinals from 7 upwards, in text order. The invariant `IsResolution` states that all parts are
+/// correct for the text. The contract of `module` states this invariant.
 #[derive(Drop)]
 pub struct Resolved<'t> {
     module: &'t Module<'t>,
@@ -54,7 +54,7 @@ impl<'t> Model for Resolved<'t> {
 impl<'t> Resolved<'t> {
     ghost use Rattle.ob0_scope_table.specs.Bindings.{resolution_with};
 
-    /// Joins a module and its bindings, which the result owns.
+    /// Joins a module and its bindings. The result owns the bindings.
     pub fn new(module: &'t Module<'t>, bindings: Bindings) -> Resolved<'t>
         requires { IsResolution (resolution_with «module».now bindings) }
         ensures { result ≡ resolution_with «module».now bindings }
@@ -65,7 +65,7 @@ impl<'t> Resolved<'t> {
         }
     }
 
-    /// Joins a module and its bindings, which the result borrows.
+    /// Joins a module and its bindings. The result borrows the bindings.
     pub fn from_parts(module: &'t Module<'t>, bindings: &'t Bindings) -> Resolved<'t>
         requires { IsResolution (resolution_with «module».now bindings.now) }
         ensures { result ≡ resolution_with «module».now bindings.now }
@@ -101,8 +101,9 @@ impl<'t> Resolved<'t> {
         self.module.tokens()
     }
 
-    /// Returns the ordinal of the declaration to which the occurrence with this number is bound. Occurrences are
-    /// counted from 0 in text order. Returns None if the occurrence is unbound or doesn't exist.
+    /// Returns the ordinal of the declaration to which the looked-up name with this number is
+    /// bound. Looked-up names are counted from 0 in text order. Returns None if the name is unbound
+    /// or there is no such name.
     pub fn declaration_of(&self, occurrence: usize) -> Option<usize>
         ensures { result ≡ binds (named_tree_of self.now.module_read) occurrence }
     {
@@ -114,23 +115,25 @@ impl<'t> Resolved<'t> {
         }
     }
 
-    /// Returns the token of an occurrence, or None if there is no occurrence with this number.
+    /// Returns the token index of the looked-up name with this number, counted from 0 in text
+    /// order. Returns None if there is no such name.
     pub fn occurrence(&self, occurrence: usize) -> Option<usize>
         ensures { result ≡ slice_get self.now.uses occurrence }
     {
         self.bindings().occurrences.get(occurrence).copied()
     }
 
-    /// Returns the ordinal of the declaration of the identifier at a token. A looked-up name has the ordinal to which
-    /// it is bound, a declaring name has its own, and a procedure's closing name has the procedure's. Returns None at a
-    /// field, at the module's name, at an unbound name and at any other token.
+    /// Returns the ordinal of the declaration of the identifier at a token. A looked-up name has
+    /// the ordinal to which it is bound. A declaring name has its own ordinal, and a procedure's
+    /// closing name has the procedure's. Returns None at a field, at the module's name, at an
+    /// unbound name and at any other token.
     pub fn ordinal_at(&self, token: usize) -> Option<usize>
         ensures { result ≡ ordinal_in self.now.ordinals token }
     {
         ordinal_at(&self.bindings().ordinals, token)
     }
 
-    /// Returns the table of ordinals. Its entry at a token's index is the ordinal that `ordinal_at`
+    /// Returns the table of ordinals. The entry at a token's index is the ordinal that `ordinal_at`
     /// returns for the token.
     pub fn ordinals(&self) -> &[OrdinalEntry]
         ensures { result.now ≡ self.now.ordinals }
@@ -138,15 +141,16 @@ impl<'t> Resolved<'t> {
         self.bindings().ordinals.as_slice()
     }
 
-    /// Returns the tokens of the declaring names, in text order. The first name has the ordinal 7.
+    /// Returns the token indexes of the declaring names, in text order. The first of these names
+    /// has the ordinal 7.
     pub fn declarations(&self) -> &[usize]
         ensures { result.now ≡ self.now.declarations }
     {
         self.bindings().declarations.as_slice()
     }
 
-    /// Returns the token that declares the object with this ordinal. Returns None for a predeclared name, and if there
-    /// is no such ordinal.
+    /// Returns the index of the token that declares the object with this ordinal. Returns None for
+    /// a predeclared name, and if there is no such ordinal.
     pub fn declaring_token(&self, ordinal: usize) -> Option<usize>
         ensures { result ≡ declaration_token self.now.declarations ordinal }
     {
@@ -159,15 +163,15 @@ impl<'t> Resolved<'t> {
             .copied()
     }
 
-    /// Returns the tokens of the occurrences, in text order.
+    /// Returns the token indexes of the looked-up names, in text order.
     pub fn occurrences(&self) -> &[usize]
         ensures { result.now ≡ self.now.uses }
     {
         self.bindings().occurrences.as_slice()
     }
 
-    /// Returns the faults: first duplicate declarations in a block or record and wrong closing
-    /// names, then the undeclared names in text order.
+    /// Returns the faults of names. Duplicate declarations in a block or record and wrong closing
+    /// names come first. The undeclared names follow, in text order.
     pub fn faults(&self) -> &[Fault]
         ensures { result.now ≡ self.now.faults }
     {

@@ -10,8 +10,8 @@ use crate::ordinal_entry::OrdinalEntry;
 use ob0_scan::{Span, Tokens};
 use ob0_tree::text_at;
 
-/// Returns the ordinal that a table has at a token. Returns None if the token has no ordinal or the
-/// table has no such token.
+/// Returns the ordinal that a table has at a token. Returns None if the token has no ordinal, or if
+/// the token is outside the table.
 pub fn ordinal_at(ordinals: &[OrdinalEntry], token: usize) -> Option<usize>
     ensures { result ≡ ordinal_in ordinals.now token }
 {
@@ -21,7 +21,7 @@ pub fn ordinal_at(ordinals: &[OrdinalEntry], token: usize) -> Option<usize>
     }
 }
 
-/// Returns true if `found` is an ordinal and equals `ordinal`.
+/// Returns whether `found` is the ordinal `ordinal`. Returns false if `found` is None.
 pub fn same_ordinal(found: Option<usize>, ordinal: usize) -> bool
     ensures { result ≡ same_ordinal found ordinal }
 {
@@ -31,7 +31,7 @@ pub fn same_ordinal(found: Option<usize>, ordinal: usize) -> bool
     }
 }
 
-/// Returns the span of a token, in bytes. If there is no such token, it is an empty span at the
+/// Returns the span of a token, in bytes. If there is no such token, the span is empty and at the
 /// text's start.
 pub fn token_span(tokens: &Tokens, token: usize) -> Span
     ensures { result ≡ span_at tokens.now token }
@@ -42,7 +42,7 @@ pub fn token_span(tokens: &Tokens, token: usize) -> Span
     }
 }
 
-/// Returns true if a token has this name as its spelling. A token that doesn't exist has the empty
+/// Returns whether a token has this name as its spelling. A token that doesn't exist has the empty
 /// spelling.
 pub fn has_spelling(tokens: &Tokens, token: usize, name: &str) -> bool
     ensures { result ≡ same_name (text_at tokens.now token) name.now }

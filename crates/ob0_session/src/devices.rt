@@ -1,7 +1,9 @@
-//! Declares the devices that `serve` reads and writes. Ghost functions record their calls and failures.
+//! Declares the devices that `serve` reads from and writes to. Ghost functions record the calls of
+//! a device and their failures.
 //!
-//! std's contracts don't count the calls of a reader, and don't record whether a call failed. The contract of `serve`
-//! covers both, for every device of these traits. `Noted` makes such a device of each reader and each writer of std.
+//! std's contracts don't count the calls of a reader, and don't record whether a call failed. The
+//! contract of `serve` states both, for every device that implements these traits. `Noted` makes
+//! such a device of each reader and each writer of std.
 ghost use Rattle.std.specs.Prelude.{◌≡◌, ◌≢◌, ◌||◌, ◌<◌, ℕ, List, [], Option, Bool, true, false, length, is_err, IfOk, OnOk, OnErr};
 ghost use Rattle.std.specs.Io.{ReadsAtMost, WritesAtMost};
 ghost use Rattle.std.specs.Io.KnownBytes.{Keeps, ReadConsumes, WriteAppends};
@@ -16,17 +18,17 @@ pub struct DeviceFault;
 
 /// A device from which bytes are read. Its ghost members record the calls.
 pub trait InputDevice {
-    // Returns the bytes that are left to read, or None if they aren't known.
+    // Returns the remaining bytes of the input, or None if they aren't known.
     ghost remaining: { Self → Option (List ℕ) };
 
     // Returns the number of reads, and the length in bytes of the longest buffer passed to a read.
     ghost reads: { Self → ReadCounts };
 
-    // Returns true if a call has failed.
+    // Returns whether a call has failed.
     ghost has_failed: { Self → Bool };
 
-    /// Reads bytes into the buffer, and returns how many. Returns 0 only at the end of the input
-    /// or if the buffer is empty.
+    /// Reads bytes into the buffer, and returns the number of bytes read. Returns 0 only at the end
+    /// of the input or if the buffer is empty.
     fn read(&mut self, buf: &mut [u8]) -> Result<usize, DeviceFault>
         ensures bound { ReadsAtMost result buf.new }
         ensures bytes { ReadConsumes (remaining self.old) (remaining self.new) result buf.new }
@@ -36,17 +38,18 @@ pub trait InputDevice {
 
 /// A device to which bytes are written. Its ghost members record the calls.
 pub trait OutputDevice {
-    // Returns the bytes that were written, or None if they aren't known.
+    // Returns all bytes that were written, or None if they aren't known.
     ghost contents: { Self → Option (List ℕ) };
 
-    // Returns true if a flush has succeeded after the last write, or nothing was written.
+    // Returns whether everything written is flushed: nothing was written, or a flush has succeeded
+    // since the last write.
     ghost is_flushed: { Self → Bool };
 
-    // Returns true if a call has failed.
+    // Returns whether a call has failed.
     ghost has_failed: { Self → Bool };
 
-    /// Writes a prefix of the bytes, and returns its length. If `buf` isn't empty, writes at least
-    /// one byte.
+    /// Writes a prefix of the bytes, and returns the number of bytes written. If `buf` isn't empty,
+    /// at least one byte is written.
     fn write(&mut self, buf: &[u8]) -> Result<usize, DeviceFault>
         ensures bound { WritesAtMost result buf.now }
         ensures progress { IfOk result (λ count. buf.now ≢ [] → 0 < count) }
@@ -54,7 +57,7 @@ pub trait OutputDevice {
         ensures noted { has_failed self.new ≡ (has_failed self.old || is_err result) }
         ensures flushed { is_flushed self.new ≡ false };
 
-    /// Flushes all the bytes written. If the flush fails, `is_flushed` is unchanged.
+    /// Flushes everything that was written. If the flush fails, `is_flushed` is unchanged.
     fn flush(&mut self) -> Result<(), DeviceFault>
         ensures bytes { Keeps (contents self.old) (contents self.new) }
         ensures noted { has_failed self.new ≡ (has_failed self.old || is_err result) }

@@ -26,8 +26,8 @@ use Rattle.ob0_edits.specs.declared.inlinings.Inlining.TheVariants.{Here, Everyw
 
 -- ---- the request
 
--- A request for code actions: its id, the client's capabilities, the document and its version, the
--- range, and the requested kinds of actions (None if all kinds are requested).
+-- A request for code actions: its id, the client's capabilities, the document's uri and version,
+-- the range, and the requested kinds of actions. If `only` is None, all kinds are requested.
 pub record RequestedActions : Type 0 where
   pub id : Data
   pub client : ClientFeatures
@@ -36,8 +36,8 @@ pub record RequestedActions : Type 0 where
   pub range : Range
   pub only : Option (List (List ℕ))
 
--- Returns an `ActionsRequest` of the program, about a document of this version, as the
--- `RequestedActions` of the definitions.
+-- Translates the program's `ActionsRequest`, about a document of this version, into a
+-- `RequestedActions`.
 abbrev pub actions_request_view : ActionsRequest → ℤ → RequestedActions
 actions_request_view r version =
     record {
@@ -49,53 +49,53 @@ actions_request_view r version =
       only = kinds_view r.only.now;
     }
 
--- Returns true if this kind of actions includes inlining.
+-- Returns whether this kind of actions includes inlining.
 abbrev pub is_inlining_kind : List ℕ → Bool
 is_inlining_kind kind =
     bytes_eq kind [] || bytes_eq kind (codes "refactor") || bytes_eq kind (codes "refactor.inline")
 
--- Returns true if all kinds are requested (None), or if one of the requested kinds includes
--- inlining.
+-- Returns whether the requested kinds of actions include inlining. For None, all kinds are
+-- requested.
 abbrev pub allows_inlining : Option (List (List ℕ)) → Bool
 allows_inlining (Some kinds) = list_any is_inlining_kind kinds
 allows_inlining None = true
 
--- Returns true if the client accepts actions that aren't commands, and the requested kinds include
+-- Returns whether the client accepts actions that aren't commands and the requested kinds include
 -- inlining. For None, all kinds are requested.
 abbrev pub accepts_inlining : ClientFeatures → Option (List (List ℕ)) → Bool
 accepts_inlining client only = client.accepts_literal_actions && allows_inlining only
 
--- Returns true if the client of this request accepts actions that aren't commands, and the
--- requested kinds include inlining. For None, all kinds are requested.
+-- Returns whether the client of this request accepts actions that aren't commands and the requested
+-- kinds include inlining.
 abbrev pub wants_inlining : RequestedActions → Bool
 wants_inlining requested = accepts_inlining requested.client requested.only
 
--- Returns the byte offset at which actions apply: the start of the range, or its end if the end
--- comes first.
+-- Returns the byte offset in the text at which actions apply: the start of the range, or its end if
+-- the end comes first.
 abbrev pub actions_offset : Unit → List ℕ → Range → ℕ
 actions_offset unit text range =
     min (offset_of (width_of unit) text range.start) (offset_of (width_of unit) text range.end)
 
 -- ---- the message
 
--- Returns the title of the action that inlines in this way.
+-- Returns the title of the action that inlines at one use (`Here`) or at every use (`Everywhere`).
 abbrev pub title : Inlining → List ℕ
 title Here = codes "Inline here"
 title Everywhere = codes "Inline everywhere"
 
--- Returns the JSON value of the action with these edits, in the form that the client accepts.
+-- Returns the JSON value of the code action with these edits, in the form that the client accepts.
 abbrev pub action_of : RequestedActions → Inlining → List Edit → Data
 action_of requested how edits =
     action_value (workspace_edit requested.client requested.uri requested.version edits) (title how)
 
--- Returns the list of the one action that applies these edits, or an empty list for None, which
--- means that the edits are refused.
+-- Returns a list of one action, which applies these edits. If the edits are None, they are refused,
+-- and the list is empty.
 abbrev pub action_values : RequestedActions → Inlining → Option (Vec Edit Global) → List Data
 action_values requested how (Some edits) = action_of requested how edits.items ∷ []
 action_values requested how None = []
 
--- Returns the JSON array of the offered actions: inlining at one use, then inlining everywhere. An
--- action whose edits are None isn't offered.
+-- Returns the JSON array of the offered actions: to inline at one use, then to inline everywhere.
+-- An action whose edits are None isn't offered.
 abbrev pub actions_array : RequestedActions
     → Option (Vec Edit Global)
     → Option (Vec Edit Global)
@@ -104,8 +104,8 @@ actions_array requested here everywhere =
     array (items_of
     (action_values requested Here here ++ action_values requested Everywhere everywhere))
 
--- Holds if the request includes inlining, the text is a well-typed module, and the value lists the
--- actions that are offered at the offset `actions_offset` of the request's range.
+-- States that the request includes inlining and that the text is a well-typed module. The value
+-- lists the actions that are offered at the offset `actions_offset` of the request's range.
 pub record ListsInlinings (unit : Unit) (requested : RequestedActions) (text : List ℕ)
     (value : Data) : Type 0 where
   pub here : Option (Vec Edit Global)
@@ -116,7 +116,7 @@ pub record ListsInlinings (unit : Unit) (requested : RequestedActions) (text : L
       everywhere
   pub listed : value ≡ actions_array requested here everywhere
 
--- Holds if the value lists the offered actions. The list is empty if the request doesn't include
+-- States that the value lists the offered actions. The list is empty if the request doesn't include
 -- inlining, or if the text isn't a well-typed module.
 abbrev pub ListsActions : Unit → RequestedActions → List ℕ → Data → Type 0
 ListsActions unit requested text value =
@@ -124,15 +124,16 @@ ListsActions unit requested text value =
     ⊎ (((wants_inlining requested ≡ false) ⊎ ¬ IsWellTypedModule (utf8 text))
     × (value ≡ array no_items))
 
--- Holds if the message answers the request for code actions in a document with this text. Positions
--- are counted in this unit.
+-- States that the message answers the request for code actions in a document with this text.
+-- Positions are counted in this unit.
 abbrev pub AnswersActions : Unit → RequestedActions → List ℕ → Data → Type 0
 AnswersActions unit requested text message =
     (value : Data)
     × ListsActions unit requested text value
     × (message ≡ result_message requested.id value)
 
--- Holds if the content is the text of a message that answers the request for code actions.
+-- States that the bytes `content` are the text of a message that answers the request for code
+-- actions.
 abbrev pub RepliesToActions : Unit → RequestedActions → List ℕ → List ℕ → Type 0
 RepliesToActions unit requested text content =
     (message : Data) × AnswersActions unit requested text message × Writes message content

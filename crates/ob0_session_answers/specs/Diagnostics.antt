@@ -1,4 +1,5 @@
--- Defines the diagnostics of a text: the complaints that are reported for it, with positions.
+-- Defines the diagnostics of a text: the complaints that are reported for the text, with positions
+-- instead of byte offsets.
 -- Rule: docs/PROTOCOL.md, Publishing 3, JSON shapes 2.
 use Rattle.std.specs.Prelude.{◌≡◌, ℕ, ℤ, List, Some, map}
 use Rattle.ob0_rpc.specs.Writing.{Writes}
@@ -9,8 +10,8 @@ use Rattle.ob0_analysis.specs.Diagnosed.{Complaint, Reports}
 use Rattle.ob0_analysis.specs.Texts.{utf8}
 use Rattle.ob0_session_json.specs.Shapes.{Diagnostic, publication}
 
--- Returns the diagnostic that reports a complaint: the complaint's code and message, and the
--- positions of its start and end.
+-- Returns the diagnostic that reports a complaint. It has the complaint's code and message, and the
+-- positions at which the complaint starts and ends.
 abbrev pub diagnostic_of : Unit → List ℕ → Complaint → Diagnostic
 diagnostic_of unit text c = record {
   code = c.code;
@@ -19,14 +20,15 @@ diagnostic_of unit text c = record {
   end = position_of (width_of unit) text c.span.end;
 }
 
--- Holds if these are the diagnostics of the text. Positions are counted in this unit.
+-- States that these are the diagnostics of the text. Positions are counted in this unit.
 abbrev pub Diagnoses : Unit → List ℕ → List Diagnostic → Type 0
 Diagnoses unit text ds =
     (reported : List Complaint)
     × Reports (utf8 text) reported
     × (ds ≡ map (diagnostic_of unit text) reported)
 
--- Holds if the content publishes the diagnostics of a document with this uri, version and text.
+-- States that the bytes `content` are the text of the message that publishes the diagnostics of a
+-- document with this uri, version and text.
 abbrev pub Publishes : Unit → List ℕ → ℤ → List ℕ → List ℕ → Type 0
 Publishes unit uri version text content =
     (ds : List Diagnostic)

@@ -1,4 +1,4 @@
--- Defines the answer to a request for formatting.
+-- Defines the answer to a request for formatting: edits or a refusal.
 -- Rule: docs/PROTOCOL.md, Requests on documents 8.
 use Rattle.std.specs.Prelude.{◌≡◌, ◌⊎◌, ℕ, List, codes}
 use Rattle.serde_json.specs.Data.{Data}
@@ -14,8 +14,8 @@ use Rattle.ob0_analysis.specs.Texts.{utf8}
 use Rattle.ob0_edits.specs.Layouts.{IsTooLongFormatted, FormatsIn}
 use Rattle.ob0_session_json.specs.Shapes.{edits_value, edit_refusal}
 
--- Holds if the message answers a request with this id to format the text. It has edits, or refuses
--- because the formatted text is too long, or because the text is ill-typed.
+-- States that the message answers a request with this id to format the text. The message has edits,
+-- or refuses because the formatted text is too long, or refuses because the text is ill-typed.
 abbrev pub AnswersFormatting : Unit → Data → Indent → List ℕ → Data → Type 0
 AnswersFormatting unit id indent text message =
     ((edits : List Edit)
@@ -24,7 +24,8 @@ AnswersFormatting unit id indent text message =
     ⊎ ((IsTooLongFormatted indent text × (message ≡ edit_refusal id (refusal_text TooLong)))
     ⊎ (¬ IsWellTypedModule (utf8 text) × (message ≡ edit_refusal id (codes "ill-typed"))))
 
--- Holds if the content is the text of a message that answers the request for formatting.
+-- States that the bytes `content` are the text of a message that answers the request for
+-- formatting.
 abbrev pub RepliesToFormatting : Unit → Data → Indent → List ℕ → List ℕ → Type 0
 RepliesToFormatting unit id indent text content =
     (message : Data) × AnswersFormatting unit id indent text message × Writes message content

@@ -29,7 +29,7 @@ pub data NameQuestion : Type 0 where
 
 -- ---- JSON values (arguments: the unit of positions, the uri, and the text's characters)
 
--- Returns the JSON value of a span's range.
+-- Returns the JSON value of the range that a span covers in the text.
 abbrev pub span_range : Unit → List ℕ → Span → Data
 span_range unit text span =
     let range = range_of (width_of unit) text span in range_value range.start range.end
@@ -47,20 +47,20 @@ abbrev pub value_or_null : Option Data → Data
 value_or_null (Some value) = value
 value_or_null None = null
 
--- Returns the byte offset of a position.
+-- Returns the byte offset of a position in the text.
 abbrev pub offset_in : Unit → List ℕ → DocumentPlace → ℕ
 offset_in unit text at = offset_of (width_of unit) text at.position
 
--- Holds if the value lists, in text order, the locations of all references to the name or field at
--- the position. `include` says whether the list contains the declaration.
+-- States that the value lists, in text order, the locations of all references to the name or field
+-- at the position. `include` says whether the list contains the declaration.
 abbrev pub AnswersReferences : Unit → List ℕ → DocumentPlace → Bool → Resolution → Data → Type 0
 AnswersReferences unit text at include names value =
     (spans : List Span)
     × AreReferencesAt names (offset_in unit text at) include spans
     × (value ≡ array (items_of (map (span_location unit at.uri text) spans)))
 
--- Holds if the value answers the question about a well-typed module. `names` is the resolution of
--- the module's names.
+-- States that the value answers the question about a well-typed module. `names` is the resolution
+-- of the module's names.
 abbrev pub AnswersInModule : Unit → List ℕ → DocumentPlace → NameQuestion → Resolution → Data → Type 0
 AnswersInModule unit text at hover_asked names value =
     value
@@ -77,8 +77,8 @@ AnswersInModule unit text at renaming_asked names value =
     ≡ value_or_null
     (option_map (span_range unit text) (renamable_span_at names (offset_in unit text at)))
 
--- Returns the answer for a text that isn't a well-typed module: null, or an empty list for
--- references.
+-- Returns the answer to a question about a text that isn't a well-typed module: an empty list for
+-- references, otherwise null.
 abbrev pub empty_answer : NameQuestion → Data
 empty_answer hover_asked = null
 empty_answer definition_asked = null
@@ -87,7 +87,7 @@ empty_answer renaming_asked = null
 
 -- ---- texts
 
--- Holds if the value answers the question about a position of this text.
+-- States that the value answers the question about a position in this text.
 abbrev pub AnswersQuestion : Unit → List ℕ → DocumentPlace → NameQuestion → Data → Type 0
 AnswersQuestion unit text at question value =
     ((names : Resolution)
@@ -95,7 +95,8 @@ AnswersQuestion unit text at question value =
     × AnswersInModule unit text at question names value)
     ⊎ (¬ IsWellTypedModule (utf8 text) × (value ≡ empty_answer question))
 
--- Holds if the content answers the question in a request with this id.
+-- States that the bytes `content` are the text of the answer to a request with this id, which asks
+-- this question.
 abbrev pub RepliesToQuestion : Unit → Data → DocumentPlace → NameQuestion → List ℕ → List ℕ → Type 0
 RepliesToQuestion unit id at question text content =
     (value : Data)

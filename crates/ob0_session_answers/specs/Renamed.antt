@@ -1,4 +1,4 @@
--- Defines the answer to a request for renaming, and its edits.
+-- Defines the answer to a request for renaming: edits or a refusal.
 -- Rule: docs/PROTOCOL.md, Requests on documents 6.
 use Rattle.std.specs.Prelude.{◌≡◌, ◌⊎◌, ℕ, ℤ, List, codes}
 use Rattle.serde_json.specs.Data.{Data}
@@ -26,8 +26,7 @@ pub record RequestedRename : Type 0 where
   pub version : ℤ
   pub new : List ℕ
 
--- Returns the code's request for renaming, in a document of this version, as a request of the
--- definitions.
+-- Translates the code's `RenameRequest`, in a document of this version, into a `RequestedRename`.
 abbrev pub rename_request_view : RenameRequest → ℤ → RequestedRename
 rename_request_view r version =
     record {
@@ -43,9 +42,9 @@ abbrev pub edits_for_client : RequestedRename → List Edit → Data
 edits_for_client requested edits =
     workspace_edit requested.client requested.at.uri requested.version edits
 
--- Holds if the message answers the request for renaming in a document with this text. It has edits,
--- or refuses the renaming, or refuses because the text is ill-typed. Positions are counted in this
--- unit.
+-- States that the message answers the request for renaming in a document with this text. The
+-- message has edits, refuses the renaming, or refuses because the text is ill-typed. Positions are
+-- counted in this unit.
 abbrev pub AnswersRenaming : Unit → RequestedRename → List ℕ → Data → Type 0
 AnswersRenaming unit requested text message =
     ((edits : List Edit)
@@ -56,7 +55,7 @@ AnswersRenaming unit requested text message =
     × (message ≡ edit_refusal requested.id (refusal_text refusal)))
     ⊎ (¬ IsWellTypedModule (utf8 text) × (message ≡ edit_refusal requested.id (codes "ill-typed"))))
 
--- Holds if the content is the text of a message that answers the request for renaming.
+-- States that the bytes `content` are the text of a message that answers the request for renaming.
 abbrev pub RepliesToRename : Unit → RequestedRename → List ℕ → List ℕ → Type 0
 RepliesToRename unit requested text content =
     (message : Data) × AnswersRenaming unit requested text message × Writes message content

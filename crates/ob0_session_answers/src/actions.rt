@@ -1,9 +1,9 @@
 //! Answers requests for code actions, which inline a constant at one use or everywhere.
 //!
-//! `inline_edits` of `ob0_edits` makes the edits. A range may end before its start, so its two offsets
-//! are compared (`actions_position`, `actions_offset`). No law about the order of positions is needed. An
-//! action's title, definition and edits all depend on its `Inlining` (`Here` or `Everywhere`). To
-//! add an action, add an `Inlining` and a line in `title`.
+//! `inline_edits` of `ob0_edits` computes the edits. A range may end before its start, so the byte
+//! offsets of both are compared (`actions_position`, `actions_offset`). No law about the order of
+//! positions is needed. An action's title, definition and edits all depend on its `Inlining`
+//! (`Here` or `Everywhere`). To add an action, add an `Inlining` and a line in `title`.
 
 ghost use Rattle.std.specs.Prelude.{◌≡◌, IfOk, map, string_bytes};
 ghost use Rattle.std.specs.List.{list_any};
@@ -24,7 +24,8 @@ use ob0_session_json::edits::{CodeAction, WorkspaceEdit};
 use ob0_text::{Edit, Position, Range, TextStore};
 use std::alloc::{AllocError, Global};
 
-/// Returns the position at which actions apply: the range's start, or its end if that comes first.
+/// Returns the position at which actions apply: the start of the range, or its end if the end comes
+/// first.
 fn actions_position<T: TextStore>(store: &T, range: Range) -> Position
     ensures { offset_of (width_of (T.unit_of store.now)) (T.content store.now) result
         ≡ place_in (T.unit_of store.now) (T.content store.now) range }
@@ -70,15 +71,15 @@ impl<'a, T: TextStore> DocumentRequest<T> for ActionsRequest<'a> {
 }
 
 impl<'a> ActionsRequest<'a> {
-    /// Returns true if the client accepts actions that aren't commands, and the requested kinds
-    /// include inlining. For None, all kinds are requested.
+    /// Returns whether the client accepts actions that aren't commands and the requested kinds
+    /// include inlining. If `only` is None, all kinds are requested.
     fn wants_inlining(&self) -> bool
         ensures { result ≡ wants self.now.client (kinds_view self.now.only.now) }
     {
         self.client.accepts_literal_actions && allows_inlining(self.only)
     }
 
-    /// Returns the answer that lists the offered actions: inlining at this use, then inlining
+    /// Returns the answer that lists the offered actions: to inline at this use, then to inline
     /// everywhere. An action whose edits are None isn't offered.
     fn list_actions(
         &self,
@@ -146,7 +147,7 @@ impl<'a> ActionsRequest<'a> {
     }
 }
 
-/// Returns the answer that lists no action.
+/// Returns the answer with an empty list of actions.
 fn no_actions(alloc: Global, id: &Id) -> Result<Vec<u8>, AllocError>
     ensures { IfOk result
         (λ bytes. Writes (result_message (id_data id.now) (array no_items)) bytes.items) }
@@ -155,8 +156,8 @@ fn no_actions(alloc: Global, id: &Id) -> Result<Vec<u8>, AllocError>
     answer_text(alloc, id, &none.as_slice())
 }
 
-/// Returns true if all kinds are requested (None), or if one of the requested kinds includes
-/// inlining.
+/// Returns whether the requested kinds of actions include inlining. If `only` is None, all kinds
+/// are requested.
 fn allows_inlining(only: &Option<Vec<String>>) -> bool
     ensures { result ≡ allows (kinds_view only.now) }
 {
@@ -166,7 +167,7 @@ fn allows_inlining(only: &Option<Vec<String>>) -> bool
     }
 }
 
-/// Returns true if one of these kinds of actions includes inlining.
+/// Returns whether one of these kinds of actions includes inlining.
 fn has_inlining_kind(kinds: &[String]) -> bool
     ensures { result ≡ list_any of_kind (map string_bytes kinds.now) }
 {
@@ -178,14 +179,14 @@ fn has_inlining_kind(kinds: &[String]) -> bool
     false
 }
 
-/// Returns true if this kind of actions includes inlining.
+/// Returns whether this kind of actions includes inlining.
 fn is_inlining_kind(kind: &str) -> bool
     ensures { result ≡ of_kind kind.now }
 {
     kind == "" || kind == "refactor" || kind == "refactor.inline"
 }
 
-/// Returns the title of the action that inlines in this way.
+/// Returns the title of the action that inlines at one use (`Here`) or at every use (`Everywhere`).
 fn title_of(how: Inlining) -> &'static str
     ensures { result.now ≡ title how }
 {

@@ -1,8 +1,9 @@
-//! Makes the diagnostics of a text, and the message that publishes them.
+//! Computes the diagnostics of a text, and the message that publishes them.
 //!
-//! The offsets of all starts and ends are sorted, and their positions are found in one pass
-//! (`TextStore::positions`). Each position is then looked up by binary search. If the search finds
-//! nothing, the store computes the position, so no proof is needed that each search succeeds.
+//! The byte offsets at which the diagnostics start and end are sorted. Their positions are found in
+//! one pass over the text (`TextStore::positions`). The position of each offset is then looked up
+//! by binary search. If the search finds nothing, the store computes the position, so no proof is
+//! needed that each search succeeds.
 
 ghost use Rattle.std.specs.Prelude.{◌≡◌, List, IfOk, map};
 ghost use Rattle.std.specs.Str.{chars};
@@ -19,7 +20,8 @@ use ob0_session_json::publication::{Diagnostic, publication};
 use ob0_text::{Position, Range, TextStore};
 use std::alloc::{AllocError, Global};
 
-/// A request for the publication of a document's diagnostics.
+/// A request to publish a document's diagnostics. The server makes such a request itself, when a
+/// document was opened or changed.
 #[derive(Drop)]
 pub struct PublishRequest<'a> {
     pub uri: &'a str,
@@ -41,7 +43,7 @@ impl<'a, T: TextStore> DocumentRequest<T> for PublishRequest<'a> {
     }
 }
 
-/// Returns the diagnostics of a text, with positions in the store's unit.
+/// Returns the diagnostics of a text. Their positions are counted in the store's unit.
 pub fn diagnostics<T: TextStore>(
     alloc: Global,
     store: &T,
@@ -56,8 +58,8 @@ pub fn diagnostics<T: TextStore>(
     locate_diagnostics(alloc, store, reported)
 }
 
-/// Makes a diagnostic of each diagnosis. One pass over the text finds the positions of all starts
-/// and ends.
+/// Turns each diagnosis, which has byte offsets, into a diagnostic with positions. One pass over
+/// the text finds the positions of all starts and ends.
 fn locate_diagnostics<T: TextStore>(
     alloc: Global,
     store: &T,
@@ -89,8 +91,8 @@ fn offsets_of(alloc: Global, reported: &[Diagnosis]) -> Result<Vec<usize>, Alloc
     Ok(offsets)
 }
 
-/// Makes a diagnostic of each diagnosis. The positions of its start and end are looked up in
-/// `positions`, which has the positions of the byte offsets `offsets` (in ascending order).
+/// Turns each diagnosis into a diagnostic. The positions of its start and its end are looked up in
+/// `positions`, the positions of the byte offsets `offsets` in ascending order.
 fn attach_positions<T: TextStore>(
     alloc: Global,
     store: &T,
@@ -113,8 +115,8 @@ fn attach_positions<T: TextStore>(
     Ok(list)
 }
 
-/// Returns the position of a byte offset. If `offsets` contains the offset, the position comes
-/// from `positions`, otherwise the store computes it.
+/// Returns the position of a byte offset. If `offsets` contains the offset, the position is read
+/// from `positions`. Otherwise the store computes it.
 fn position_at<T: TextStore>(
     store: &T,
     offsets: &[usize],
@@ -131,7 +133,7 @@ fn position_at<T: TextStore>(
     }
 }
 
-/// Returns a diagnosis as a diagnostic with this start and end. The message is moved, not copied.
+/// Turns a diagnosis into a diagnostic with this start and end. The message is moved, not copied.
 fn diagnostic(diagnosis: Diagnosis, start: Position, end: Position) -> Diagnostic
     ensures { diagnostic_view result ≡ record {
       code = (complaint_of_diagnosis diagnosis).code;

@@ -1,6 +1,6 @@
-//! Defines the requests about a document, each as a type that answers from the document's text.
-//! There are questions about the name or field at a position, requests for edits, and the
-//! publication of the diagnostics.
+//! Defines the requests about a document. Each request is a type that computes its answer from the
+//! document's text. There are questions about the name or field at a position, requests for edits,
+//! and the publication of diagnostics.
 #![tactic(auto)]
 
 mod actions;

@@ -1,8 +1,8 @@
 //! Answers requests about the name or field at a position: hover, definition, references and
 //! prepareRename.
 //!
-//! Each request is a type that answers from a document (`DocumentRequest`). The question that it
-//! asks about the module is a second type (`Question`).
+//! Each request is a type that computes its answer from a document (`DocumentRequest`). For the
+//! question that the request asks about the module, there is a second type (`Question`).
 
 ghost use Rattle.std.specs.Prelude.{◌≡◌, IfOk, option_map, map};
 ghost use Rattle.serde_json.specs.Data.{array};
@@ -24,7 +24,8 @@ use ob0_session_json::places::{HoverResult, Location, Locations, MarkupContent};
 use ob0_text::TextStore;
 use std::alloc::{AllocError, Global};
 
-/// The question for the hover text at a byte offset.
+/// The question for the hover text of the name or field at a byte offset. The answer is None if
+/// there is no such text.
 #[derive(Drop)]
 struct HoverQuestion {
     offset: usize,
@@ -44,7 +45,8 @@ impl Question for HoverQuestion {
     }
 }
 
-/// The question for the declaration of the name or field at a byte offset.
+/// The question for the span at which the name or field at a byte offset is declared. The answer is
+/// None if there is no such declaration.
 #[derive(Drop)]
 struct DefinitionQuestion {
     offset: usize,
@@ -60,7 +62,8 @@ impl Question for DefinitionQuestion {
     }
 }
 
-/// The question for all references to the declaration of the name or field at a byte offset.
+/// The question for all references to the declaration of the name or field at a byte offset. The
+/// answer is an empty list if there is no name or field.
 #[derive(Drop)]
 struct ReferencesQuestion {
     offset: usize,
@@ -78,7 +81,8 @@ impl Question for ReferencesQuestion {
     }
 }
 
-/// The question for the span of the name or field at a byte offset, if it can be renamed.
+/// The question for the span of the name or field at a byte offset. The answer is None if that name
+/// or field can't be renamed.
 #[derive(Drop)]
 struct RenamableQuestion {
     offset: usize,
@@ -179,7 +183,8 @@ impl<'a, T: TextStore> DocumentRequest<T> for ReferencesRequest<'a> {
     }
 }
 
-/// A request for the range of the name or field at a position of a document, if it can be renamed.
+/// A request for the range of the name or field at a position of a document. The answer is null if
+/// that name or field can't be renamed.
 #[derive(Drop)]
 pub struct PrepareRenameRequest<'a> {
     pub id: &'a Id,
@@ -206,7 +211,8 @@ impl<'a, T: TextStore> DocumentRequest<T> for PrepareRenameRequest<'a> {
     }
 }
 
-/// Returns the answer to a hover request: the hover text with its range, or null for None.
+/// Returns the answer to a hover request: the hover text with its range, or null if `found` is
+/// None.
 fn hover_answer<T: TextStore>(
     alloc: Global,
     id: &Id,
@@ -229,7 +235,8 @@ fn hover_answer<T: TextStore>(
     }
 }
 
-/// Returns the answer to a definition request: the location of the span, or null for None.
+/// Returns the answer to a definition request: the location of the span, or null if `found` is
+/// None.
 fn location_answer<T: TextStore>(
     alloc: Global,
     id: &Id,
@@ -251,7 +258,8 @@ fn location_answer<T: TextStore>(
     }
 }
 
-/// Returns the answer to a `prepareRename` request: the range of the span, or null for None.
+/// Returns the answer to a `prepareRename` request: the range of the span, or null if `found` is
+/// None.
 fn range_answer<T: TextStore>(
     alloc: Global,
     id: &Id,
@@ -268,8 +276,8 @@ fn range_answer<T: TextStore>(
     }
 }
 
-/// Returns the answer to a references request: the spans as locations in this document. If the
-/// spans are in text order, one pass over the text finds their positions.
+/// Returns the answer to a references request: the locations of these spans in the document. If the
+/// spans are in text order, their positions are found in one pass over the text.
 fn locations_answer<T: TextStore>(
     alloc: Global,
     id: &Id,

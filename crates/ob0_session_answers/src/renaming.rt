@@ -46,7 +46,7 @@ impl<'a, T: TextStore> DocumentRequest<T> for RenameRequest<'a> {
 }
 
 impl<'a> RenameRequest<'a> {
-    /// Returns the answer with these edits, in the form that the client accepts.
+    /// Returns the answer to the request, with these edits in the form that the client accepts.
     fn answer_with_edits(
         &self,
         alloc: Global,

@@ -7,41 +7,43 @@ use Rattle.lru.specs.LruCache.{LruCache}
 use Rattle.ob0_text.specs.OpenDocuments.{OpenDocuments, InStep, document_at}
 use Rattle.ob0_session_documents.specs.declared.analyses.Analyses.{Analyses}
 
--- Holds if the cache contains an analysis of this text under this uri. Never holds for None: there
--- is no cache yet.
+-- States that the cache contains an analysis of this text under this uri. Never holds for None,
+-- which means that there is no cache yet.
 abbrev pub CacheContains : Option (LruCache (String Global) (List ℕ)) → List ℕ → List ℕ → Type 0
 CacheContains None uri text = ⊥
 CacheContains (Some cache) uri text =
     (key : String Global) × Contains cache.entries (key, text) × (string_bytes key ≡ uri)
 
--- Holds if an analysis of the text is kept for the document with this uri.
+-- States that an analysis of this text is kept for the document with this uri.
 abbrev pub KeepsAnalysis : Analyses → List ℕ → List ℕ → Type 0
 KeepsAnalysis analyses = CacheContains analyses.by_uri
 
--- Holds if every analysis in `new` was already in `old`.
+-- States that every analysis in `new` was already in `old`.
 abbrev pub AddsNoAnalysis : Analyses → Analyses → Type 0
 AddsNoAnalysis old new = (uri text : List ℕ) → KeepsAnalysis new uri text → KeepsAnalysis old uri text
 
--- Holds if every analysis in `new` was already in `old`, and belongs to a document other than this
--- one.
+-- States that every analysis in `new` was already in `old`, and belongs to another document than
+-- this one.
 abbrev pub KeepsOnlyOthers : Analyses → List ℕ → Analyses → Type 0
 KeepsOnlyOthers old document new =
     (uri text : List ℕ)
     → KeepsAnalysis new uri text
     → KeepsAnalysis old uri text × (uri ≡ document → ⊥)
 
--- Holds if every analysis in `new` was already in `old`, or belongs to this document and this text.
+-- States that every analysis in `new` was already in `old`, or belongs to this document and this
+-- text.
 abbrev pub AddsOnlyAnalysis : Analyses → List ℕ → List ℕ → Analyses → Type 0
 AddsOnlyAnalysis old document its_text new =
     (uri text : List ℕ) → KeepsAnalysis new uri text
     → KeepsAnalysis old uri text ⊎ ((uri ≡ document) × (text ≡ its_text))
 
--- Holds if the document is open and in step, and has this text (in bytes of UTF-8).
+-- States that the document with this uri is open and in step, and has this text (in bytes of
+-- UTF-8).
 abbrev pub HasDocumentText : OpenDocuments → List ℕ → List ℕ → Type 0
 HasDocumentText documents uri text =
     (version : ℤ) × (document_at documents uri ≡ Some (InStep version (chars text)))
 
--- Holds if each kept analysis is the analysis of its document's current text.
+-- States that each kept analysis is the analysis of its document's current text.
 abbrev pub AnalysesMatchTexts : OpenDocuments → Analyses → Type 0
 AnalysesMatchTexts documents analyses =
     (uri text : List ℕ) → KeepsAnalysis analyses uri text → HasDocumentText documents uri text

@@ -1,10 +1,12 @@
-//! Keeps the open documents, and analyses of those that were changed or asked about most recently.
+//! Keeps the open documents, and analyses of the documents that were changed or asked about most
+//! recently.
 //!
 //! Contracts see only the documents, so `ServerState` and all promises are the same as without
 //! analyses. The invariant says that each kept analysis is of the current text of its document
-//! (`AnalysesMatchTexts` of `specs/KeptAnalyses`). Before a document changes, its analysis is removed
-//! (`still_theirs` of `proofs/OtherDocuments`). Afterwards the analysis of the new text is added.
-//! No texts are compared. One notification causes one analysis, however many changes it has.
+//! (`AnalysesMatchTexts` of `specs/KeptAnalyses`). Before a document changes, its analysis is
+//! removed (`still_theirs` of `proofs/OtherDocuments`). After the change, the analysis of the
+//! resulting text is added. No texts are compared. One notification causes one analysis, however
+//! many changes the notification has.
 
 ghost use Rattle.std.specs.Prelude.{◌≡◌, ◌⊎◌, IfSome, IfOk, OnOk, OnErr, is_some, map, string_bytes};
 ghost use Rattle.std.specs.Str.{chars};
@@ -18,9 +20,9 @@ use ob0_text::{Change, Documents, Held, TextStore};
 use std::alloc::{AllocError, Global};
 use std::marker::Model;
 
-/// The open documents, and analyses of their texts. Contracts see only the documents. A kept
-/// analysis is always of the current text of its document, because each change first removes the
-/// analysis of the previous text.
+/// The open documents, and analyses of their texts. Contracts see only the documents. Each kept
+/// analysis is of the current text of its document, because a change first removes the analysis of
+/// the previous text.
 #[derive(Drop)]
 pub struct AnalysedDocuments<T: TextStore> {
     alloc: Global,
@@ -62,7 +64,7 @@ impl<T: TextStore> AnalysedDocuments<T> {
 
     /// Opens a document and analyses its text. If the document is already open, its version and
     /// text are replaced. The received text is dropped before the analysis. If an allocation fails,
-    /// either nothing has changed or the document has been opened with this text.
+    /// either nothing has changed, or the document has been opened with this text.
     pub fn did_open(&mut self, uri: &str, version: i64, text: String) -> Result<(), AllocError>
         ensures ok { OnOk result
             (self.new ≡ documents_after_open self.old uri.now version (chars (string_bytes text))) }
@@ -75,9 +77,9 @@ impl<T: TextStore> AnalysedDocuments<T> {
         self.analyse(uri, before)
     }
 
-    /// Applies the changes in order, and analyses the resulting text. The received changes are
-    /// dropped before the analysis. If an allocation fails, either the document is out of step or
-    /// all changes have been applied.
+    /// Applies the changes to a document in order, and analyses the resulting text. The received
+    /// changes are dropped before the analysis. If an allocation fails, either the document is out
+    /// of step, or all changes have been applied.
     pub fn did_change(
         &mut self,
         uri: &str,
@@ -95,7 +97,8 @@ impl<T: TextStore> AnalysedDocuments<T> {
         self.analyse(uri, before)
     }
 
-    /// Marks a document, if it is open, as out of step: the client's text is no longer known.
+    /// Marks a document as out of step: the client's text isn't known any more. If the document
+    /// isn't open, nothing changes.
     pub fn lose(&mut self, uri: &str)
         ensures { self.new ≡ documents_after_loss self.old uri.now }
     {
@@ -112,9 +115,9 @@ impl<T: TextStore> AnalysedDocuments<T> {
         self.documents.did_close(uri)
     }
 
-    /// Answers a request about the document with this uri. A kept analysis of its text is used; if
-    /// there is none, an analysis is made and kept. If the document isn't open or is out of step,
-    /// returns `Unopened` or `OutOfStep`.
+    /// Answers a request about the document with this uri. If an analysis of the document's text is
+    /// kept, it is used. Otherwise an analysis is made and kept. If the document isn't open or is
+    /// out of step, returns `Unopened` or `OutOfStep`.
     pub fn ask<Q: DocumentRequest<T>>(
         &mut self,
         uri: &str,
@@ -140,8 +143,9 @@ impl<T: TextStore> AnalysedDocuments<T> {
         }
     }
 
-    /// Analyses the text of a document and keeps the analysis. `before`, the analysis of the
-    /// previous text or None, is reused. Does nothing if the document isn't open or is out of step.
+    /// Analyses the text of a document and keeps the analysis. `before` is the analysis of the
+    /// previous text, which is reused, or None. Does nothing if the document isn't open or is out
+    /// of step.
     fn analyse(&mut self, uri: &str, before: Option<Analysis>) -> Result<(), AllocError>
         ensures { self.new ≡ self.old }
     {
@@ -155,7 +159,8 @@ impl<T: TextStore> AnalysedDocuments<T> {
     }
 }
 
-/// Returns the analysis of a text. `before`, the analysis of an earlier text or None, is reused.
+/// Returns the analysis of a text. `before` is the analysis of an earlier text, which is reused, or
+/// None.
 fn analysis_after(
     alloc: Global,
     before: Option<Analysis>,

@@ -1,9 +1,9 @@
 //! Keeps the analyses of the documents that were changed or asked about most recently.
 //!
-//! The contracts bound only which analyses are kept after a call. Each was kept before
-//! (`AddsNoAnalysis`), was kept before for another document (`KeepsOnlyOthers`), or is the added one
-//! (`AddsOnlyAnalysis`). So code that drops more analyses also meets the contracts. `put` drops the least
-//! recently used analyses if the total size is too large.
+//! The contracts only limit which analyses are kept after a call. Each of them was kept before
+//! (`AddsNoAnalysis`), was kept before for another document (`KeepsOnlyOthers`), or is the added
+//! one (`AddsOnlyAnalysis`). So code that drops more analyses also meets the contracts. `put` drops
+//! the least recently used analyses if the total size is too large.
 
 ghost use Rattle.std.specs.Prelude.{◌≡◌, ◌∷◌, ◌≤◌, [], IfSome, IfOk};
 ghost use Rattle.ob0_session_documents.specs.KeptAnalyses.{KeepsAnalysis, AddsOnlyAnalysis, AddsNoAnalysis, KeepsOnlyOthers};
@@ -12,12 +12,12 @@ use lru::LruCache;
 use ob0_analysis::Analysis;
 use std::alloc::{AllocError, Global};
 
-/// The greatest total size of several kept analyses, in bytes: about four analyses of the longest
-/// texts. A single analysis may be larger.
+/// The greatest total size, in bytes, if several analyses are kept: enough for about four analyses
+/// of the longest texts. A single analysis may be larger.
 const MAX_BYTES: usize = 4_198_400;
 
-/// The number of bytes that each analysis counts for, in addition to the bytes of its uri and of its data. It also
-/// bounds the number of kept analyses of empty texts.
+/// The number of bytes that each analysis counts for, in addition to the sizes of its uri and its
+/// data. This number also limits how many analyses of empty texts are kept.
 const BYTES_PER_ANALYSIS: usize = 1_024;
 
 /// The kept analyses, by the uris of their documents. Adding an analysis may drop others.
@@ -26,7 +26,7 @@ pub struct Analyses {
     alloc: Global,
     /// The cache, or None until the first analysis is kept, because making a cache allocates.
     by_uri: Option<LruCache<String, Analysis>>,
-    /// The total size that the kept analyses count for, in bytes.
+    /// The total number of bytes that the kept analyses count for.
     size_in_bytes: usize,
 }
 
@@ -42,7 +42,8 @@ impl Analyses {
         }
     }
 
-    /// Removes the analysis of a document and returns it. Returns None if no analysis is kept.
+    /// Removes the analysis of a document and returns it. Returns None if no analysis of this
+    /// document is kept.
     pub fn take(&mut self, uri: &str) -> Option<Analysis>
         ensures found { IfSome result (KeepsAnalysis self.old uri.now) }
         ensures others { KeepsOnlyOthers self.old uri.now self.new }
@@ -55,7 +56,7 @@ impl Analyses {
         Some(analysis)
     }
 
-    /// Returns the analysis of a document, or None if no analysis is kept.
+    /// Returns the analysis of a document, or None if no analysis of this document is kept.
     pub fn get(&self, uri: &str) -> Option<&Analysis>
         ensures { IfSome result (λ a. KeepsAnalysis self.now uri.now a.now) }
     {
@@ -73,7 +74,8 @@ impl Analyses {
     }
 
     /// Keeps the analysis of a document. If the total size is too large, the least recently used
-    /// analyses are dropped. An analysis that is too large by itself is kept as the only one.
+    /// analyses are dropped. An analysis that is too large on its own is kept, and all others are
+    /// dropped.
     pub fn put(&mut self, uri: &str, analysis: Analysis) -> Result<(), AllocError>
         ensures { AddsOnlyAnalysis self.old uri.now analysis self.new }
     {
@@ -95,8 +97,8 @@ impl Analyses {
         Ok(())
     }
 
-    /// Adds this many bytes to the total. Then drops the least recently used analyses until the
-    /// total is at most [`MAX_BYTES`] or no analysis is left.
+    /// Adds this many bytes to the total size. Then drops the least recently used analyses until
+    /// the total size is at most [`MAX_BYTES`] or no analysis is left.
     fn reserve_bytes(&mut self, size_in_bytes: usize)
         ensures { AddsNoAnalysis self.old self.new }
     {
@@ -110,7 +112,8 @@ impl Analyses {
         self.size_in_bytes = counted;
     }
 
-    /// Removes the least recently used analysis and returns it with its uri. Returns None if no analysis is kept.
+    /// Removes the least recently used analysis and returns it with its uri. Returns None if no
+    /// analysis is kept.
     fn remove_oldest(&mut self) -> Option<(String, Analysis)>
         ensures { AddsNoAnalysis self.old self.new }
     {
@@ -119,8 +122,8 @@ impl Analyses {
     }
 }
 
-/// Returns the number of bytes that an analysis counts for. Its uri is included, because the cache
-/// stores its own copy.
+/// Returns the number of bytes that an analysis counts for. The bytes of the uri are included,
+/// because the cache stores a copy of the uri.
 fn bytes_of(uri: &str, analysis: &Analysis) -> usize
     ensures { BYTES_PER_ANALYSIS ≤ result }
 {

@@ -8,14 +8,14 @@ use ob0_analysis::Analysis;
 use ob0_text::TextStore;
 use std::alloc::{AllocError, Global};
 
-/// A request about a document that is in step.
+/// A request about an open document that is in step: the server knows the document's text.
 pub trait DocumentRequest<T: TextStore> {
-    /// Holds if these bytes answer the request for a document with this version, unit of positions
-    /// and text (in characters).
+    /// States that these bytes answer the request for a document with this version, this unit of
+    /// positions and this text (in characters).
     ghost answers: { Self → ℤ → Unit → List ℕ → List ℕ → Type 0 };
 
-    /// Answers the request from the document's version, its text and the analysis of this text. Fails only if an
-    /// allocation fails.
+    /// Answers the request from the document's version, its text and the analysis of this text.
+    /// Fails only if an allocation fails.
     fn answer(
         &self,
         alloc: Global,
@@ -28,7 +28,8 @@ pub trait DocumentRequest<T: TextStore> {
             (T.content text.now) message.items) };
 }
 
-/// The outcome of a request about a document: a message, or the reason why there is none.
+/// The outcome of a request about a document: the message that answers it, or the reason why there
+/// is none.
 #[derive(Drop)]
 pub enum RequestOutcome {
     Answered(Vec<u8>),

@@ -1,4 +1,4 @@
--- Defines what the code's results mean, as JSON values and diagnostics of the definitions.
+-- Translates the code's results into JSON values and diagnostics of the specs.
 -- Rule: none; for contracts: what values of the code mean.
 use Rattle.std.specs.Prelude.{◌≡◌, List, map, string_bytes}
 use Rattle.serde_json.specs.Data.{Data}
@@ -15,7 +15,7 @@ workspace_edit_view e = shapes.workspace_edit e.client e.uri.now e.version e.edi
 abbrev pub code_action_view : CodeAction → Data
 code_action_view a = shapes.action_value (workspace_edit_view a.edit) a.title.now
 
--- Returns the code's diagnostic as a diagnostic of the definitions.
+-- Translates the code's diagnostic into a `Diagnostic` of the specs.
 abbrev pub diagnostic_view : Diagnostic → shapes.Diagnostic
 diagnostic_view d = record {
   code = d.code.now;
@@ -24,6 +24,7 @@ diagnostic_view d = record {
   end = d.range.end;
 }
 
--- Holds if the code's diagnostics (`list`) are these diagnostics of the definitions, in order.
+-- States that the code's diagnostics (`list`) are these diagnostics of the specs, in the same
+-- order.
 abbrev pub AreSameDiagnostics : List shapes.Diagnostic → List Diagnostic → Type 0
 AreSameDiagnostics ds list = ds ≡ map diagnostic_view list

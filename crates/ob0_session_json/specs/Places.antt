@@ -5,8 +5,8 @@ use Rattle.serde_json.specs.Data.{string}
 use Rattle.serde_json.specs.Written.{compact_text}
 use Rattle.ob0_rpc.specs.Appending.{ReadsBack}
 
--- Holds if the buffer starts with 192 bytes of free space, followed by the end of a location's
--- text: a comma, the uri and the closing brace.
+-- States that the buffer starts with 192 bytes of free space. After them comes the end of a
+-- location's text: a comma, the uri and the closing brace.
 pub record EndsInUri (uri buffer : List ℕ) : Type 0 where
   pub long_enough : 192 ≤ length buffer
   pub ends : drop 192 buffer

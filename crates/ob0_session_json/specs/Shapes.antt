@@ -1,5 +1,5 @@
--- Defines the messages that the server writes, as JSON values. Members are in byte order of their
--- names.
+-- Defines the JSON values of the results and notifications that the server writes. The members of
+-- an object are in byte order of their names.
 -- Rule: docs/PROTOCOL.md, JSON shapes 2, Capabilities.
 use Rattle.std.specs.Prelude.{ℕ, ℤ, List, true, Bool, Option, Some, None, if◌then◌else◌, codes, map}
 use Rattle.serde_json.specs.Data.{Data, boolean, number, array, object, unsigned, Members, member, no_members, item, no_items}
@@ -12,7 +12,8 @@ pub use Rattle.ob0_rpc.specs.Shapes.{edit_value}
 use Rattle.ob0_rpc.specs.Shapes.{text, whole_number, range_value, error_message, notification_message}
 use Rattle.ob0_rpc.specs.declared.clients.ClientFeatures.{ClientFeatures}
 
--- The value of `textDocumentSync`, {"change":2,"openClose":true}. 2 stands for changes of ranges.
+-- The value of `textDocumentSync`, {"change":2,"openClose":true}. The 2 means that the client sends
+-- changes of ranges.
 abbrev pub synchronisation : Data
 synchronisation =
     object (member (codes "change") (number (unsigned 2))
@@ -75,13 +76,13 @@ pub record Diagnostic : Type 0 where
   pub start : Position
   pub end : Position
 
--- Returns the JSON value of a location, {"range":R,"uri":u}, from its uri and the JSON value of its
+-- Returns the JSON value of a location, {"range":R,"uri":u}, from the uri and the JSON value of the
 -- range.
 abbrev pub location_value : List ℕ → Data → Data
 location_value uri range =
     object (member (codes "range") range (member (codes "uri") (text uri) no_members))
 
--- Returns the JSON value of the location of a range in the document with this uri.
+-- Returns the JSON value of the location with this uri and this range.
 abbrev pub location_in : List ℕ → Range → Data
 location_in uri range = location_value uri (range_value range.start range.end)
 
@@ -92,7 +93,7 @@ plain_text said =
     (member (codes "value") (text said) no_members))
 
 -- Returns the result of a hover request, {"contents":{..},"range":R}, from the hover text and the
--- JSON value of its range.
+-- JSON value of the range.
 abbrev pub hover_value : List ℕ → Data → Data
 hover_value said range =
     object (member (codes "contents") (plain_text said) (member (codes "range") range no_members))
@@ -125,13 +126,14 @@ workspace_edit client uri version es =
     (member (codes "changes") (object (member uri (edits_value es) no_members)) no_members)
 
 -- Returns the JSON value of a code action, {"edit":W,"kind":"refactor.inline","title":t}, from the
--- JSON value of its edits and from its title.
+-- JSON value of the edits and from the title.
 abbrev pub action_value : Data → List ℕ → Data
 action_value edit title =
     object (member (codes "edit") edit (member (codes "kind") (text (codes "refactor.inline"))
     (member (codes "title") (text title) no_members)))
 
--- Returns the message that refuses a request for edits. `said` is the text of its error.
+-- Returns the message that refuses a request for edits. `said` is the text of the error in that
+-- message.
 abbrev pub edit_refusal : Data → List ℕ → Data
 edit_refusal id said = error_message id (minus 32803) said
 
@@ -157,7 +159,8 @@ publication_params uri None ds =
     object (member (codes "diagnostics") (diagnostics_value ds)
     (member (codes "uri") (text uri) no_members))
 
--- Returns the notification `textDocument/publishDiagnostics`. After a close its version is None.
+-- Returns the notification `textDocument/publishDiagnostics`. The version is None if the document
+-- was closed.
 abbrev pub publication : List ℕ → Option ℤ → List Diagnostic → Data
 publication uri version ds =
     notification_message (codes "textDocument/publishDiagnostics")

@@ -1,4 +1,4 @@
-//! Writes the server's capabilities, in the answer to `initialize`.
+//! Writes the server's capabilities into the answer to `initialize`.
 ghost use Rattle.std.specs.Prelude.{IfOk, OnOk};
 ghost use Rattle.ob0_rpc.specs.Appending.{AppendsMembers};
 ghost use Rattle.ob0_rpc.specs.Seen.{id_data};
@@ -76,7 +76,8 @@ impl ServerCapabilities {
         }
     }
 
-    /// Writes the last members of the capabilities, and the closing bracket.
+    /// Writes the last members of the capabilities, starting with `referencesProvider`, and the
+    /// closing bracket.
     fn write_last_members(&self, out: &mut Vec<u8>) -> Result<(), AllocError>
         ensures { OnOk result
             (AppendsMembers 44 (last_members self.now.client) out.old.items out.new.items) }
@@ -89,7 +90,7 @@ impl ServerCapabilities {
     }
 }
 
-/// The kinds of code actions that the server offers, as the value of `codeActionProvider`.
+/// The value of `codeActionProvider`: the kinds of code actions that the server offers.
 #[derive(Drop)]
 pub struct CodeActionOptions {}
 
@@ -103,7 +104,7 @@ impl WriteJson for CodeActionOptions {
     }
 }
 
-/// The value of `renameProvider`, which announces `prepareRename` if the client sends it.
+/// The value of `renameProvider`. It announces `prepareRename` if the client sends such requests.
 #[derive(Drop)]
 pub struct RenameProvider {
     pub prepares: bool,

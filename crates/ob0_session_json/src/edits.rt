@@ -8,8 +8,8 @@ use ob0_rpc::{
 use ob0_text::Edit;
 use std::alloc::AllocError;
 
-/// The edits of one document. They are written in the form that the client accepts: with the document's version, or
-/// only with its uri.
+/// The edits of one document. They are written in the form that the client accepts: with the
+/// document's uri and version, or with the uri only.
 #[derive(Drop)]
 pub struct WorkspaceEdit<'a> {
     pub client: ClientFeatures,

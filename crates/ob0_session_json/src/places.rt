@@ -15,12 +15,12 @@ use ob0_rpc::{
 use ob0_text::Range;
 use std::alloc::{AllocError, Global};
 
-/// The length in bytes of the free space at the start of a buffer. A location's text before its uri
-/// fits into it, with the comma before that text.
+/// The size in bytes of the free space at the start of the buffer in which a location is built. The
+/// space has room for a comma and the location's text up to the end of the range.
 const PREFIX_CAPACITY: usize = 192;
 
-/// An estimate of the length in bytes of a location's text before its uri. It serves to reserve
-/// capacity for a list of locations.
+/// An estimate of the length in bytes of the text that a location has before its uri. The estimate
+/// is used to reserve capacity for a list of locations.
 const TYPICAL_PREFIX: usize = 96;
 
 /// A location: a range of the document with this uri.
@@ -57,7 +57,8 @@ impl<'a> WriteJson for Locations<'a> {
     }
 }
 
-/// Writes the locations of these ranges with commas between them, without brackets.
+/// Writes the locations of these ranges, with commas between them, but without the brackets of the
+/// list.
 fn write_locations(out: &mut Vec<u8>, uri: &str, ranges: &[Range]) -> Result<(), AllocError>
     ensures { OnOk result
         (AppendsEach false (map (location_in uri.now) ranges.now) out.old.items out.new.items) }
@@ -77,8 +78,9 @@ fn write_locations(out: &mut Vec<u8>, uri: &str, ranges: &[Range]) -> Result<(),
     Ok(())
 }
 
-/// Returns a buffer for the texts of locations, which are built in it one after another. It has 192
-/// bytes of free space, then the text after the range: a comma, the uri and the closing brace.
+/// Returns a buffer in which the texts of locations are built, one after another. The buffer begins
+/// with 192 bytes of free space. The end of each location's text follows: a comma, the uri and the
+/// closing brace.
 fn location_buffer(alloc: Global, uri: &str) -> Result<Vec<u8>, AllocError>
     ensures { IfOk result (λ buffer. EndsInUri uri.now buffer.items) }
 {
@@ -88,9 +90,9 @@ fn location_buffer(alloc: Global, uri: &str) -> Result<Vec<u8>, AllocError>
     Ok(buffer)
 }
 
-/// Writes a comma and the start of a location's text, with its range, into the free space. They end
-/// right before the index 192. The rest of the location's text begins at that index. Returns the
-/// index of the comma.
+/// Writes a comma and the start of a location's text, up to the end of the range, into the free
+/// space of the buffer. These bytes end right before the index 192. The rest of the location's text
+/// begins at that index. Returns the index of the comma.
 fn write_location_before(buffer: &mut [u8], range: Range) -> usize
     requires { 192 ≤ length buffer.old }
     ensures within { result < 192 }
@@ -103,7 +105,8 @@ fn write_location_before(buffer: &mut [u8], range: Range) -> usize
     write_piece_before(buffer, at, b",{\"range\":")
 }
 
-/// The result of a hover request: plain text, and the range of the name or field that it describes.
+/// The result of a hover request: plain text, and the range of the name or field that the text
+/// describes.
 #[derive(Drop)]
 pub struct HoverResult<'a> {
     pub contents: MarkupContent<'a>,

@@ -1,4 +1,4 @@
-//! Writes the publication of a document's diagnostics.
+//! Writes the notification that publishes a document's diagnostics.
 ghost use Rattle.std.specs.Prelude.{IfOk, List, map};
 ghost use Rattle.ob0_rpc.specs.Writing.{Writes};
 ghost use Rattle.ob0_session_json.specs.Shapes.{Diagnostic as Reported, diagnostic_value, publication as published_as, publication_params};
@@ -28,7 +28,8 @@ impl WriteJson for Diagnostic {
     }
 }
 
-/// The params of a publication: the diagnostics of a document, its uri, and its version or None.
+/// The params of a publication: the diagnostics of a document, its uri and its version. The version
+/// is None if the document was closed.
 #[derive(Drop)]
 pub struct PublishDiagnosticsParams<'a> {
     pub diagnostics: &'a [Diagnostic],
@@ -57,8 +58,8 @@ impl<'a> WriteJson for PublishDiagnosticsParams<'a> {
     }
 }
 
-/// Returns the notification that publishes the diagnostics of the document with this uri. Its
-/// version is None after a close.
+/// Returns the text of the notification that publishes these diagnostics for the document with this
+/// uri. The version is None if the document was closed.
 pub fn publication(
     alloc: Global,
     uri: &str,

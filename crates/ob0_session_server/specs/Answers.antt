@@ -1,4 +1,4 @@
--- Defines the server's answers, message by message.
+-- Defines the server's replies to messages, and the state of the session after each message.
 -- Rule: docs/PROTOCOL.md, Order of checks, and errors; Lifecycle; Documents; Publishing; Requests on documents.
 use Rattle.std.specs.Prelude.{◌≡◌, ℕ, ℤ, List, [], ◌∷◌, ◌++◌, false, Option, Some, None, is_some, Result, Ok, Err, if◌then◌else◌, codes}
 use Rattle.std.specs.Str.{bytes_eq}
@@ -48,38 +48,39 @@ no_features =
       accepts_document_changes = false;
     }
 
--- The state before `initialize`.
+-- The state of a session before `initialize`: no document is open, and positions are counted in
+-- UTF-16 units.
 abbrev pub start : ServerState
 start = record { phase = Starting; client = no_features; held = no_open_documents Utf16 }
 
 -- ---- the reply to one message
 
 -- The reply to one message: nothing, a given message, or a message that depends on a document's
--- text. Such a message has the text's diagnostics, or it answers a request about the text.
+-- text. Such a message contains the text's diagnostics, or answers a request about the text.
 pub data Reply : Type 0 where
   nothing : Reply
   -- Exactly this message.
   says : Data → Reply
-  -- The diagnostics of a document. Arguments: the unit of positions, the uri, the version and the characters of the
-  -- text.
+  -- A publication of the diagnostics of a document. Arguments: the unit of positions, the uri, the version and the
+  -- characters of the text.
   diagnoses : Unit → List ℕ → ℤ → List ℕ → Reply
-  -- The edits that format a text, or the refusal. Arguments: the unit of positions, the request's id, the indentation
-  -- and the characters of the text.
+  -- The edits that format a text, or a refusal to format it. Arguments: the unit of positions, the request's id, the
+  -- indentation and the characters of the text.
   lays_out : Unit → Data → Indent → List ℕ → Reply
   -- The answer to a question about a position. Arguments: the unit of positions, the request's id, the document and
   -- position, the question and the characters of the text.
   answers_name : Unit → Data → DocumentPlace → NameQuestion → List ℕ → Reply
-  -- The edits that rename a declaration, or the refusal. Arguments: the unit of positions, the request and the
-  -- characters of the text.
+  -- The edits that rename a declaration, or a refusal to rename it. Arguments: the unit of positions, the request and
+  -- the characters of the text.
   renames : Unit → RequestedRename → List ℕ → Reply
   -- The offered code actions. Arguments: the unit of positions, the request and the characters of the text.
   offers_actions : Unit → RequestedActions → List ℕ → Reply
 
--- Holds if exactly one content is sent, and it is the text of this message.
+-- States that exactly one content is sent, and that it is the text of this message.
 abbrev pub Sends : Data → List (List ℕ) → Type 0
 Sends message sent = (bytes : List ℕ) × (sent ≡ bytes ∷ []) × Writes message bytes
 
--- Holds if these contents are this reply: no content for `nothing`, otherwise exactly one. That
+-- States that these contents are this reply: no content for `nothing`, otherwise exactly one. That
 -- content is the given message, the text's diagnostics, or the answer about the text.
 abbrev pub AreContentsOfReply : Reply → List (List ℕ) → Type 0
 AreContentsOfReply nothing sent = sent ≡ []
@@ -95,7 +96,7 @@ AreContentsOfReply (renames unit requested text) sent =
 AreContentsOfReply (offers_actions unit requested text) sent =
     (message : Data) × AnswersActions unit requested text message × Sends message sent
 
--- The reaction to a message: the state after the message, and the reply.
+-- The reaction to a message: the state of the session after the message, and the reply.
 pub record Reaction : Type 0 where
   pub after : ServerState
   pub say : Reply
@@ -112,28 +113,29 @@ with_phase phase s say = record { after = record s { phase = phase }; say = say 
 abbrev pub with_documents : OpenDocuments → ServerState → Reply → Reaction
 with_documents held s say = record { after = record s { held = held }; say = say }
 
--- Returns the reaction that answers with this error and leaves the state unchanged.
+-- Returns the reaction that answers with this error code and text, and leaves the state unchanged.
 abbrev pub react_with_error : ServerState → Data → ℤ → List ℕ → Reaction
 react_with_error s id code said = unchanged_with s (says (error_message id code said))
 
--- Returns the reaction that answers with the error for this fault and leaves the state unchanged.
+-- Returns the reaction that answers with the error for this fault, and leaves the state unchanged.
 abbrev pub react_with_fault : ServerState → Data → RpcFault → Reaction
 react_with_fault s id fault = react_with_error s id (error_code fault) (error_text fault)
 
 -- ---- requests: first the lifecycle is checked, then the method, then the params
 
--- Returns the state after `initialize` from a client with these capabilities. No document is open.
+-- Returns the state right after `initialize` from a client with these capabilities. No document is
+-- open.
 abbrev pub begins : ClientFeatures → ServerState
 begins client = record { phase = Running; client = client; held = no_open_documents (unit_for client) }
 
 -- Returns the reaction to a request about a document. If the document is open and in step, `say`
--- makes the reply from its version and text. Otherwise the reply is a refusal.
+-- makes the reply from the document's version and text. Otherwise the reply is a refusal.
 abbrev pub react_about_document : ServerState → Data → Option Document → (ℤ → List ℕ → Reply) → Reaction
 react_about_document s id (Some (InStep version text)) say = unchanged_with s (say version text)
 react_about_document s id (Some OutOfStep) say = unchanged_with s (says (edit_refusal id (codes "out of step")))
 react_about_document s id None say = unchanged_with s (says (edit_refusal id (codes "unopened")))
 
--- Returns the reaction to a question about a position.
+-- Returns the reaction to a question about the name or field at a position.
 abbrev pub react_to_question : ServerState → Data → DocumentPlace → NameQuestion → Reaction
 react_to_question s id at question =
     react_about_document s id (document_at s.held at.uri)
@@ -157,12 +159,13 @@ react_to_actions s id uri range only =
     (λ version. offers_actions s.held.unit (record
     { id = id; client = s.client; uri = uri; version = version; range = range; only = only }))
 
--- Returns the reaction to a request for formatting.
+-- Returns the reaction to a request to format a document.
 abbrev pub react_to_formatting : ServerState → Data → List ℕ → Indent → Reaction
 react_to_formatting s id uri indent =
     react_about_document s id (document_at s.held uri) (λ version. lays_out s.held.unit id indent)
 
--- Returns the reaction to a request that has been read, or to the fault of one that can't be read.
+-- Returns the reaction to a request that has been read. If the request couldn't be read, returns
+-- the reaction to that fault.
 abbrev pub react_to_known_request : ServerState → Data → Result ClientRequest RpcFault → Reaction
 react_to_known_request s id (Ok (initialize client)) =
     record { after = begins client; say = says (result_message id (capabilities client)) }
@@ -176,12 +179,13 @@ react_to_known_request s id (Ok (code_action uri range only)) = react_to_actions
 react_to_known_request s id (Ok (formatting uri indent)) = react_to_formatting s id uri indent
 react_to_known_request s id (Err fault) = react_with_fault s id fault
 
--- Returns the reaction to a request that the phase allows, by its method and params.
+-- Returns the reaction to a request that the phase allows, according to the request's method and
+-- params.
 abbrev pub react_to_method : ServerState → Data → List ℕ → Data → Reaction
 react_to_method s id method params = react_to_known_request s id (request_by_method method params)
 
--- Returns the reaction to a request in this phase of the lifecycle. After the session's end or a
--- failed allocation there is no reply.
+-- Returns the reaction to a request in this phase of the lifecycle. Once the session has ended or
+-- an allocation has failed, there is no reply.
 abbrev pub react_to_request : Phase → ServerState → Data → List ℕ → Data → Reaction
 react_to_request Starting s id method params =
     if bytes_eq method (codes "initialize") then react_to_method s id method params
@@ -195,7 +199,8 @@ react_to_request phase s id method params = unchanged_with s nothing
 
 -- ---- notifications
 
--- Returns the exit status that `exit` gives in this phase: 0 after `shutdown`, otherwise 1.
+-- Returns the exit status of a session that receives `exit` in this phase: 0 after `shutdown`,
+-- otherwise 1.
 abbrev pub end_status : Phase → ℕ
 end_status ShutDown = 0
 end_status phase = 1
@@ -204,8 +209,8 @@ end_status phase = 1
 abbrev pub react_to_exit : ServerState → Reaction
 react_to_exit s = with_phase (Ended (end_status s.phase)) s nothing
 
--- Returns the reply that publishes a document's diagnostics, or `nothing` if the document isn't
--- open or is out of step.
+-- Returns the reply that publishes a document's diagnostics. Returns `nothing` if the document
+-- isn't open or is out of step.
 abbrev pub publication_reply : Unit → List ℕ → Option Document → Reply
 publication_reply unit uri (Some (InStep version text)) = diagnoses unit uri version text
 publication_reply unit uri (Some OutOfStep) = nothing
@@ -217,7 +222,7 @@ abbrev pub react_with_publication : List ℕ → OpenDocuments → ServerState �
 react_with_publication uri held s =
     with_documents held s (publication_reply held.unit uri (document_at held uri))
 
--- Returns the reaction to a notification while the session runs.
+-- Returns the reaction to a notification that arrives while the session runs.
 abbrev pub apply_notification : ServerState → Notification → Reaction
 apply_notification s exits = react_to_exit s
 apply_notification s (opens uri version text) =
@@ -232,8 +237,8 @@ apply_notification s (unreadable (Some uri)) = with_documents (documents_after_l
 apply_notification s (unreadable None) = unchanged_with s nothing
 apply_notification s other = unchanged_with s nothing
 
--- Returns the reaction to a notification in this phase. Before `initialize` and after `shutdown`, every notification
--- except `exit` is dropped.
+-- Returns the reaction to a notification in this phase. Unless the session runs, every notification except `exit` is
+-- ignored.
 abbrev pub react_to_notification : Phase → ServerState → List ℕ → Data → Reaction
 react_to_notification Running s method params = apply_notification s (notification_by_method method params)
 react_to_notification phase s method params =
@@ -249,28 +254,28 @@ react s response = unchanged_with s nothing
 react s (request id method params) = react_to_request s.phase s id method params
 react s (notice method params) = react_to_notification s.phase s method params
 
--- Holds if a server that has neither ended nor failed answers this content with these messages, and
--- `after` is its next state.
+-- States that a server that has neither ended nor failed may answer this content with these
+-- messages. `after` is the server's next state.
 abbrev pub AnswersBeforeEnd : ServerState → List ℕ → List (List ℕ) → ServerState → Type 0
 AnswersBeforeEnd before content sent after =
     (json : Option Data) × ReadsContent content json
     × (let r = react before (meaning json) in (after ≡ r.after) × AreContentsOfReply r.say sent)
 
--- Holds if a server in this phase answers this content with these messages, and `after` is its next
--- state. If the session has ended, nothing is sent and the state is unchanged. In the phase
--- `Failed` (after a failed allocation) it never holds.
+-- States that a server in this phase may answer this content with these messages. `after` is the
+-- server's next state. If the session has ended, nothing is sent and the state is unchanged. In the
+-- phase `Failed` (after a failed allocation) this never holds.
 abbrev pub AnswersInPhase : Phase → ServerState → List ℕ → List (List ℕ) → ServerState → Type 0
 AnswersInPhase (Ended status) before content sent after = (sent ≡ []) × (after ≡ before)
 AnswersInPhase Failed before content sent after = ⊥
 AnswersInPhase phase before content sent after = AnswersBeforeEnd before content sent after
 
--- Holds if a server in the state `before` may reply to this content with these messages, and is
--- then in the state `after`.
+-- States that a server in the state `before` may reply to this content with these messages. The
+-- server is then in the state `after`.
 abbrev pub Answers : ServerState → List ℕ → List (List ℕ) → ServerState → Type 0
 Answers before content sent after = AnswersInPhase before.phase before content sent after
 
--- Holds if the server may reply to this content with `first`, a prefix of the messages `sent`.
--- `Follows` must hold for the state after the reply and for the other messages of `sent`.
+-- States that the messages `sent` begin with a reply to this content. `Follows` must hold for the
+-- state after that reply and for the other messages of `sent`.
 pub record AnswersFirst (before : ServerState) (content : List ℕ) (sent : List (List ℕ))
     (Follows : ServerState → List (List ℕ) → Type 0) : Type 0 where
   pub between : ServerState
@@ -280,8 +285,8 @@ pub record AnswersFirst (before : ServerState) (content : List ℕ) (sent : List
   pub follows : Follows between later
   pub all : sent ≡ first ++ later
 
--- Holds if a server in the state `before` may reply to these contents, one after another, with
--- these messages in order. It is then in the state `after`.
+-- States that a server in the state `before` may reply to these contents, one after another, with
+-- these messages in order. The server is then in the state `after`.
 abbrev pub Conversation : ServerState → List (List ℕ) → List (List ℕ) → ServerState → Type 0
 Conversation before [] sent after = (sent ≡ []) × (after ≡ before)
 Conversation before (content ∷ contents) sent after =

@@ -1,4 +1,4 @@
--- Relates the code's messages and outcomes to the replies and reactions of the definitions.
+-- Relates the messages and outcomes in the code to the replies and reactions in `Answers`.
 -- Rule: none; for contracts: what values of the code mean.
 use Rattle.std.specs.Prelude.{◌≡◌, ℕ, ℤ, List, Option, Some, None, Vec, option_map, codes}
 use Rattle.std.specs.Option.{option_to_list}
@@ -11,30 +11,31 @@ use Rattle.ob0_session_documents.specs.declared.document_requests.RequestOutcome
 use Rattle.ob0_session_json.specs.Shapes.{edit_refusal}
 use Rattle.ob0_session_server.specs.Answers.{ServerState, Reaction, Reply, AreContentsOfReply, says}
 
--- Holds if the code's message is exactly this reply. None stands for no message.
+-- States that the code's message is exactly this reply. For None, states that the reply is no
+-- message.
 abbrev pub SendsReply : Reply → Option (Vec ℕ Global) → Type 0
 SendsReply reply sent = AreContentsOfReply reply (option_to_list (option_map (λ v. v.items) sent))
 
--- Holds if this message is the reply of the reaction, and `new` is the state after it. None stands
--- for no message.
+-- States that the code's message is the reply of the reaction, and that `new` is the session's
+-- state after the reaction. None means no message.
 abbrev pub Reacts : Reaction → Option (Vec ℕ Global) → ServerState → Type 0
 Reacts r sent new = (new ≡ r.after) × SendsReply r.say sent
 
--- Holds if the message is the reply for this outcome of a request about a document. It is the
--- outcome's message, or a refusal if the document is out of step or isn't open.
+-- States that the message is the reply to a request about a document that has this outcome. The
+-- reply is the outcome's message, or a refusal if the document is out of step or isn't open.
 abbrev pub RepliesForOutcome : Data → RequestOutcome → Option (Vec ℕ Global) → Type 0
 RepliesForOutcome id (Answered message) sent = sent ≡ Some message
 RepliesForOutcome id OutOfStep sent = SendsReply (says (edit_refusal id (codes "out of step"))) sent
 RepliesForOutcome id Unopened sent = SendsReply (says (edit_refusal id (codes "unopened"))) sent
 
--- Returns the message of an outcome, or None if the document is out of step or isn't open.
+-- Returns the message of an outcome. Returns None if the document is out of step or isn't open.
 abbrev pub message_of : RequestOutcome → Option (Vec ℕ Global)
 message_of (Answered message) = Some message
 message_of OutOfStep = None
 message_of Unopened = None
 
--- Holds if the request about the document with this uri is answered or refused with this message,
--- and the state is unchanged.
+-- States that this message answers or refuses the request about the document with this uri, and
+-- that the state is unchanged.
 abbrev pub RepliesAboutDocument : (ℤ → Unit → List ℕ → List ℕ → Type 0)
     → ServerState
     → Data

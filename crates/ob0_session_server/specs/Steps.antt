@@ -10,23 +10,25 @@ use Rattle.ob0_session_server.specs.declared.session.SessionFault.{SessionFault}
 use Rattle.ob0_session_server.specs.declared.session.SessionFault.TheVariants.{Memory, Failed}
 use Rattle.ob0_session_server.specs.declared.session.Step.{Step}
 
--- Returns End with the status if the session has ended in this phase, otherwise Continue.
+-- Returns `End` with the exit status if the session has ended in this phase, otherwise `Continue`.
 abbrev pub next_after : Phase → Next
 next_after (phases.Ended status) = End status
 next_after phase = Continue
 
--- Holds if the session hasn't ended.
+-- States that a session in this phase hasn't ended.
 abbrev pub HasNotEnded : Phase → Type 0
 HasNotEnded phase = next_after phase ≡ Continue
 
--- Holds if a step succeeds: the session replies to the content and reports whether it continues.
+-- States that a step succeeds: the session replies to the content, and reports whether it
+-- continues.
 pub record SessionSteps (before : ServerState) (content : List ℕ) (step : Step)
     (after : ServerState) : Type 0 where
   pub answers : Answers before content (map (λ v. v.items) step.send.items) after
   pub next : step.next ≡ next_after after.phase
 
--- Holds if a step may fail with this fault. Memory: the session hasn't ended or failed before, and
--- has failed now. Failed: the session has failed before, and nothing changes.
+-- States that a step may fail with this fault. With `Memory`, the session hasn't ended or failed
+-- before the step, and has failed after it. With `Failed`, the session has failed before the step,
+-- and nothing changes.
 abbrev pub SessionFails : ServerState → SessionFault → ServerState → Type 0
 SessionFails before Memory after =
     HasNotEnded before.phase × (before.phase ≢ phases.Failed) × (after.phase ≡ phases.Failed)

@@ -5,7 +5,7 @@ use Rattle.ob0_text.specs.declared.position_types.Unit.{Unit}
 use Rattle.ob0_text.specs.declared.position_types.Unit.TheVariants.{Utf16, Utf8}
 use Rattle.ob0_rpc.specs.declared.clients.ClientFeatures.{ClientFeatures}
 
--- Returns the unit of positions for a client: bytes of UTF-8 if it offers that, otherwise UTF-16
--- units.
+-- Returns the unit in which positions are counted for a client. The unit is a byte of UTF-8 if the
+-- client offers that, otherwise a UTF-16 unit.
 abbrev pub unit_for : ClientFeatures → Unit
 unit_for client = if client.offers_utf8 then Utf8 else Utf16

@@ -1,5 +1,5 @@
-//! Keeps the state of a session, and answers messages according to its phase (docs/PROTOCOL.md,
-//! Lifecycle).
+//! Keeps the state of a session, and answers each message according to the session's phase
+//! (docs/PROTOCOL.md, Lifecycle).
 ghost use Rattle.std.specs.Prelude.{◌≡◌, ◌≢◌, Ok, IfOk, IfErr, map, option_map, string_bytes};
 ghost use Rattle.ob0_rpc.specs.Seen.{id_data};
 ghost use Rattle.ob0_text.specs.OpenDocuments.{no_open_documents};
@@ -36,7 +36,7 @@ pub enum Phase {
     Failed,
 }
 
-/// Says whether a session continues after a step or has ended with an exit status.
+/// The state of a session after a step: the session continues, or it has ended with an exit status.
 #[derive(Clone, Copy, Debug, Drop, PartialEq, Eq)]
 pub enum Next {
     Continue,
@@ -50,7 +50,7 @@ pub struct Step {
     pub next: Next,
 }
 
-/// The reason why a step has no answer: an allocation failed in this step (`Memory`) or in an
+/// The reason why a step has no result: an allocation failed in this step (`Memory`) or in an
 /// earlier one (`Failed`).
 #[derive(Clone, Copy, Debug, Drop, PartialEq, Eq, Error)]
 pub enum SessionFault {
@@ -60,7 +60,7 @@ pub enum SessionFault {
     Failed,
 }
 
-/// A session: one conversation with an editor.
+/// A session: one conversation with an editor, which is the client.
 #[derive(Drop)]
 pub struct Session<T: TextStore> {
     alloc: Global,
@@ -93,8 +93,8 @@ impl<T: TextStore> Session<T> {
     ghost use Rattle.std.specs.Str.{chars};
     ghost use Rattle.ob0_text.specs.OpenDocuments.{text_change_of, document_at};
 
-    /// Returns a session before `initialize`. No document is open, and positions are counted in
-    /// UTF-16 units.
+    /// Returns a session that hasn't received `initialize` yet. No document is open, and positions
+    /// are counted in UTF-16 units.
     pub fn new(alloc: Global) -> Session<T>
         ensures { result ≡ start }
     {
@@ -111,16 +111,18 @@ impl<T: TextStore> Session<T> {
         }
     }
 
-    /// Returns the open documents of the client. After a failed allocation nothing is promised
-    /// about them.
+    /// Returns the documents that the client has open. After a failed allocation nothing is
+    /// promised about them.
     pub fn documents(&self) -> &Documents<T>
         ensures { result.now ≡ self.now.held }
     {
         self.documents.documents()
     }
 
-    /// Reads the content of one message, and returns the messages that answer it. If an allocation
-    /// fails, returns `Memory`, and every later step returns `Failed`.
+    /// Performs one step: reads the content of one message, and returns the contents of the
+    /// messages to send in reply. If an allocation fails, returns `Memory`, and every later step
+    /// returns `Failed`. If the session has ended before, nothing is sent, and `next` is `End` with
+    /// the exit status.
     pub fn step(&mut self, content: &[u8]) -> Result<Step, SessionFault>
         ensures ok { IfOk result (λ step. SessionSteps self.old content.now step self.new) }
         ensures err { IfErr result (λ fault. SessionFails self.old fault self.new) }
@@ -149,7 +151,8 @@ impl<T: TextStore> Session<T> {
         }
     }
 
-    /// Returns whether the session continues, or the status with which it has ended.
+    /// Returns `Continue` if the session continues. If it has ended, returns `End` with its exit
+    /// status.
     fn next(&self) -> Next
         ensures { result ≡ next_after self.now.phase }
     {
@@ -159,7 +162,7 @@ impl<T: TextStore> Session<T> {
         }
     }
 
-    /// Applies a content, and returns the list of messages that answer it: one or none.
+    /// Processes one content, and returns the messages to send in reply: one or none.
     fn answer(&mut self, content: &[u8]) -> Result<Vec<Vec<u8>>, AllocError>
         ensures { IfOk result
             (λ sent. AnswersBeforeEnd self.old content.now (map (λ v. v.items) sent.items) self.new) }
@@ -171,7 +174,8 @@ impl<T: TextStore> Session<T> {
         Ok(sent)
     }
 
-    /// Applies a content, and returns the message that answers it, or None if there is no answer.
+    /// Processes one content, and returns the message to send in reply, or None if there is no
+    /// reply.
     fn reply_to_content(&mut self, content: &[u8]) -> Result<Option<Vec<u8>>, AllocError>
         ensures { IfOk result (λ sent. AnswersBeforeEnd self.old content.now
             (option_to_list (option_map (λ v. v.items) sent)) self.new) }
@@ -189,8 +193,8 @@ impl<T: TextStore> Session<T> {
         }
     }
 
-    /// Returns the message that refuses a request with this error. The id is None if the refused
-    /// content isn't a message.
+    /// Returns the message that refuses a request with this error code and this text. `id` is None
+    /// if the refused content isn't a message. The result is never None.
     fn refusal_message(
         &self,
         id: Option<&Id>,
@@ -204,8 +208,8 @@ impl<T: TextStore> Session<T> {
         Ok(Some(error(self.alloc, id, code, said)?))
     }
 
-    /// Returns the message that reports this fault of a request or content. If the fault is
-    /// `Memory`, returns the error `AllocError`, and there is no message.
+    /// Returns the message that reports a fault of a request or of a content. If the fault is
+    /// `Memory`, returns the error `AllocError` instead. The result is never None.
     fn fault_message(&self, id: Option<&Id>, fault: RpcFault) -> Result<Option<Vec<u8>>, AllocError>
         ensures { IfOk result (λ sent. (fault ≢ RpcFault.Memory) × Reacts
             (react_with_fault self.now (id_or_null (option_map (λ i. i.now) id.entry)) fault) sent
@@ -217,8 +221,8 @@ impl<T: TextStore> Session<T> {
         Ok(Some(error(self.alloc, id, fault.code(), fault.text())?))
     }
 
-    /// Answers a request, with an error if the phase of the lifecycle doesn't allow it. Returns
-    /// None if the session has ended or an allocation has failed.
+    /// Answers a request. The answer is an error if the phase of the lifecycle doesn't allow the
+    /// request. Returns None if the session has ended or an allocation has failed before.
     fn reply_to_request(
         &mut self,
         id: &Id,
@@ -265,7 +269,7 @@ impl<T: TextStore> Session<T> {
         }
     }
 
-    /// Answers a request of a known method.
+    /// Answers a request whose method and params have been read.
     fn reply_to_known_request(
         &mut self,
         id: &Id,
@@ -316,7 +320,7 @@ impl<T: TextStore> Session<T> {
         }
     }
 
-    /// Answers a request for references.
+    /// Answers a request for the references to the name or field at a place.
     fn reply_to_references(
         &mut self,
         id: &Id,
@@ -335,7 +339,7 @@ impl<T: TextStore> Session<T> {
         self.ask(id, place.uri.as_str(), &request)
     }
 
-    /// Answers a request for renaming.
+    /// Answers a request to rename the name or field at a place.
     fn reply_to_rename(
         &mut self,
         id: &Id,
@@ -354,7 +358,7 @@ impl<T: TextStore> Session<T> {
         self.ask(id, place.uri.as_str(), &request)
     }
 
-    /// Answers a request for code actions.
+    /// Answers a request for the code actions in a range of a document.
     fn reply_to_actions(
         &mut self,
         id: &Id,
@@ -376,8 +380,8 @@ impl<T: TextStore> Session<T> {
         self.ask(id, uri, &request)
     }
 
-    /// Returns the answer to a request about the document with this uri. If that document isn't
-    /// open or is out of step, returns a refusal.
+    /// Returns the answer to a request about the document with this uri. If the document isn't
+    /// open, or its text isn't known (out of step), returns a refusal.
     fn ask<Q: DocumentRequest<T>>(
         &mut self,
         id: &Id,
@@ -391,7 +395,7 @@ impl<T: TextStore> Session<T> {
         reply_for_outcome(self.alloc, id, outcome)
     }
 
-    /// Starts the session for a client with these capabilities. No document is open after that.
+    /// Starts the session for a client with these capabilities. No document is open then.
     fn begin(&mut self, client: ClientFeatures)
         ensures { self.new ≡ begins client }
     {
@@ -400,8 +404,8 @@ impl<T: TextStore> Session<T> {
         self.documents = AnalysedDocuments::new(self.alloc, empty_documents(self.alloc, client));
     }
 
-    /// Applies a notification if the phase of the lifecycle allows it. Returns the message to send,
-    /// or None.
+    /// Applies a notification if the phase of the lifecycle allows the notification. Returns the
+    /// message to send, or None if there is none.
     fn react_to_notification(
         &mut self,
         method: &str,
@@ -420,8 +424,8 @@ impl<T: TextStore> Session<T> {
         Ok(None)
     }
 
-    /// Reads a notification and applies it, while the session runs. Returns the message to send, or
-    /// None.
+    /// Reads a notification from its method and params, and applies it while the session runs.
+    /// Returns the message to send, or None if there is none.
     fn apply_by_method(
         &mut self,
         method: &str,
@@ -436,7 +440,7 @@ impl<T: TextStore> Session<T> {
         self.apply_notification(note)
     }
 
-    /// Ends the session on `exit`. Its status is 0 after `shutdown`, otherwise 1.
+    /// Ends the session because of `exit`. The exit status is 0 after `shutdown`, otherwise 1.
     fn end(&mut self)
         ensures { self.new ≡ (react_to_exit self.old).after }
     {
@@ -447,7 +451,7 @@ impl<T: TextStore> Session<T> {
     }
 
     /// Applies a notification that has been read, while the session runs. Returns the message to
-    /// send, or None.
+    /// send, or None if there is none.
     fn apply_notification(
         &mut self,
         note: ClientNotification,
@@ -481,7 +485,7 @@ impl<T: TextStore> Session<T> {
         }
     }
 
-    /// Opens a document, and returns the message that publishes its diagnostics.
+    /// Opens a document, and returns the message that publishes the diagnostics of its text.
     fn open(&mut self, uri: &str, version: i64, text: String) -> Result<Option<Vec<u8>>, AllocError>
         ensures { IfOk result (λ sent. Reacts
             (apply_notification self.old (opens uri.now version (chars (string_bytes text)))) sent
@@ -491,8 +495,8 @@ impl<T: TextStore> Session<T> {
         self.publish(uri)
     }
 
-    /// Changes a document, and returns the message that publishes its diagnostics. Returns None if
-    /// the document isn't open or is out of step.
+    /// Applies changes to a document, and returns the message that publishes its diagnostics.
+    /// Returns None if the document isn't open or is out of step after the changes.
     fn change(
         &mut self,
         uri: String,
@@ -532,8 +536,8 @@ impl<T: TextStore> Session<T> {
     }
 }
 
-/// Returns the reply for this outcome of a request about a document. It is the outcome's message,
-/// or a refusal if the document is out of step or isn't open.
+/// Returns the reply to a request about a document that has this outcome. The reply is the
+/// outcome's message, or a refusal if the document is out of step or isn't open.
 fn reply_for_outcome(
     alloc: Global,
     id: &Id,
@@ -548,7 +552,7 @@ fn reply_for_outcome(
     }
 }
 
-/// Returns the message of an outcome, or None if the document is out of step or isn't open.
+/// Returns the message of an outcome. Returns None if the document is out of step or isn't open.
 fn message_of(outcome: RequestOutcome) -> Option<Vec<u8>>
     ensures { result ≡ what_is_sent outcome }
 {

@@ -1,4 +1,4 @@
-//! Defines the questions that these tests ask about texts, in tables, and asks them.
+//! Defines the questions in the tests' tables, and asks them about texts.
 
 ghost use Rattle.std.specs.Prelude.{⊤};
 
@@ -18,14 +18,16 @@ use std::alloc::{AllocError, Global};
 pub enum Asked {
     /// No question: only the faults of the text are reported.
     Faults,
-    /// The type of the declaration with an ordinal.
+    /// The type of the declaration with this ordinal.
     TypeOf(usize),
-    /// The place at which a new name for the declaration with this ordinal has its first conflict,
-    /// or that it has none.
+    /// The bytes at which a new name for the declaration with this ordinal has its first conflict.
+    /// The answer is `free` if the name has no conflict.
     Free(usize, &'static str),
-    /// The bindings of the occurrences after the declaration with this ordinal is renamed.
+    /// The ordinal to which each occurrence is bound once the declaration with this ordinal has
+    /// this new name.
     Bound(usize, &'static str),
-    /// The declaration or field that the name at a byte offset refers to, its uses, and its hover text.
+    /// The declaration or field that the name at this byte offset refers to, its uses, and its
+    /// hover text.
     NameAt(usize),
     /// The hover text of each name, followed by a bar.
     Shown,
@@ -34,17 +36,18 @@ pub enum Asked {
     Run(&'static [i32], u32, u32),
     /// The names of the nodes to which the statements are lowered.
     Code,
-    /// The text after a renaming at a line and a character, or the refusal.
+    /// The text after a renaming at a line and a character (from 0) to this name, or the refusal.
     Rename(u64, u64, &'static str),
     InlineHere(u64, u64),
     InlineAll(u64, u64),
     LayOut(Indent),
 }
 
-/// A text, a question about it, and the answer, or the text's faults instead.
+/// A text, a question about it, and the expected answer. If the text isn't a well-typed module, its
+/// faults are expected instead.
 pub type Row = (&'static str, Asked, &'static str);
 
-/// A table: `TEXT, ASKED => ANSWER;` for each row, or `TEXT => FAULTS;`.
+/// Builds a table of rows, each written `TEXT, ASKED => ANSWER;`, or `TEXT => FAULTS;`.
 macro_rules! rows {
     ($($text:expr, $asked:expr => $wanted:expr;)*) => { &[$(($text, $asked, $wanted)),*] };
     ($($text:expr => $wanted:expr;)*) => { &[$(($text, Faults, $wanted)),*] };
@@ -56,7 +59,7 @@ pub(crate) use rows;
 #[derive(Clone, Copy, PartialEq, Eq)]
 pub enum Walk {
     Asking,
-    /// Answers are checked, but a row may have none if an allocation fails.
+    /// Each question is asked, but a row may have no answer if an allocation fails.
     Refused,
     /// Each row is a renaming, which is made through the analysis.
     RenamingInAnalysis,
@@ -110,8 +113,8 @@ fn push_answer(
     }
 }
 
-/// Returns the answer for a row. (A function that owns an analysis is expensive to prove at each of
-/// its steps, so this one only passes it on.)
+/// Returns the answer to a row's question, or the faults of the row's text. (A function that owns
+/// an analysis is expensive to prove at each of its steps, so this one only passes it on.)
 fn answer_for_row(alloc: Global, row: &Row, walk: Walk) -> Result<String, AllocError> {
     let analysis = Analysis::of(alloc, row.0)?;
     answer_or_faults(alloc, &analysis, &row.1, walk)
@@ -133,7 +136,8 @@ fn answer_or_faults(
     }
 }
 
-/// Returns true if a row has its expected answer, or an allocation failed and may fail.
+/// Returns whether a row has its expected answer. If an allocation fails, returns whether it may
+/// fail (`Walk::Refused`).
 fn is_said(alloc: Global, row: &Row, walk: Walk) -> bool {
     match answer_for_row(alloc, row, walk) {
         Ok(found) => found.as_str() == row.2,
@@ -156,18 +160,19 @@ pub fn first_wrong(
     ("", "")
 }
 
-/// Returns the position with this line and character.
+/// Returns the position with this line and character, both counted from 0.
 pub fn at(line: u64, character: u64) -> Position {
     Position { line, character }
 }
 
-/// Returns the faults of an analysed text.
+/// Returns the faults of an analysed text, one after another. The string is empty if the text has
+/// no faults.
 pub fn faults_of(alloc: Global, analysis: &Analysis) -> Result<String, AllocError> {
     let faults = analysis.diagnoses(alloc)?;
     reported_faults(alloc, faults.as_slice())
 }
 
-/// Returns each fault's code and range in bytes, and for a syntax fault what is expected.
+/// Returns each fault's code and byte range, and for a syntax fault the expected token.
 fn reported_faults(alloc: Global, faults: &[Diagnosis]) -> Result<String, AllocError> {
     let mut out = String::new(alloc);
     for fault in faults {
@@ -176,7 +181,7 @@ fn reported_faults(alloc: Global, faults: &[Diagnosis]) -> Result<String, AllocE
     Ok(out)
 }
 
-/// Appends a fault's code and range in bytes, and for a syntax fault what is expected.
+/// Appends a fault's code and byte range, and for a syntax fault the expected token.
 fn push_fault(out: &mut String, fault: &Diagnosis) -> Result<(), AllocError> {
     let (code, start, end) = (fault.code, fault.span.start, fault.span.end);
     let expected = if code == "Syntax" {

@@ -9,8 +9,9 @@ use ob0_types::WellTyped;
 use std::alloc::{AllocError, Global};
 use std::process::Abort;
 
-/// Appends the names of the nodes of a module's body: for each statement, its own node, the nodes that are evaluated in
-/// it, and the statements in it.
+/// Appends the names of nodes of a module's body. Each statement has its own node. A stored number
+/// or truth value also has its outermost node. An `If` or a `While` also has the outermost node of
+/// its condition, and the nodes of the statements directly in it.
 pub fn push_code(
     alloc: Global,
     out: &mut String,

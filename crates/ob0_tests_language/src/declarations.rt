@@ -8,7 +8,7 @@ use ob0_types::{ArrayShape, Parts, RecordShape, Shape, WellTyped};
 use std::alloc::{AllocError, Global};
 use std::process::Abort;
 
-/// Appends the type of the declaration with this ordinal.
+/// Appends the type of the declaration with this ordinal, or `none` if it has no type.
 pub fn push_type(
     out: &mut String,
     module: &WellTyped<'_>,
@@ -43,7 +43,7 @@ fn push_shape(out: &mut String, shape: Shape<'_>) -> Result<(), AllocError> {
     Ok(())
 }
 
-/// Appends an array type's ordinal and length.
+/// Appends an array type's ordinal and length, in front of its element type.
 fn push_array(out: &mut String, array: &ArrayShape) -> Result<(), AllocError> {
     let (ordinal, length) = (array.ordinal, array.length);
     write!(out, "ARRAY {ordinal} {length} OF ")
@@ -55,8 +55,8 @@ fn push_record(out: &mut String, record: &RecordShape) -> Result<(), AllocError>
     write!(out, "RECORD {ordinal} with {fields}")
 }
 
-/// Appends the place at which a new name for the declaration with this ordinal has its first
-/// conflict, or `free`.
+/// Appends the bytes at which a new name for the declaration with this ordinal has its first
+/// conflict, or `free` if it has no conflict.
 pub fn push_capture(
     alloc: Global,
     out: &mut String,
@@ -70,7 +70,8 @@ pub fn push_capture(
     }
 }
 
-/// Appends the bindings of the occurrences after the declaration with this ordinal is renamed.
+/// Appends the ordinal to which each occurrence is bound once the declaration with this ordinal has
+/// this new name.
 pub fn push_bound(
     alloc: Global,
     out: &mut String,
@@ -82,7 +83,7 @@ pub fn push_bound(
     push_ordinals(out, bound.as_slice())
 }
 
-/// Appends the ordinals, or `none` for an unbound occurrence.
+/// Appends each ordinal, or `none` for an unbound occurrence.
 fn push_ordinals(out: &mut String, ordinals: &[Option<usize>]) -> Result<(), AllocError> {
     for ordinal in ordinals {
         match ordinal {

@@ -17,7 +17,7 @@ use ob0_types::WellTyped;
 use std::alloc::{AllocError, Global};
 use std::process::Abort;
 
-/// Appends a module's text after an edit, or the refusal.
+/// Appends a module's text after the edit that a question asks for, or the refusal.
 pub fn push_edited(
     alloc: Global,
     out: &mut String,
@@ -63,7 +63,8 @@ fn apply_or_refuse(
     }
 }
 
-/// Returns an analysed text after a renaming, or the refusal. If the text has faults, returns the faults.
+/// Returns an analysed text after a renaming, or the refusal. If the text has faults, returns the
+/// faults. If the question isn't a renaming, the string is empty.
 pub fn rename_or_faults(
     alloc: Global,
     analysis: &Analysis,
@@ -215,8 +216,8 @@ fn constants_are_inlined(rt: HostRuntime) {
 
 const TWO: Indent = Indent::Spaces(2);
 
-/// Texts with their indentation and the formatted text, each as two rows: `TEXT, INDENT => FORMATTED;`. The second row
-/// states that formatting the formatted text changes nothing.
+/// Builds two rows for each text, written `TEXT, INDENT => FORMATTED;`. The second row states that
+/// formatting the formatted text changes nothing.
 macro_rules! layouts {
     ($($text:expr, $indent:expr => $wanted:expr;)*) => {
         &[$(($text, LayOut($indent), $wanted), ($wanted, LayOut($indent), $wanted)),*]

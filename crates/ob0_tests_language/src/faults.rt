@@ -1,4 +1,5 @@
-//! Tests the faults of example texts: the code, start and end of each, in text order.
+//! Tests the faults of example texts: the code, start and end of each, in text order. Also tests
+//! that a changed text has the faults of an analysis from scratch.
 
 use crate::asking::Asked::Faults;
 use crate::asking::{Row, Walk, at, faults_of, first_wrong, rows};
@@ -83,7 +84,7 @@ fn the_faults_of_worked_texts_are_reported(rt: HostRuntime) {
     assert!(rt; text.is_empty(), "{wanted} of {text}");
 }
 
-/// Changes: `TEXT, START, END, NEW;` for each.
+/// Builds a list of changes, each written `TEXT, START, END, NEW;`.
 macro_rules! changes {
     ($($text:expr, $start:expr, $end:expr, $new:expr;)*) => { &[$(($text, $start, $end, $new)),*] };
 }
@@ -97,8 +98,8 @@ const RECORDS: &str =
     "MODULE M; TYPE T = RECORD f, g: INTEGER END; VAR t: T; PROCEDURE P(a, b: T); BEGIN a := b; a.f := t.g END P; \
     BEGIN P(t, t); z := t END M.";
 
-/// Texts of one line, each with a change outside or inside identifiers: its start, its end, and the
-/// new text.
+/// Texts of one line, each with a change outside or inside identifiers. A change has the character
+/// at which it starts, the character before which it ends, and the new text.
 static CHANGES: &[(&str, u64, u64, &str)] = changes![
     // A number on which types depend.
     "MODULE M; CONST n = 2; VAR a: ARRAY n OF INTEGER; BEGIN a[n - 1] := 1; a[2] := n END M.", 20, 21, "20";
@@ -148,21 +149,22 @@ fn text_after_fault(alloc: Global, old: &str, new: &str) -> Result<String, Alloc
     faults_of(alloc, &analysis)
 }
 
-/// Returns the faults of a text, from an analysis from scratch.
+/// Returns the faults of a text that is analysed from scratch.
 fn faults_from_nothing(alloc: Global, text: &str) -> Result<String, AllocError> {
     let analysis = Analysis::of(alloc, text)?;
     faults_of(alloc, &analysis)
 }
 
-/// Returns true if the text `new`, analysed after the text `old`, has the faults that an analysis from scratch finds.
+/// Returns whether the text `new` has the faults that an analysis from scratch finds, if its
+/// analysis reuses the analysis of the text `old`.
 fn is_as_new(alloc: Global, old: &str, new: &str) -> Result<bool, AllocError> {
     let found = text_after_fault(alloc, old, new)?;
     let wanted = faults_from_nothing(alloc, new)?;
     Ok(found.as_str() == wanted.as_str())
 }
 
-/// Returns true if a text that is changed, and then changed back, has each time the faults that an analysis from
-/// scratch finds.
+/// Changes a text, and then changes it back. Returns whether each result has the faults that an
+/// analysis from scratch finds.
 fn are_as_new(alloc: Global, row: &(&str, u64, u64, &str)) -> Result<bool, AllocError> {
     let (text, start, end, new) = *row;
     let mut store = Whole::from_str(alloc, text)?;
@@ -171,8 +173,8 @@ fn are_as_new(alloc: Global, row: &(&str, u64, u64, &str)) -> Result<bool, Alloc
     Ok(is_as_new(alloc, text, store.as_str())? && is_as_new(alloc, store.as_str(), text)?)
 }
 
-/// Returns the number of the first change after which a text has other faults than an analysis from scratch finds.
-/// Returns None if there is none.
+/// Returns the index, from 0, of the first change after which a text has other faults than an
+/// analysis from scratch finds. Returns None if there is no such change.
 fn first_unlike_new(alloc: Global, changes: &[(&str, u64, u64, &str)]) -> Option<usize> {
     for i in 0..changes.len() {
         if are_as_new(alloc, &changes[i]) != Ok(true) {

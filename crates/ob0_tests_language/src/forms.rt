@@ -1,5 +1,5 @@
-//! Tests the forms in which the parser represents expressions, which no contract distinguishes.
-//! Also tests the sizes of nodes and of the entries for the bindings of tokens.
+//! Tests the forms in which the parser represents expressions. No contract distinguishes these
+//! forms. Also tests the sizes of nodes and of the entries for the bindings of tokens.
 
 use ob0_parse::parse;
 use ob0_scan::{Tokens, scan};
@@ -23,8 +23,8 @@ const ONE_FACTOR: &str =
 const OPERATIONS: &str =
     "MODULE M; VAR x: INTEGER; BEGIN x := -x; x := +1; x := (x) * 2; x := a[i].b + 1; x := ~b & c; x := x = 1; x := (x) # y; x := a.b < 3; x := -(x) END M.";
 
-/// Returns true if a statement assigns a value in the small form, a single factor, and false if the value has another
-/// form. Returns None if the statement isn't an assignment.
+/// Returns whether a statement assigns a value in the small form, a single factor. Returns None if
+/// the statement isn't an assignment.
 fn assigns_factor(s: &Statement) -> Option<bool> {
     match s {
         Statement::Assign(a) => match &a.value {
@@ -35,8 +35,8 @@ fn assigns_factor(s: &Statement) -> Option<bool> {
     }
 }
 
-/// Returns true if the statements are this many assignments, and all values have the form that `factor` says. If it is
-/// true, that is the small form, otherwise another form.
+/// Returns whether the statements are this many assignments. If `factor` is true, all values must
+/// have the small form. If it is false, all must have another form.
 fn are_assignments(statements: &[Statement], count: usize, factor: bool) -> bool {
     for s in statements {
         if assigns_factor(s) != Some(factor) {
@@ -46,8 +46,8 @@ fn are_assignments(statements: &[Statement], count: usize, factor: bool) -> bool
     statements.len() == count
 }
 
-/// Returns true if the module's body consists of this many assignments, whose values all have the small form or all
-/// another form, as `factor` says.
+/// Returns whether the module's body consists of this many assignments. If `factor` is true, all
+/// values must have the small form. If it is false, all must have another form.
 fn has_assignments(module: &Module<'_>, count: usize, factor: bool) -> bool {
     match &module.block().body {
         Some(body) => are_assignments(body.as_slice(), count, factor),
@@ -55,8 +55,9 @@ fn has_assignments(module: &Module<'_>, count: usize, factor: bool) -> bool {
     }
 }
 
-/// Returns true if the tokens are a module whose body consists of this many assignments. Their values all have the
-/// small form or all another form, as `factor` says.
+/// Returns whether the tokens are a module whose body consists of this many assignments. If
+/// `factor` is true, all values must have the small form. If it is false, all must have another
+/// form.
 fn are_parsed(alloc: Global, tokens: &Tokens, count: usize, factor: bool) -> bool {
     match parse(alloc, tokens) {
         Ok(module) => has_assignments(&module, count, factor),
@@ -64,8 +65,8 @@ fn are_parsed(alloc: Global, tokens: &Tokens, count: usize, factor: bool) -> boo
     }
 }
 
-/// Returns true if the text is a module whose body consists of this many assignments. Their values all have the small
-/// form or all another form, as `factor` says.
+/// Returns whether the text is a module whose body consists of this many assignments. If `factor`
+/// is true, all values must have the small form. If it is false, all must have another form.
 fn all_assign(alloc: Global, text: &str, count: usize, factor: bool) -> bool {
     match scan(alloc, text) {
         Ok(tokens) => are_parsed(alloc, &tokens, count, factor),

@@ -1,4 +1,5 @@
-//! Tests a module that passes through the layers one by one, each called by its own path.
+//! Tests a module that passes through the layers one by one: scan, parse, resolve and check. Each
+//! layer's function is imported from its own crate.
 
 use ob0_parse::{ParseRefusal, parse};
 use ob0_run::laws::{
@@ -18,7 +19,7 @@ const TEXT: &str =
 /// The ordinals of the declarations to which the occurrences of the text are bound: INTEGER, x, c, x, c, Write and x.
 static BOUND: &[usize] = &[0, 8, 7, 8, 7, 5, 8];
 
-/// Returns true if the names of the module are bound to their declarations.
+/// Returns whether the names of the module are bound to their declarations, without faults.
 fn is_bound(names: &Resolved<'_>) -> bool {
     for occurrence in 0..BOUND.len() {
         if names.declaration_of(occurrence) != Some(BOUND[occurrence]) {
@@ -30,7 +31,8 @@ fn is_bound(names: &Resolved<'_>) -> bool {
         && names.tokens().text() == names.module().tokens().text()
 }
 
-/// Returns true if the module's constant has its value, and only its variable has a type.
+/// Returns whether the constant (ordinal 7) has its value and the variable (ordinal 8) has a type.
+/// Nothing else may have a value or a type, and there may be no faults.
 fn has_types(typed: &WellTyped<'_>) -> bool {
     typed.constant(7) == Some(Scalar::Number(3))
         && typed.constant(8) == None
@@ -39,7 +41,7 @@ fn has_types(typed: &WellTyped<'_>) -> bool {
         && typed.checked().faults().is_empty()
 }
 
-/// Returns true if the module has no faults and the expected types.
+/// Returns whether the module has no faults and has the expected types.
 fn is_typed(checked: &Checked<'_>) -> bool {
     if !checked.faults().is_empty() || !checked.resolved().faults().is_empty() {
         return false;
@@ -50,8 +52,7 @@ fn is_typed(checked: &Checked<'_>) -> bool {
     }
 }
 
-/// Returns true if the module is well-typed, with the value of its constant, and with a type only
-/// for its variable.
+/// Returns whether the module is well-typed, with the expected types.
 fn is_well_typed(alloc: Global, names: &Resolved<'_>) -> bool {
     match check(alloc, names) {
         Ok(checked) => is_typed(&checked),
@@ -59,7 +60,7 @@ fn is_well_typed(alloc: Global, names: &Resolved<'_>) -> bool {
     }
 }
 
-/// Returns true if the names are bound as expected and the module is well-typed.
+/// Returns whether the names are bound as expected and the module is well-typed.
 fn is_resolved(alloc: Global, module: &Module<'_>) -> bool {
     match resolve(alloc, module) {
         Ok(names) => is_bound(&names) && is_well_typed(alloc, &names),
@@ -67,7 +68,7 @@ fn is_resolved(alloc: Global, module: &Module<'_>) -> bool {
     }
 }
 
-/// Returns true if the module has this nesting and this many identifiers.
+/// Returns whether the module has this depth of nesting and this many identifiers.
 fn is_shaped(alloc: Global, module: &Module<'_>, nesting: u32, count: usize) -> bool {
     match module.identifiers(alloc) {
         Ok(identifiers) => module.nesting() == nesting && identifiers.len() == count,
@@ -75,7 +76,7 @@ fn is_shaped(alloc: Global, module: &Module<'_>, nesting: u32, count: usize) -> 
     }
 }
 
-/// Returns true if the tokens are a module with the expected shape, names and types.
+/// Returns whether the tokens are a module with the expected shape, names and types.
 fn is_parsable(alloc: Global, tokens: &Tokens) -> bool {
     match parse(alloc, tokens) {
         Ok(module) => is_shaped(alloc, &module, 1, 11) && is_resolved(alloc, &module),
@@ -84,7 +85,7 @@ fn is_parsable(alloc: Global, tokens: &Tokens) -> bool {
     }
 }
 
-/// Returns true if the text passes through all layers with the expected results.
+/// Returns whether the text passes through all layers with the expected results.
 fn goes_through(alloc: Global) -> bool {
     match scan(alloc, TEXT) {
         Ok(tokens) => is_parsable(alloc, &tokens),

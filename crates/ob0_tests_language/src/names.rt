@@ -8,8 +8,9 @@ use ob0_types::WellTyped;
 use std::alloc::{AllocError, Global};
 use std::process::Abort;
 
-/// Appends the thing that the name at a byte offset refers to, the places of its declaration and of its uses, and its
-/// hover text. Appends nothing if there is no name at the offset.
+/// Appends facts about the name at a byte offset: the declaration or field that it refers to, the
+/// byte ranges of the declaration and of the uses, and the hover text. Appends nothing if there is
+/// no name at the offset.
 pub fn push_name(
     alloc: Global,
     out: &mut String,
@@ -27,7 +28,8 @@ pub fn push_name(
     push_shown(alloc, out, module, offset, span)
 }
 
-/// Appends the thing that a name refers to: an ordinal, `predeclared`, or a field's record and index.
+/// Appends the thing that a name refers to: a declaration's ordinal, `predeclared`, or a field's
+/// record and index.
 fn push_of(out: &mut String, of: Of) -> Result<(), AllocError> {
     match of {
         Of::Declared(ordinal) => push_number(out, "", ordinal),
@@ -36,7 +38,7 @@ fn push_of(out: &mut String, of: Of) -> Result<(), AllocError> {
     }
 }
 
-/// Appends the places of the uses of the name at a byte offset.
+/// Appends the byte ranges of the uses of the name at a byte offset.
 fn push_named(
     alloc: Global,
     out: &mut String,
@@ -47,7 +49,7 @@ fn push_named(
     push_spans(out, named.as_slice())
 }
 
-/// Appends these spans.
+/// Appends these byte ranges.
 fn push_spans(out: &mut String, spans: &[Span]) -> Result<(), AllocError> {
     out.push_str(", at")?;
     for span in spans {
@@ -56,7 +58,8 @@ fn push_spans(out: &mut String, spans: &[Span]) -> Result<(), AllocError> {
     Ok(())
 }
 
-/// Appends the hover text at a byte offset and its range, which must be the range `name`.
+/// Appends the hover text at a byte offset and its range, with a remark if this isn't the range
+/// `name`. Appends nothing if there is no hover text.
 fn push_shown(
     alloc: Global,
     out: &mut String,
@@ -103,7 +106,7 @@ fn names_and_fields_are_found(rt: HostRuntime) {
     assert!(rt; text.is_empty(), "{wanted} in {text}");
 }
 
-/// Appends the hover text of each identifier that has one.
+/// Appends the hover text of each identifier that has one, each followed by a bar.
 pub fn push_all_shown(
     alloc: Global,
     out: &mut String,
@@ -119,7 +122,7 @@ pub fn push_all_shown(
     Ok(())
 }
 
-/// Appends the hover text of the name at a span, and returns true if there is one.
+/// Appends the hover text of the name at a span, and returns whether there is one.
 fn push_if_shown(
     alloc: Global,
     out: &mut String,
@@ -188,7 +191,7 @@ fn each_kind_of_name_is_shown(rt: HostRuntime) {
     assert!(rt; text.is_empty(), "{text}");
 }
 
-// `make faults` runs this once for each allocation, which then fails.
+// `make faults` runs this test once for each allocation, and lets that allocation fail.
 #[test]
 fn a_refused_allocation_changes_no_answer(rt: HostRuntime) {
     let (text, _) = first_wrong(rt.alloc(), shown_rows(), Walk::Refused);

@@ -166,7 +166,7 @@ fn worked_modules_are_run(rt: HostRuntime) {
     assert!(rt; text.is_empty(), "{wanted} of {text}");
 }
 
-// `make faults` runs this once for each allocation, which then fails.
+// `make faults` runs this test once for each allocation, and lets that allocation fail.
 #[test]
 fn a_refused_allocation_changes_no_run(rt: HostRuntime) {
     let (text, wanted) = first_wrong(rt.alloc(), run_rows(), Walk::Refused);

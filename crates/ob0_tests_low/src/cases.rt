@@ -2,14 +2,14 @@
 
 use std::alloc::{AllocError, Global};
 
-/// A row of a table.
+/// A row of a table: a test case that checks itself.
 pub trait Case {
-    /// Returns true if the outcome is the one that the row expects.
+    /// Returns whether the outcome is as the row expects.
     fn holds(&self, alloc: Global) -> Result<bool, AllocError>;
 }
 
-/// Returns the number of the first row whose outcome isn't the expected one, or in which an allocation fails. Returns
-/// None if there is none.
+/// Returns the index, from 0, of the first row whose outcome isn't as expected, or in which an
+/// allocation fails. Returns None if there is no such row.
 pub fn first_wrong<C: Case>(alloc: Global, rows: &[C]) -> Option<usize> {
     for i in 0..rows.len() {
         if rows[i].holds(alloc) != Ok(true) {

@@ -1,5 +1,5 @@
-//! Tests the state of documents while they are opened, changed, lost and closed, in both stores.
-//! Also tests documents and a text after an allocation failed.
+//! Tests the state of documents while they are opened, changed, lost (put out of step) and closed,
+//! in both text stores. Also tests documents and a text after an allocation failed.
 
 use crate::cases::{Case, first_wrong};
 use crate::documents::Act::{Close, Lose, Note, Open};
@@ -15,15 +15,16 @@ type ChangeRow = ((u64, u64), (u64, u64), &'static str);
 /// An action on a document.
 enum Act {
     Open(i64, &'static str),
-    /// A notification with changes. The changed bytes are given by their offset, the number of
-    /// removed bytes and the number of added bytes.
+    /// A notification with a version and changes, and the bytes that it is expected to replace:
+    /// their offset, the number of removed bytes and the number of added bytes. None if the text
+    /// isn't known.
     Note(i64, &'static [ChangeRow], Option<(usize, usize, usize)>),
     Lose,
-    /// True if the document was open before.
+    /// The Bool says whether the document was open before it is closed.
     Close(bool),
 }
 
-/// The state of a document.
+/// The expected state of a document: in step with this version and text, out of step, or closed.
 #[derive(Clone, Copy)]
 enum Known {
     InStep(i64, &'static str),
@@ -41,7 +42,8 @@ const CHANGED_BY_THREE: &str = "a\r\nb\nd";
 
 const TWO_CHANGES: &[ChangeRow] = &[((0, 9), (0, 10), "yz"), ((0, 4), (0, 4), "!")];
 
-/// The unit of positions, and actions on a document, each with the expected state after it.
+/// The unit of positions, and actions on a document, each with the expected state of the document
+/// after the action.
 struct Row(Unit, &'static [(Act, Known)]);
 
 static ROWS: &[Row] = rows![
@@ -81,7 +83,7 @@ fn changes_of(alloc: Global, rows: &[ChangeRow]) -> Result<Vec<Change>, AllocErr
     Ok(changes)
 }
 
-/// Returns true if a document has the expected state.
+/// Returns whether a document has the expected state.
 fn is_known<T: TextStore>(documents: &Documents<T>, uri: &str, wanted: Known) -> bool {
     match (documents.get(uri), wanted) {
         (Some(Held::InStep { version, text }), InStep(number, content)) => {
@@ -93,7 +95,7 @@ fn is_known<T: TextStore>(documents: &Documents<T>, uri: &str, wanted: Known) ->
     }
 }
 
-/// Returns true if the replaced bytes are the expected ones.
+/// Returns whether the replaced bytes are the expected ones.
 fn are_bytes(found: Option<ReplacedBytes>, wanted: Option<(usize, usize, usize)>) -> bool {
     match (found, wanted) {
         (Some(bytes), Some(wanted)) => (bytes.from, bytes.removed, bytes.added) == wanted,
@@ -102,7 +104,7 @@ fn are_bytes(found: Option<ReplacedBytes>, wanted: Option<(usize, usize, usize)>
     }
 }
 
-/// Performs an action, and returns true if its result is the expected one.
+/// Performs an action, and returns whether its result is the expected one.
 fn does<T: TextStore>(
     alloc: Global,
     documents: &mut Documents<T>,
@@ -123,8 +125,8 @@ fn does<T: TextStore>(
     Ok(true)
 }
 
-/// Performs the actions one after another. Returns true if each has its expected result, and the document then has the
-/// expected state.
+/// Performs the actions one after another. Returns whether each has its expected result, and the
+/// document then has the expected state.
 fn do_all<T: TextStore>(
     alloc: Global,
     documents: &mut Documents<T>,
@@ -138,7 +140,7 @@ fn do_all<T: TextStore>(
     Ok(true)
 }
 
-/// Returns true if all actions of a row have their expected results, in the row's unit.
+/// Returns whether all actions of a row have their expected results, in the row's unit.
 fn are_done<T: TextStore>(alloc: Global, row: &Row) -> Result<bool, AllocError> {
     let mut documents: Documents<T> = Documents::new(alloc);
     if row.0 == Unit::Utf8 {
@@ -159,8 +161,8 @@ fn a_document_is_held_until_it_is_closed_or_lost(rt: HostRuntime) {
     assert!(rt; wrong.is_none(), "row {wrong:?}");
 }
 
-/// Opens a document, and tries again if an allocation fails. Returns true if a failure left it closed and it is open in
-/// the end.
+/// Opens a document, and tries again if an allocation fails. Returns whether a failure left the
+/// document closed and the document is open in the end.
 fn opens(documents: &mut Documents<Lines>, uri: &str) -> bool {
     if documents.did_open(uri, 1, OPENED).is_err() {
         if documents.get(uri).is_some() || documents.did_open(uri, 1, OPENED).is_err() {
@@ -170,7 +172,8 @@ fn opens(documents: &mut Documents<Lines>, uri: &str) -> bool {
     is_known(documents, uri, InStep(1, OPENED))
 }
 
-/// Changes a document. Returns true if the document is in step after a success, and out of step after a failure.
+/// Changes a document. Returns whether the document is in step after a success, and out of step
+/// after a failure.
 fn changes(documents: &mut Documents<Lines>, uri: &str, note: &[Change]) -> bool {
     match documents.did_change(uri, 2, note) {
         Ok(_bytes) => is_known(documents, uri, InStep(2, CHANGED_BY_THREE)),
@@ -178,7 +181,7 @@ fn changes(documents: &mut Documents<Lines>, uri: &str, note: &[Change]) -> bool
     }
 }
 
-/// Opens two documents and changes one of them. Returns true if both have their expected states.
+/// Opens two documents and changes one of them. Returns whether both have their expected states.
 fn are_held(alloc: Global) -> Result<bool, AllocError> {
     let note = changes_of(alloc, THREE_CHANGES)?;
     let mut documents: Documents<Lines> = Documents::new(alloc);
@@ -190,7 +193,8 @@ fn are_held(alloc: Global) -> Result<bool, AllocError> {
     )
 }
 
-/// Returns true if a replacement that fails leaves the text unchanged.
+/// Replaces a range of a text. Returns whether the text is the expected one, or is unchanged if an
+/// allocation failed.
 fn is_text_left(alloc: Global) -> Result<bool, AllocError> {
     let mut store = Lines::from_str(alloc, OPENED)?;
     match store.replace(range_of((1, 0), (1, 0)), "\nmore than there was room for") {
@@ -199,15 +203,15 @@ fn is_text_left(alloc: Global) -> Result<bool, AllocError> {
     }
 }
 
-// `make test` runs this once for each allocation, which then fails. (The test repeats its own
-// allocations.)
+// `make test` runs this test once for each allocation, and lets that allocation fail. (If an
+// allocation of the test itself fails, the test makes it again.)
 #[test]
 fn a_refused_note_leaves_its_document_alone_out_of_step(rt: HostRuntime) {
     let held = are_held(rt.alloc());
     assert!(rt; held == Ok(true) || held.is_err() && are_held(rt.alloc()) == Ok(true));
 }
 
-// `make test` runs this once for each allocation, which then fails.
+// `make test` runs this test once for each allocation, and lets that allocation fail.
 #[test]
 fn a_refused_replacement_leaves_the_text(rt: HostRuntime) {
     let left = is_text_left(rt.alloc());

@@ -2,7 +2,7 @@
 //! known answers, calls with ample memory, and failing allocations.
 #![tactic(auto)]
 
-/// A table of rows `ROW;`, or of pairs `ASKED => EXPECTED;`.
+/// Builds a table of rows, each written `ROW;`, or of pairs, each written `ASKED => EXPECTED;`.
 #[cfg(test)]
 macro_rules! rows {
     ($($asked:expr => $wanted:expr;)*) => { &[$(($asked, $wanted)),*] };

@@ -9,7 +9,7 @@ use std::alloc::{AllocError, Global};
 use std::process::Abort;
 
 enum Row {
-    /// A short text, to which changes are applied.
+    /// A short text. Many changes are tried on it.
     Changed(&'static str),
     /// A text of long lines: with only ASCII, with other characters far to the right, or with a
     /// tab.
@@ -41,14 +41,14 @@ static KEPT: &[Row] = rows![
     Cut("", &[""]);
 ];
 
-/// The two stores of a text.
+/// One text in both stores: as lines and as a whole.
 #[derive(Drop)]
 struct Stores {
     lines: Lines,
     whole: Whole,
 }
 
-/// Returns the two stores of a text.
+/// Returns both stores of a text, with positions in this unit.
 fn stores_of(alloc: Global, text: &str, unit: Unit) -> Result<Stores, AllocError> {
     let lines = Lines::from_str_in(alloc, text, unit)?;
     let whole = Whole::from_str_in(alloc, text, unit)?;
@@ -56,8 +56,9 @@ fn stores_of(alloc: Global, text: &str, unit: Unit) -> Result<Stores, AllocError
 }
 
 impl Stores {
-    /// Returns true if both stores have the same text, and the same offset for each position whose line and character
-    /// are below these numbers.
+    /// Returns whether both stores have the same text and agree on places. They must have the same
+    /// offset for each position whose line and character are below these numbers, and the same
+    /// position for each offset below 20.
     fn have_same_kinds(&self, lines: u64, characters: u64) -> bool {
         for line in 0..lines {
             for character in 0..characters {
@@ -81,8 +82,8 @@ impl Stores {
         self.whole.replace(range, new)
     }
 
-    /// Makes a change in both stores. Returns true if both have the same text and replaced the same
-    /// bytes.
+    /// Replaces the range of two columns that starts at this line and column, in both stores.
+    /// Returns whether both have the same text and replaced the same bytes.
     fn change(&mut self, line: u64, column: u64) -> Result<bool, AllocError> {
         let range = range_of((line, column), (line, column.saturating_add(2)));
         let bytes = self.lines.replace_at(range, "é-")?;
@@ -90,7 +91,8 @@ impl Stores {
         Ok(bytes == others && self.lines.as_str() == self.whole.as_str())
     }
 
-    /// Changes the lines at these columns. Returns true if both stores agree after each change.
+    /// Changes each of the first three lines at these columns, one after another. Returns whether
+    /// both stores agree after each change.
     fn change_lines(&mut self, columns: &[u64]) -> Result<bool, AllocError> {
         for line in 0..3 {
             for column in columns {
@@ -103,8 +105,8 @@ impl Stores {
     }
 }
 
-/// Returns true if a store has the same lines as a new store of its text. Only the first 16 lines
-/// are compared.
+/// Returns whether a store has the same text and the same lines as a new store of its text. Only
+/// the first 16 lines are compared.
 fn is_as_new(alloc: Global, lines: &Lines, unit: Unit) -> Result<bool, AllocError> {
     let again = Lines::from_str_in(alloc, lines.as_str(), unit)?;
     for k in 0..16 {
@@ -115,8 +117,8 @@ fn is_as_new(alloc: Global, lines: &Lines, unit: Unit) -> Result<bool, AllocErro
     Ok(lines.as_str() == again.as_str())
 }
 
-/// Makes one change in both stores. Returns true if both have the same text and places, and the
-/// store of lines has the lines of a new store.
+/// Makes one change in both stores of a text. Returns whether both have the same text and places,
+/// and the store of lines has the lines of a new store.
 fn agree(
     alloc: Global,
     text: &str,
@@ -129,8 +131,8 @@ fn agree(
     Ok(is_as_new(alloc, &stores.lines, unit)? && stores.have_same_kinds(10, 8))
 }
 
-/// Returns true if the stores agree after two changes: one over several lines, in UTF-16 units, and one within a line,
-/// in bytes.
+/// Returns whether the stores agree after each of two separate changes. One ends `further` lines
+/// later and counts in UTF-16 units. The other stays in the line and counts in bytes.
 fn agree_from(
     alloc: Global,
     text: &str,
@@ -143,8 +145,8 @@ fn agree_from(
     Ok(agree(alloc, text, Unit::Utf16, wide, new)? && agree(alloc, text, Unit::Utf8, narrow, new)?)
 }
 
-/// Returns true if the stores agree after each of several changes. Each begins in one of the first lines, and ends
-/// there or in one of the next two.
+/// Returns whether the stores agree after each of several separate changes. Each change begins in
+/// one of the first four lines, and ends there or in one of the next two.
 fn agree_after_changes(alloc: Global, text: &str, new: &str) -> Result<bool, AllocError> {
     for line in 0..4 {
         for further in 0..3 {
@@ -158,7 +160,7 @@ fn agree_after_changes(alloc: Global, text: &str, new: &str) -> Result<bool, All
 
 static PUT: &[&str] = &["", "\n", "\r", "\r\n", "é", "\n\r", "a\rb"];
 
-/// Returns true if the stores agree after changes with each of the new texts.
+/// Returns whether the stores agree after changes with each of the new texts (`PUT`).
 fn agree_after_each(alloc: Global, text: &str) -> Result<bool, AllocError> {
     for new in PUT {
         if !agree_after_changes(alloc, text, new)? {
@@ -175,8 +177,8 @@ static COLUMNS: &[&[u64]] = &[
     &[10, 120, 60, 64, 128, 1, 90, 89],
 ];
 
-/// Returns true if the stores of a text agree far to the right in its lines. They must also agree after the lines are
-/// changed, at all columns.
+/// Returns whether the stores of a text agree far to the right in its lines, and also after the
+/// lines are changed at each list of columns (`COLUMNS`).
 fn are_alike_far_in(alloc: Global, text: &str, unit: Unit) -> Result<bool, AllocError> {
     if !stores_of(alloc, text, unit)?.have_same_kinds(4, 160) {
         return Ok(false);
@@ -189,7 +191,7 @@ fn are_alike_far_in(alloc: Global, text: &str, unit: Unit) -> Result<bool, Alloc
     Ok(true)
 }
 
-/// Returns true if a store has exactly these lines.
+/// Returns whether a store has exactly these lines.
 fn has_lines(lines: &Lines, wanted: &[&str]) -> bool {
     for k in 0..wanted.len() {
         if lines.line(k) != Some(wanted[k]) {

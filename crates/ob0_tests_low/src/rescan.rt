@@ -1,5 +1,5 @@
-//! Tests texts that are changed at one place and scanned again. They have the tokens, comments and
-//! faults of a scan from scratch.
+//! Tests texts that are changed at one place and scanned again. The second scan must give the
+//! tokens, comments and faults of a scan from scratch.
 
 ghost use Rattle.std.specs.Prelude.{◌≡◌, ◌++◌, IfOk, string_bytes};
 ghost use Rattle.ob0_scan.specs.Reused.{ReplacesRange};
@@ -17,23 +17,23 @@ use std::process::Abort;
 /// The outcome of scanning a changed text again, compared with a scan from scratch.
 #[derive(Clone, Copy, PartialEq, Eq)]
 enum Outcome {
-    /// Both scans give the same tokens. The number counts the tokens and comments that are read again. The Bool says
-    /// whether the scan reports that all tokens keep their kinds.
+    /// Both scans give the same tokens. The number counts the tokens and comments that were read
+    /// again. The Bool says whether the second scan reports that all tokens keep their kinds.
     Read(usize, bool),
     /// Both scans refuse the text for the same faults.
     Refused,
-    /// The text before the change can't be scanned.
+    /// The old text can't be scanned.
     Unscanned,
     Different,
 }
 
-/// A text in four parts: the text before the change, the old text, the new text, and the text after
-/// the change.
+/// A text in four parts: the text in front of the change, the text that is replaced, the new text,
+/// and the text behind the change.
 type Parts = (&'static str, &'static str, &'static str, &'static str);
 
 enum Row {
     Short(Parts, Outcome),
-    /// The parts with 5,000 statements before them, and as many after them.
+    /// The parts with 5,000 statements in front of them, and as many behind them.
     Long(Parts, Outcome),
 }
 
@@ -52,13 +52,13 @@ fn join_texts(
     Ok(text)
 }
 
-/// Returns true if both scans have the same text, tokens and comments.
+/// Returns whether both scans have the same text, tokens and comments.
 fn are_same(a: &Tokens, b: &Tokens) -> bool {
     a.text() == b.text() && a.tokens() == b.tokens() && a.comments() == b.comments()
 }
 
 /// Returns the outcome of a scan in place, compared with a scan from scratch. If the new text has
-/// faults, the scan in place returns the old tokens.
+/// faults, the scan in place must return the old tokens.
 fn outcome_in_place(
     placed: &Result<RescanInPlace, RescanRefusal>,
     scanned: &Result<Tokens, ScanRefusal>,
@@ -74,7 +74,8 @@ fn outcome_in_place(
     }
 }
 
-/// Returns true if the scan that keeps the old tokens, compared with a scan from scratch, also has this outcome.
+/// Returns whether the scan that keeps the old tokens also has this outcome, compared with a scan
+/// from scratch.
 fn has_outcome(
     found: &Result<Rescan, ScanRefusal>,
     scanned: &Result<Tokens, ScanRefusal>,
@@ -91,8 +92,8 @@ fn has_outcome(
     }
 }
 
-/// The place of a change, in bytes: the numbers of bytes before it, of removed bytes and of added
-/// bytes.
+/// The place of a change, in bytes: the offset at which it begins, and the numbers of removed and
+/// of added bytes.
 #[derive(Clone, Copy)]
 struct ChangedRange {
     from: usize,
@@ -100,8 +101,8 @@ struct ChangedRange {
     added: usize,
 }
 
-/// Scans a changed text again, once with the old tokens kept and once in their place. Returns the common outcome, or
-/// `Different`.
+/// Scans a changed text again in two ways: one keeps the old tokens, the other replaces them in
+/// place. Returns the common outcome, or `Different`.
 fn rescan_both(
     alloc: Global,
     old: Tokens,
@@ -117,7 +118,8 @@ fn rescan_both(
     compare(&beside, &placed, &scan(alloc, text), old_text)
 }
 
-/// Returns the common outcome of both scans of a changed text, or `Different`.
+/// Returns the common outcome of both scans of a changed text, compared with the scan from scratch
+/// (`scanned`). Returns `Different` if their outcomes differ.
 fn compare(
     beside: &Result<Rescan, ScanRefusal>,
     placed: &Result<RescanInPlace, RescanRefusal>,
@@ -162,7 +164,8 @@ fn push_statements(text: &mut String) -> Result<(), AllocError> {
     Ok(())
 }
 
-/// Returns the outcome of a change between these statements and as many more.
+/// Returns the outcome of a change with these statements in front of it, and the same statements
+/// again behind it.
 fn change_between(alloc: Global, statements: &str, parts: &Parts) -> Result<Outcome, AllocError> {
     let (front, middle, other, following) = *parts;
     let front = join_texts(alloc, "MODULE M; VAR x: INTEGER; BEGIN ", statements, front)?;
@@ -170,7 +173,7 @@ fn change_between(alloc: Global, statements: &str, parts: &Parts) -> Result<Outc
     change(alloc, front.as_str(), middle, other, following.as_str())
 }
 
-/// Returns the outcome of a change with 5,000 statements before it and as many after it.
+/// Returns the outcome of a change with 5,000 statements in front of it and as many behind it.
 fn change_long(alloc: Global, parts: &Parts) -> Result<Outcome, AllocError> {
     let mut statements = String::new(alloc);
     push_statements(&mut statements)?;
@@ -228,7 +231,7 @@ struct Numbers {
 }
 
 impl Numbers {
-    /// Returns the next number, which is below a bound.
+    /// Returns the next number, which is less than `most`. If `most` is 0, returns 0.
     fn below(&mut self, most: usize) -> usize {
         self.seed = self
             .seed
@@ -260,7 +263,7 @@ fn random_text(alloc: Global, numbers: &mut Numbers, most: usize) -> Result<Stri
     Ok(text)
 }
 
-/// Returns random texts. Each has fewer pieces than the number at its index.
+/// Returns one random text for each number in `most`. The text has fewer pieces than this number.
 fn random_texts(
     alloc: Global,
     numbers: &mut Numbers,
@@ -288,8 +291,8 @@ fn random_change(alloc: Global, numbers: &mut Numbers) -> Result<Outcome, AllocE
     }
 }
 
-/// Returns true if random changes are scanned as if from scratch, and if there are enough accepted and enough refused
-/// texts among them.
+/// Returns whether 10,000 random changes are scanned as if from scratch. At least 3,000 of the
+/// changed texts must be accepted and 500 refused.
 fn are_random_changes_read(alloc: Global) -> bool {
     let mut numbers = Numbers { seed: 1 };
     let mut read: usize = 0;

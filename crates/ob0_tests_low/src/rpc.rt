@@ -14,8 +14,9 @@ use serde_json::{Value, json};
 use std::alloc::{AllocError, Global};
 use std::process::Abort;
 
-/// An input and its kind: a content, or a method with its params, with the expected meaning in words; or a message that
-/// is sent, with the expected content.
+/// The subject of a row: a content, a request or a notification (its method and params), or a
+/// message that is sent. The row also has the expected meaning in words. For a message that is
+/// sent, it has the expected content instead.
 #[derive(Clone, Copy)]
 enum Asked {
     Content(&'static str),
@@ -24,7 +25,8 @@ enum Asked {
     Sent(Message),
 }
 
-/// A message that is sent. Those without `Note` or `Refusal` in their names are answers to a request with this value.
+/// A message that is sent. A name with `Note` means a notification, and `Refusal` is a refusal.
+/// Each other message is an answer whose result is this value.
 #[derive(Clone, Copy)]
 enum Message {
     Nothing,
@@ -37,7 +39,7 @@ enum Message {
     Text,
     Truths,
     Member,
-    /// A value with members of each kind except a fraction.
+    /// A JSON value with members of each kind except a fraction.
     EachKind,
     NoteOfEachKind,
 }
@@ -138,7 +140,7 @@ static ROWS: &[Row] = rows![
     Sent(NoteOfEachKind) => r#"{"jsonrpc":"2.0","method":"m","params":{"a":{"c":"\"\n"},"b":[true,null,-1]}}"#;
 ];
 
-/// Returns the kind of a content, in a word.
+/// Returns the kind of message that a content is, or the fault, in words.
 fn kind_of(alloc: Global, content: &str) -> &'static str {
     match read(alloc, content.as_bytes()) {
         Ok(message) => word_of_message(&message),
@@ -239,7 +241,7 @@ fn word_noticed(alloc: Global, method: &str, params: Value) -> &'static str {
     }
 }
 
-/// Returns true if the notification with this method and these params has the expected meaning.
+/// Returns whether the notification with this method and these params has the expected meaning.
 fn is_noticed(alloc: Global, method: &str, params: &str, wanted: &str) -> bool {
     match Value::from_str(alloc, params) {
         Ok(params) => word_noticed(alloc, method, params) == wanted,
@@ -247,7 +249,7 @@ fn is_noticed(alloc: Global, method: &str, params: &str, wanted: &str) -> bool {
     }
 }
 
-/// Returns true if the request with this method and these params has the expected meaning.
+/// Returns whether the request with this method and these params has the expected meaning.
 fn is_requested(alloc: Global, method: &str, params: &str, wanted: &str) -> bool {
     match Value::from_str(alloc, params) {
         Ok(params) => word_requested(alloc, method, &params) == wanted,
@@ -255,24 +257,24 @@ fn is_requested(alloc: Global, method: &str, params: &str, wanted: &str) -> bool
     }
 }
 
-/// Returns a value with members of each kind except a fraction.
+/// Returns a JSON value with members of each kind except a fraction.
 fn value_of_each_kind(alloc: Global) -> Result<Value, AllocError> {
     json!(in alloc; {"b": [true, null, -1], "a": {"c": "\"\n"}})
 }
 
-/// Returns the content of an answer that is a range.
+/// Returns the content of an answer whose result is this range.
 fn range_written(alloc: Global, start: (u64, u64), end: (u64, u64)) -> Result<Vec<u8>, AllocError> {
     let (start, end) = (at(start.0, start.1), at(end.0, end.1));
     answer_text(alloc, &Id::Signed(1), &Range { start, end })
 }
 
-/// Returns the content of an answer that is an object with one member.
+/// Returns the content of an answer whose result is an object with one member.
 fn member_written(alloc: Global) -> Result<Vec<u8>, AllocError> {
     let (key, value) = ("a b", Some(at(1, 2)));
     answer_text(alloc, &Id::Signed(0), &OneMemberObject { key, value })
 }
 
-/// Returns the content of a message.
+/// Returns the content of a message that is sent.
 fn written(alloc: Global, message: Message) -> Result<Vec<u8>, AllocError> {
     const MOST: (u64, u64) = (u64::MAX, u64::MAX);
     match message {

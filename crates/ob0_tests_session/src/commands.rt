@@ -1,4 +1,5 @@
-//! Tests command lines, and commands with writers that pass written bytes on only when they are flushed.
+//! Tests command lines, and commands whose writers pass written bytes on only when they are
+//! flushed.
 
 use crate::devices::{Count, Counter, Source};
 use ob0_cli::{CommandFault, CommandLine, command};
@@ -27,7 +28,7 @@ const RENAME: CommandLine<'static> = CommandLine::Rename {
     name: "abc",
 };
 
-/// A renaming to `abc` at the word MODULE, which isn't a name.
+/// A renaming to `abc` at the word `MODULE`, which isn't a name.
 const RENAME_WORD: CommandLine<'static> = CommandLine::Rename {
     file: "m",
     position: Position {
@@ -37,11 +38,11 @@ const RENAME_WORD: CommandLine<'static> = CommandLine::Rename {
     name: "abc",
 };
 
-/// A command line, the bytes of its file and the input.
+/// A command line, the bytes of its file and the bytes of the standard input.
 type Call = (CommandLine<'static>, &'static [u8], &'static [u8]);
 
-/// Returns the status of a call if only `flushes` flushes succeed, and the number of bytes that are passed on. A
-/// command line without a file isn't performed.
+/// Performs a call of which only `flushes` flushes succeed. Returns the status, and the number of
+/// bytes that are passed on. A command line without a file isn't performed; its status is 2.
 fn outcome_of(alloc: Global, call: Call, flushes: u32) -> (u8, usize) {
     let (line, file, bytes) = call;
     let Some(_path) = line.file() else {
@@ -79,7 +80,8 @@ static CALLS: &[(Call, u32, (u8, usize))] = &[
     ((RENAME_WORD, READS, b""), 1, (1, 0)),
 ];
 
-/// Returns the number of the first call with another outcome than expected. Returns None if there is none.
+/// Returns the index, from 0, of the first call with another outcome than expected. Returns None if
+/// all calls have the expected outcome.
 fn first_astray(alloc: Global, calls: &[(Call, u32, (u8, usize))]) -> Option<usize> {
     for i in 0..calls.len() {
         if outcome_of(alloc, calls[i].0, calls[i].1) != calls[i].2 {
@@ -110,7 +112,8 @@ fn word_of(line: &CommandLine<'_>) -> &'static str {
     }
 }
 
-/// Returns the kind of the command line that these words spell, or that they are refused.
+/// Returns the kind of the command line that these words spell, in words. If they are refused or
+/// memory runs out, returns these words instead.
 fn line_of(alloc: Global, words: &[&str]) -> &'static str {
     match command(alloc, words) {
         Ok(line) => word_of(&line),

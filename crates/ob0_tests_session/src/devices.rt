@@ -1,8 +1,9 @@
-//! A reader and a writer that fail after some calls.
+//! Defines a reader and a writer that fail after some calls.
 
 use std::io::{self, Read, Write};
 
-/// A reader of these bytes, which returns at most `most` of them in each call. It fails when no calls are left.
+/// A reader of these bytes, which returns at most `most` bytes in each call. A call fails when no
+/// calls are left.
 #[derive(Drop)]
 pub struct Source<'a> {
     pub bytes: &'a [u8],
@@ -43,8 +44,8 @@ impl Count {
     }
 }
 
-/// A writer that only counts bytes. It fails if no more bytes can be written. It passes written
-/// bytes on only when it is flushed.
+/// A writer that only counts bytes. A write fails if no more bytes can be written. Written bytes
+/// are passed on only when the writer is flushed.
 #[derive(Drop)]
 pub struct Counter<'a> {
     pub count: &'a mut Count,

@@ -1,5 +1,5 @@
-//! Tests conversations with failing devices, and with a writer that passes bytes on only when it is
-//! flushed.
+//! Tests conversations with failing devices, and with a writer that passes bytes on only when the
+//! writer is flushed.
 
 use crate::devices::{Count, Counter, Source};
 use ob0_session::{DeviceFault, InputDevice, Noted, OutputDevice, ServeFault, serve, status_of};
@@ -15,13 +15,13 @@ const INPUT: &[u8] = b"Content-Length: 75\r\n\r\n\
     Content-Length: 44\r\n\r\n{\"id\":2,\"jsonrpc\":\"2.0\",\"method\":\"shutdown\"}\
     Content-Length: 33\r\n\r\n{\"jsonrpc\":\"2.0\",\"method\":\"exit\"}";
 
-/// The first message, followed by a bad head.
+/// The first message of `INPUT`, followed by a bad head.
 const BAD_HEAD: &[u8] = b"Content-Length: 75\r\n\r\n\
     {\"id\":1,\"jsonrpc\":\"2.0\",\"method\":\"initialize\",\"params\":{\"capabilities\":{}}}\
     Content-Length: x\r\n\r\n";
 
-/// A conversation and its expected end. The first `len` of its bytes are read, by at most `reads`
-/// reads of at most `given` bytes each. Its writer accepts `capacity` bytes and `flushes` flushes.
+/// A conversation and its expected end. The first `len` bytes are read, by at most `reads` reads of
+/// at most `given` bytes each. The writer accepts `capacity` bytes and `flushes` flushes.
 struct ServeEnd {
     bytes: &'static [u8],
     len: usize,
@@ -32,7 +32,8 @@ struct ServeEnd {
     result: Result<u8, ServeFault>,
 }
 
-/// Conversations: `BYTES to LEN, GIVEN, READS; CAPACITY, FLUSHES => RESULT;` for each.
+/// Builds a table of conversations, each written `BYTES to LEN, GIVEN, READS; CAPACITY, FLUSHES =>
+/// RESULT;`.
 macro_rules! ends {
     ($($bytes:ident to $len:expr, $given:expr, $reads:expr; $capacity:expr, $flushes:expr => $result:expr;)*) => {
         &[$(ServeEnd { bytes: $bytes, len: $len, given: $given, reads: $reads, capacity: $capacity, flushes: $flushes,
@@ -51,7 +52,8 @@ static ENDS: &[ServeEnd] = ends![
     BAD_HEAD to 118, 40, u32::MAX; 512, 3 => Err(ServeFault::BadHead);
 ];
 
-/// The end of a conversation, with the failures that the devices recorded, and whether everything was flushed.
+/// The end of a conversation, with each device's failure as it was recorded, and whether everything
+/// was flushed.
 #[derive(Clone, Copy)]
 struct Found {
     result: Result<u8, ServeFault>,
@@ -78,16 +80,17 @@ fn converse(alloc: Global, end: &ServeEnd, count: &mut Count) -> Found {
     }
 }
 
-/// Returns true if everything was flushed, and each device recorded a failure exactly if the result says that it
-/// failed.
+/// Returns whether everything was flushed, and each device recorded a failure exactly if the result
+/// says that the device failed.
 fn is_reported(found: Found) -> bool {
     found.read_failed == (found.result == Err(ServeFault::Read))
         && found.write_failed == (found.result == Err(ServeFault::Write))
         && found.flushed
 }
 
-/// Returns true if a conversation ends as expected when only this many flushes succeed. If a needed flush is missing,
-/// the result must be `Write`. Otherwise it must be the expected result, and all written bytes are passed on.
+/// Returns whether a conversation ends as expected when only this many flushes succeed. If a needed
+/// flush fails, the result must be `Write`. Otherwise it must be the expected result, and all
+/// written bytes must be passed on.
 fn ends_flushed(alloc: Global, end: &ServeEnd, flushes: u32) -> bool {
     let mut count = Count::new(end.capacity, flushes);
     let found = converse(alloc, end, &mut count);
@@ -97,8 +100,8 @@ fn ends_flushed(alloc: Global, end: &ServeEnd, flushes: u32) -> bool {
     found.result == end.result && is_reported(found) && count.passed_on == count.written
 }
 
-/// Returns true if a conversation ends with `Write` for each smaller number of flushes, and as expected for its own
-/// number.
+/// Returns whether a conversation needs all its flushes. It must end with `Write` for each number
+/// of flushes below `end.flushes`, and as expected for this number.
 fn needs_each_flush(alloc: Global, end: &ServeEnd) -> bool {
     for flushes in 0..end.flushes {
         if !ends_flushed(alloc, end, flushes) {
@@ -108,7 +111,8 @@ fn needs_each_flush(alloc: Global, end: &ServeEnd) -> bool {
     ends_flushed(alloc, end, end.flushes)
 }
 
-/// Returns the number of the first conversation that doesn't end as expected. Returns None if all do.
+/// Returns the index, from 0, of the first conversation that doesn't end as expected. Returns None
+/// if all do.
 fn first_astray(alloc: Global, ends: &[ServeEnd]) -> Option<usize> {
     for i in 0..ends.len() {
         if !needs_each_flush(alloc, &ends[i]) {
@@ -124,7 +128,7 @@ fn each_piece_is_flushed_at_its_end(rt: HostRuntime) {
     assert!(rt; number.is_none(), "conversation {number:?}");
 }
 
-/// Returns true if a reader's bytes are passed on unchanged, and its failure is recorded.
+/// Returns whether `Noted` passes a reader's bytes on unchanged, and records the reader's failure.
 fn is_reader_noted() -> bool {
     let mut reader = Noted::new(Source {
         bytes: b"ab",
@@ -136,7 +140,7 @@ fn is_reader_noted() -> bool {
     is_read && reader.read(&mut piece) == Err(DeviceFault) && reader.failed()
 }
 
-/// Returns true if a writer's bytes are passed on unchanged, and its failure is recorded.
+/// Returns whether `Noted` passes a writer's bytes on unchanged, and records the writer's failure.
 fn is_writer_noted() -> bool {
     let mut count = Count::new(1, 1);
     let mut writer = Noted::new(Counter { count: &mut count });

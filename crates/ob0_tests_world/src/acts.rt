@@ -1,13 +1,14 @@
-//! Defines the events of worlds as tables write them, and the reports on them.
+//! Defines short forms of events and of reports, for tables, and makes the events.
 //!
-//! If an allocation for the events themselves fails, they are made a second time. That succeeds, because only one
-//! allocation of a run fails.
+//! If an allocation for the events themselves fails, the events are made a second time. The second
+//! time succeeds, because only one allocation of a run fails.
 
 use ob0_text::{Change, Indent, Position, Range, TextStore};
 use ob0_world::{Ask, Event, Seen, World, WorldFault};
 use std::alloc::{AllocError, Global};
 
-/// An event of a world. It is about the document `u`, unless it is `Other`.
+/// The short form of an event of a world. The event is about the document `u`, unless it is
+/// `Other`.
 #[derive(Clone, Copy)]
 pub enum Act {
     /// This event, but about another document, `v`.
@@ -15,13 +16,14 @@ pub enum Act {
     Open(&'static str),
     /// A change notification without changes.
     Touch,
-    /// A new text for the characters of a line from the first number to the second: line, start, end, text.
+    /// A change of a range in one line: the line, the range's start and end, and the new text. The
+    /// end isn't in the range. Lines and characters are counted from 0.
     Write(u64, u64, u64, &'static str),
     Close,
     Rename(u64, u64, &'static str),
     InlineHere(u64, u64),
     InlineAll(u64, u64),
-    /// Formatting with two spaces a level.
+    /// A request for formatting with two spaces for each level of indentation.
     Format,
     Serve,
     Take,
@@ -29,18 +31,19 @@ pub enum Act {
     Discard(u64),
 }
 
-/// The report on an event.
+/// The short form of the report on an event.
 #[derive(Clone, Copy, PartialEq, Eq)]
 pub enum Sight {
     Nothing,
     Sent,
     /// The server took a message and sent this many messages in reply.
     Served(usize),
-    /// The editor took a list of diagnostics of `u`. True if the list is empty.
+    /// The editor took the diagnostics of `u`. The Bool says whether the list is empty.
     Published(bool),
-    /// The editor took a list of diagnostics of `v`. True if the list is empty.
+    /// The editor took the diagnostics of `v`. The Bool says whether the list is empty.
     PublishedOther(bool),
-    /// The editor took the answer to the ask with this number. True if the answer has edits.
+    /// The editor took the answer to the ask with this number. The Bool says whether the answer has
+    /// edits.
     Answered(u64, bool),
     Applied(u64),
     Dropped(u64),
@@ -52,24 +55,25 @@ pub struct Story {
     pub unit: ob0_text::Unit,
     /// Each event with its expected report.
     pub moments: &'static [(Act, Sight)],
-    /// The texts before and after each edit that is applied.
+    /// The text before and the text after each edit that is applied.
     pub applied: &'static [(&'static str, &'static str)],
     /// The version and text of each published list of diagnostics, and whether the list is empty.
     pub made: &'static [(i64, &'static str, bool)],
 }
 
-/// The course that some steps took, compared with the expected one.
+/// The result of one or more steps, compared with the expected result.
 #[derive(Clone, Copy, PartialEq, Eq)]
 pub enum Way {
     AsTold,
-    /// As expected up to an allocation that fails. Each later step returns that the world or the session has ended.
+    /// The steps are as expected up to an allocation that fails. Each later step returns that the
+    /// world or the session has ended.
     Refused,
     Ended,
     Otherwise,
 }
 
-/// Returns the course of several steps, given the course of all but the last (`before`) and the course of the last
-/// (`next`).
+/// Returns the common result of several steps, given the result of all steps but the last
+/// (`before`) and the result of the last step (`next`).
 pub fn join_ways(before: Way, next: Way) -> Way {
     match (before, next) {
         (Way::AsTold, Way::Ended) => Way::Otherwise,
@@ -79,12 +83,12 @@ pub fn join_ways(before: Way, next: Way) -> Way {
     }
 }
 
-/// Returns the position with this line and character.
+/// Returns the position with this line and character, both counted from 0.
 fn at(line: u64, character: u64) -> Position {
     Position { line, character }
 }
 
-/// Returns one change that replaces a range by a text.
+/// Returns a list of one change, which replaces a range by a text.
 fn changes(alloc: Global, range: Range, text: &str) -> Result<Vec<Change>, AllocError> {
     let text = String::from_str(alloc, text)?;
     let mut changes = Vec::new(alloc);
@@ -99,7 +103,8 @@ fn rename_ask(alloc: Global, position: Position, name: &str) -> Result<Ask, Allo
     Ok(Ask::Rename { position, name })
 }
 
-/// Returns the ask that an act describes. Any act that describes no ask gives a formatting.
+/// Returns the ask that an act describes. An act that describes no other ask gives the ask for a
+/// formatting.
 fn ask_of(alloc: Global, act: Act) -> Result<Ask, AllocError> {
     match act {
         Act::Rename(line, character, name) => rename_ask(alloc, at(line, character), name),
@@ -115,8 +120,8 @@ fn ask_of(alloc: Global, act: Act) -> Result<Ask, AllocError> {
     }
 }
 
-/// Returns the event that an act describes, about the document with this uri. Any act that isn't an open, a change or a
-/// close gives an ask.
+/// Returns the event that an act describes, about the document with this uri. An act that isn't an
+/// open, a change or a close gives an ask.
 fn event_about(alloc: Global, uri: String, act: Act) -> Result<Event, AllocError> {
     match act {
         Act::Open(text) => {
@@ -161,7 +166,7 @@ fn events_of(alloc: Global, moments: &[(Act, Sight)]) -> Result<Vec<Event>, Allo
     Ok(events)
 }
 
-/// Returns the events of a story. If an allocation fails, it tries once more.
+/// Returns the events of a story. If an allocation fails, the events are made once more.
 pub fn events_again(alloc: Global, story: &Story) -> Result<Vec<Event>, AllocError> {
     match events_of(alloc, story.moments) {
         Ok(events) => Ok(events),
@@ -169,7 +174,7 @@ pub fn events_again(alloc: Global, story: &Story) -> Result<Vec<Event>, AllocErr
     }
 }
 
-/// Returns the report on an event as tables write it.
+/// Returns the short form of the report on an event.
 fn sight_of(seen: &Seen) -> Sight {
     match seen {
         Seen::Nothing => Sight::Nothing,
@@ -183,7 +188,8 @@ fn sight_of(seen: &Seen) -> Sight {
     }
 }
 
-/// Makes an event in a world. Returns whether its report is the expected one, or why the event failed.
+/// Makes an event happen in a world, and returns the result: the expected report or another one, or
+/// why the event failed.
 pub fn way_of_event<T: TextStore>(world: &mut World<T>, event: &Event, wanted: Sight) -> Way {
     if world.steps() > 1_000_000 {
         return Way::Otherwise;

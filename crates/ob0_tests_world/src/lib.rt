@@ -1,5 +1,5 @@
-//! Tests sessions step by step, and worlds of an editor and a server. The tests are examples with known answers, also
-//! with failing allocations.
+//! Tests sessions step by step, and worlds of an editor and a server. The tests are examples with
+//! known answers. They also run with failing allocations.
 #![tactic(auto)]
 
 #[cfg(test)]

@@ -1,5 +1,5 @@
-//! Lists the events of worlds of an editor and a server: renames, inlined constants, formattings, and discarded
-//! answers.
+//! Lists the stories: events of an editor and a server with renames, inlined constants,
+//! formattings, and discarded answers.
 
 use crate::acts::Act::*;
 use crate::acts::Sight::*;
@@ -16,7 +16,7 @@ const LAID_OUT: &str =
     "MODULE M;\nVAR\n  n: INTEGER;\n  PROCEDURE P;\n  BEGIN\n    Write(n)\n  END P;\n\
     BEGIN\n  Read(n);\n  WHILE n > 0 DO\n    n := n - 1;\n    WriteLn\n  END;\n  P\nEND M.\n";
 
-/// Nothing in this text is formatted, and it has comments.
+/// A module with comments in which nothing is formatted.
 const CROWDED: &str =
     "MODULE M;VAR x:INTEGER;BEGIN x:=-1;IF x<0 THEN Write(x)(* a (* b *) c *)END;WriteLn END M.(* end *)";
 
@@ -38,7 +38,7 @@ const INLINED_HERE: &str = "MODULE M;\nCONST c = -2147483647 - 1;\nVAR x: INTEGE
 const INLINED_EVERYWHERE: &str =
     "MODULE M;\nCONST \nVAR x: INTEGER;\nBEGIN x := 0 + (-2147483647 - 1); Write(x) END M.\n";
 
-/// The word that would be written in place of the constant would be bound to a variable.
+/// If the constant `on` were inlined, its value `TRUE` would be bound to the variable of that name.
 const SHADOWED: &str =
     "MODULE M;\nCONST on = TRUE;\nPROCEDURE P; VAR TRUE, b: BOOLEAN; BEGIN b := on END P;\nBEGIN P END M.\n";
 
@@ -46,15 +46,16 @@ const WIDE: &str = "MODULE M;\nVAR (* 😀 *) n: INTEGER;\nBEGIN (* 😀 *) n :=
 
 const WIDE_RENAMED: &str = "MODULE M;\nVAR (* 😀 *) k: INTEGER;\nBEGIN (* 😀 *) k := 1 END M.\n";
 
-/// The first name is overwritten: the second one is then undeclared.
+/// The text `WIDE` with `k` written over the declared name, so that `n` is undeclared.
 const WIDE_WRITTEN: &str = "MODULE M;\nVAR (* 😀 *) k: INTEGER;\nBEGIN (* 😀 *) n := 1 END M.\n";
 
-/// Moments: `ACT => REPORT,` for each.
+/// Builds a list of moments, each written `ACT => REPORT` and separated by commas.
 macro_rules! moments {
     ($($act:expr => $sight:expr),*) => { &[$(($act, $sight)),*] };
 }
 
-/// Stories: `NAME, UNIT, MOMENTS, [BEFORE => AFTER of each edit], [VERSION, TEXT => EMPTY of each publication];`.
+/// Builds a list of stories, each written `NAME, UNIT, MOMENTS, [BEFORE => AFTER of each edit],
+/// [VERSION, TEXT => EMPTY of each publication];`.
 macro_rules! stories {
     ($($name:expr, $unit:expr, $moments:expr, [$($before:expr => $after:expr),*],
         [$($version:expr, $text:expr => $empty:expr);*];)*) => {
@@ -81,7 +82,7 @@ pub fn stories() -> &'static [Story] {
     STORIES
 }
 
-/// The stories. The first one is also run by two other tests.
+/// The stories. Two other tests also run the first story.
 static STORIES: &[Story] = stories![
     "another name is applied", Utf16, NAMED,
         [COUNTS => RENAMED], [1, COUNTS => true; 2, RENAMED => true];

@@ -1,4 +1,5 @@
-//! Tests whole lists of events, step by step and by `play`, in both units of positions and over both stores.
+//! Tests whole lists of events, step by step and by `play`, in both units of positions and over
+//! both text stores.
 
 use crate::acts::{Story, Way, events_again, join_ways, way_of_event};
 use crate::stories::stories;
@@ -7,7 +8,8 @@ use ob0_world::{Applied, Event, Made, PlayFault, Played, World, WorldFault};
 use std::alloc::{AllocError, Global};
 use std::process::Abort;
 
-/// The way in which a story's events are made: one by one over a store of lines or of whole texts, or by `play`.
+/// The way in which a story's events are made: one by one over a store of lines or of whole texts,
+/// or all by `play`.
 #[derive(Clone, Copy)]
 enum Manner {
     OverLines,
@@ -15,14 +17,15 @@ enum Manner {
     Played,
 }
 
-/// The course of a story, the number of its events that are made, and the numbers of edits and publications.
+/// The result of a story, the number of events that happened, the number of applied edits, and the
+/// number of publications.
 #[derive(Clone, Copy)]
 struct Outcome(Way, u64, usize, usize);
 
-/// The outcome of a story that isn't as expected.
+/// The outcome of a story that doesn't run as expected.
 const NOTHING: Outcome = Outcome(Way::Otherwise, 0, 0, 0);
 
-/// Returns true if the edits found are the first of the expected edits.
+/// Returns whether the edits found are the first of the expected edits, in order.
 fn are_first_edits(found: &[Applied], wanted: &[(&str, &str)]) -> bool {
     if found.len() > wanted.len() {
         return false;
@@ -36,7 +39,7 @@ fn are_first_edits(found: &[Applied], wanted: &[(&str, &str)]) -> bool {
     true
 }
 
-/// Returns true if the publications found are the first of the expected publications.
+/// Returns whether the publications found are the first of the expected publications, in order.
 fn are_first_publications(found: &[Made], wanted: &[(i64, &str, bool)]) -> bool {
     if found.len() > wanted.len() {
         return false;
@@ -53,8 +56,8 @@ fn are_first_publications(found: &[Made], wanted: &[(i64, &str, bool)]) -> bool 
     true
 }
 
-/// Returns the outcome of some events if their edits and publications are the first ones that are expected. Otherwise
-/// returns `NOTHING`.
+/// Returns the outcome of a story's first events if their edits and publications are the first of
+/// the expected ones. Otherwise returns `NOTHING`.
 fn outcome_of(story: &Story, way: Way, steps: u64, played: &Played) -> Outcome {
     let are_edits = are_first_edits(played.applied.as_slice(), story.applied);
     if !are_edits || !are_first_publications(played.made.as_slice(), story.made) {
@@ -63,7 +66,7 @@ fn outcome_of(story: &Story, way: Way, steps: u64, played: &Played) -> Outcome {
     Outcome(way, steps, played.applied.len(), played.made.len())
 }
 
-/// Returns a world at its beginning, in which positions are counted in this unit.
+/// Returns a world in which nothing has happened and positions are counted in this unit.
 fn begin_world<T: TextStore>(alloc: Global, unit: Unit) -> Result<World<T>, WorldFault> {
     match unit {
         Unit::Utf16 => World::new(alloc),
@@ -71,7 +74,7 @@ fn begin_world<T: TextStore>(alloc: Global, unit: Unit) -> Result<World<T>, Worl
     }
 }
 
-/// Makes the events of a story in a world, and returns their course.
+/// Makes the events of a story in a world, and returns their common result.
 fn way_through<T: TextStore>(world: &mut World<T>, story: &Story, events: &[Event]) -> Way {
     let mut way = Way::AsTold;
     for i in 0..events.len().min(story.moments.len()) {
@@ -80,7 +83,7 @@ fn way_through<T: TextStore>(world: &mut World<T>, story: &Story, events: &[Even
     way
 }
 
-/// Makes a story's events one by one, and returns the outcome.
+/// Makes a story's events one by one over a store of type `T`, and returns the outcome.
 fn step_through<T: TextStore>(alloc: Global, story: &Story, events: &[Event]) -> Outcome {
     let Ok(mut world) = begin_world::<T>(alloc, story.unit) else {
         return Outcome(Way::Refused, 0, 0, 0);
@@ -106,7 +109,8 @@ fn play_through(alloc: Global, story: &Story, events: &[Event]) -> Outcome {
     }
 }
 
-/// Runs a story, and returns the outcome up to an event at which an allocation fails, or up to its end.
+/// Runs a story, and returns the outcome up to an event at which an allocation fails, or up to the
+/// story's end.
 fn run_story(alloc: Global, story: &Story, manner: Manner) -> Outcome {
     match events_again(alloc, story) {
         Ok(events) => match manner {
@@ -118,7 +122,7 @@ fn run_story(alloc: Global, story: &Story, manner: Manner) -> Outcome {
     }
 }
 
-/// Returns true if a story runs to its end and has all the expected results.
+/// Returns whether a story runs to its end and has all the expected results.
 fn ends_as_written(alloc: Global, story: &Story, manner: Manner) -> bool {
     let Outcome(way, steps, applied, made) = run_story(alloc, story, manner);
     way == Way::AsTold
@@ -127,8 +131,8 @@ fn ends_as_written(alloc: Global, story: &Story, manner: Manner) -> bool {
         && made == story.made.len()
 }
 
-/// Returns true if a story runs as expected. If an allocation may fail, it has to run as expected only up to that
-/// failure.
+/// Returns whether a story runs as expected. If an allocation may fail, the story has to run as
+/// expected only up to that failure.
 fn goes_as_written(alloc: Global, story: &Story, may_fail: bool) -> bool {
     if may_fail {
         return run_story(alloc, story, Manner::OverLines).0 != Way::Otherwise;
@@ -160,7 +164,7 @@ fn a_refused_event_ends_a_world(rt: HostRuntime) {
     assert!(rt; name.is_empty(), "{name}");
 }
 
-/// Runs the first story, and returns the outcome.
+/// Runs the first story, and returns the outcome. Returns `NOTHING` if there is no story.
 fn run_first(alloc: Global, manner: Manner) -> Outcome {
     match stories().first() {
         Some(story) => run_story(alloc, story, manner),
@@ -168,8 +172,9 @@ fn run_first(alloc: Global, manner: Manner) -> Outcome {
     }
 }
 
-// If the same allocation fails, this prints what the next test prints. `make test` compares the two outputs, because
-// the tests don't know at which event the allocation failed.
+// If the same allocation fails in this test and in the next one, both print the same line. `make
+// test` compares the two outputs, because the tests don't know at which event the allocation
+// failed.
 #[test]
 fn a_refused_event_leaves_what_was_played_before(rt: HostRuntime) {
     let Outcome(way, steps, applied, made) = run_first(rt.alloc(), Manner::Played);

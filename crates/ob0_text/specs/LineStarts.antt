@@ -1,11 +1,12 @@
 -- Defines the byte offsets at which the lines of a text start. A line starts after an LF, and after
--- a CR that no LF follows. So the two bytes next to an offset decide. The text's start counts as an
--- offset after an LF. So the whole table is `starts_after 0 (LF ∷ bytes) []` (`StartLaws.table`),
--- which follows from the starts after each character (`following_ends`). If a run of bytes has two
--- parts, the starts in the first part come first, then the starts in the second part
--- (`following-append`). The starts in a run depend only on the first byte after the run
--- (`following-next`), and shift with the run's offset (`following-moved`). So a change keeps the
--- starts before it, tests its own bytes and one byte on either side, and shifts the starts after it
+-- a CR that no LF follows. So the two bytes next to an offset decide whether a line starts there.
+-- The text's start counts as an offset after an LF. So the whole text's starts are `starts_after 0
+-- (LF ∷ bytes) []` (`StartLaws.table`). This follows from the starts after each character
+-- (`following_ends`). If a run of bytes has two parts, the starts in the first part come first,
+-- then the starts in the second part (`following-append`). Whether a line starts at the end of a
+-- run depends on the first byte after the run, and on no later byte (`following-next`). The starts
+-- shift with the run's offset (`following-moved`). So a change keeps the starts in front of it,
+-- tests its own bytes and one byte on either side, and shifts the starts behind it
 -- (`table-mended`). A CR and an LF that a change joins or separates need no separate case.
 -- Rule: docs/PROTOCOL.md, Positions 2 (by bytes, for the table of lines).
 use Rattle.std.specs.Prelude.{◌≡◌, ℕ, suc, ◌+◌, ◌-◌, ◌<◌, ◌≤◌, if◌then◌else◌, List, [], ◌∷◌, ◌++◌, length, map, reverse, slice_index, refl}
@@ -28,8 +29,8 @@ starts_from at (l ∷ ls) = at ∷ starts_from (at + byte_len (line_with_ending 
 abbrev pub line_starts : List ℕ → List ℕ
 line_starts text = starts_from 0 (lines text)
 
--- Returns those offsets right after one of these bytes at which a line starts. `at` is the offset
--- after the first byte. The bytes `next` follow the last byte.
+-- Returns the byte offsets at which a line starts directly after one of these bytes. `at` is the
+-- offset after the first byte of the list. The bytes `next` follow the last byte of the list.
 unfoldable pub starts_after : ℕ → List ℕ → List ℕ → List ℕ
 starts_after at [] next = []
 starts_after at (b ∷ bs) next =
@@ -37,16 +38,16 @@ starts_after at (b ∷ bs) next =
     then at ∷ starts_after (suc at) bs next
     else starts_after (suc at) bs next
 
--- Holds if each number of the list is below the bound.
+-- States that each number in the list is less than the bound.
 abbrev pub AreAllBelow : ℕ → List ℕ → Type 0
 AreAllBelow bound ns = (k : ℕ) → k < length ns → slice_index ns k < bound
 
--- Holds if each number of the list is at least the bound.
+-- States that each number in the list is at least the bound.
 abbrev pub AreAllAtLeast : ℕ → List ℕ → Type 0
 AreAllAtLeast bound ns = (k : ℕ) → k < length ns → bound ≤ slice_index ns k
 
--- Holds if `count` is the number of starts below the offset: however the list is split into starts
--- below the offset and starts at or above it, the first part has this length.
+-- States that `count` is the number of starts below the offset. However the list is split into
+-- starts below the offset and starts at or above the offset, the first part has the length `count`.
 abbrev pub IsCountBefore : List ℕ → ℕ → ℕ → Type 0
 IsCountBefore starts offset count =
     (front back : List ℕ) → starts ≡ front ++ back → AreAllBelow offset front → AreAllAtLeast offset back
@@ -75,7 +76,8 @@ pub record LineStartTable : Type 0 where
   pub starts : List ℕ
   pub len : ℕ
 
--- Holds if the table has the line starts and the length of this text, both in bytes.
+-- States that the table `t` has the line starts of this text, as byte offsets, and the length of
+-- this text in bytes.
 pub record HasLines (text : List ℕ) (t : LineStartTable) : Type 0 where
   pub starts : t.starts ≡ line_starts (chars text)
   pub len : t.len ≡ length text

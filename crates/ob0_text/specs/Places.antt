@@ -16,32 +16,33 @@ use Rattle.ob0_text.specs.Texts.{before, byte_len, position_of}
 abbrev pub at : ℕ → ℕ → Position
 at line character = record { line = line; character = character }
 
--- Returns the position in the whole text of a position `p` that is counted from the place with this
--- line and character.
+-- Converts the position `p`, which is counted from the place with this line and character, to a
+-- position in the whole text.
 abbrev pub absolute_position : ℕ → ℕ → Position → Position
 absolute_position line character p =
     if p.line == 0 then at line (character + p.character) else at (line + p.line) p.character
 
--- Returns the position `p` of the whole text as it is counted from the place with this line and
--- character. This is the inverse of `absolute_position`.
+-- Converts the position `p` in the whole text to a position that is counted from the place with
+-- this line and character. This is the inverse of `absolute_position`.
 abbrev pub relative_position : ℕ → ℕ → Position → Position
 relative_position line character p =
     if p.line == line then at 0 (p.character - character) else at (p.line - line) p.character
 
--- Holds if the position `p` equals `q` or comes after it.
+-- States that the position `p` equals `q` or comes after `q` in the text.
 abbrev pub IsAtOrAfter : Position → Position → Type 0
 IsAtOrAfter q p = (q.line < p.line) ⊎ ((q.line ≡ p.line) × (q.character ≤ p.character))
 
--- Holds if `rest` is the text without its first `offset` bytes, and consists of whole characters.
+-- States that `rest` is the text without its first `offset` bytes, and that `rest` consists of
+-- whole characters.
 pub record IsRest (text rest : List ℕ) (offset : ℕ) : Type 0 where
   pub front : List ℕ
   pub split : text ≡ front ++ rest
   pub utf8 : IsUtf8 rest
   pub here : length front ≡ offset
 
--- Holds if a pass at this offset, line and character can count the position of each later offset in
--- `rest`, the text after the offset. The line and the character are at most the number of bytes
--- before the offset.
+-- States that a pass at the place with this byte offset, line and character can count the position
+-- of each later offset. The pass counts in `rest`, the text after the place. The line and the
+-- character are at most the number of bytes before the place.
 pub record IsCounted (width : ℕ → ℕ) (text rest : List ℕ) (offset line character : ℕ) : Type 0 where
   pub rest_is : IsRest text rest offset
   pub lines_fit : line + length rest ≤ length text
@@ -51,13 +52,13 @@ pub record IsCounted (width : ℕ → ℕ) (text rest : List ℕ) (offset line c
       → absolute_position line character (position_of width (chars rest) (o - offset))
       ≡ position_of width (chars text) o
 
--- Holds if the positions of all later offsets can be counted from this place.
+-- States that the positions of all later offsets can be counted from the place `p`.
 abbrev pub CanCountFrom : (ℕ → ℕ) → List ℕ → PassState → Type 0
 CanCountFrom width text p = IsCounted width text (drop p.offset text) p.offset p.line p.character
 
--- Holds if a pass that looks for the position `sought` is at or before it. The offsets of `sought`
--- and of each later position can be found from this line and character and from `rest`, the text
--- after the pass's offset.
+-- States that the place with this byte offset, line and character is at or before the position
+-- `sought`. The offsets of `sought` and of each later position can be found from this place in
+-- `rest`, the text after the place.
 pub record IsSought (width : ℕ → ℕ) (text : List ℕ) (sought : Position) (rest : List ℕ)
     (offset line character : ℕ) : Type 0 where
   pub rest_is : IsRest text rest offset
@@ -67,8 +68,8 @@ pub record IsSought (width : ℕ → ℕ) (text : List ℕ) (sought : Position) 
       → offset + byte_len (before width (chars rest) (relative_position line character p))
       ≡ byte_len (before width (chars text) p)
 
--- Holds if the offsets of the position `sought`, and of each later position, can be found from this
--- place.
+-- States that the place `p` is at or before the position `sought`, and that the offsets of `sought`
+-- and of each later position can be found from `p`.
 abbrev pub CanSeekFrom : (ℕ → ℕ) → List ℕ → Position → PassState → Type 0
 CanSeekFrom width text sought p =
     IsSought width text sought (drop p.offset text) p.offset p.line p.character

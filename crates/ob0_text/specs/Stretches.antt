@@ -7,7 +7,7 @@ use Rattle.std.specs.Str.{IsUtf8, chars}
 use Rattle.ob0_text.specs.declared.stretches.Stretch.{Stretch}
 use Rattle.ob0_text.specs.Texts.{LF, CR}
 
--- Holds if the character or byte is neither LF nor CR.
+-- States that the character or byte is neither LF nor CR.
 abbrev pub IsNotLineBreak : ℕ → Type 0
 IsNotLineBreak c = (c == LF || c == CR) ≡ false
 
@@ -17,21 +17,22 @@ abbrev pub utf16_units_at : ℕ → ℕ
 utf16_units_at b =
     (if nat_lt b 0x80 || nat_le 0xC0 b then 1 else 0) + (if nat_le 0xF0 b then 1 else 0)
 
--- Holds if no character of the list is LF or CR, and their widths add up to `units`.
+-- States that no character of the list is LF or CR, and that the widths of the characters add up to
+-- `units`.
 pub record AreOfALine (width : ℕ → ℕ) (cs : List ℕ) (units : ℕ) : Type 0 where
   pub of_one : All IsNotLineBreak cs
   pub counted : sum_by width cs ≡ units
 
--- Holds if `s` consists of whole characters of one line that begin at the byte offset `from`. It
--- may be empty.
+-- States that `s` is a piece of one line: whole characters from the byte offset `from` to `s.end`,
+-- with `s.units` units. The piece may be empty.
 pub record IsPieceOfLine (width : ℕ → ℕ) (text : List ℕ) (from : ℕ) (s : Stretch) : Type 0 where
   pub ordered : from ≤ s.end
   pub inside : s.end ≤ length text
   pub whole : IsUtf8 (take (s.end - from) (drop from text))
   pub of_a_line : AreOfALine width (chars (take (s.end - from) (drop from text))) s.units
 
--- Holds if `s` consists of at least one whole character, all of one line, and begins at the byte
--- offset `from`.
+-- States that `s` is a stretch: at least one whole character, all of one line, from the byte offset
+-- `from` to `s.end`, with `s.units` units.
 pub record IsStretch (width : ℕ → ℕ) (text : List ℕ) (from : ℕ) (s : Stretch) : Type 0 where
   pub further : from < s.end
   pub inside : s.end ≤ length text

@@ -1,4 +1,4 @@
--- Defines the number of units of a character.
+-- Defines the width of a character in each unit of positions.
 -- Rule: docs/PROTOCOL.md, Positions 1.
 use Rattle.std.specs.Prelude.{ℕ, Bool, true, false, refl}
 use Rattle.std.specs.Char.{len_utf8}
@@ -7,21 +7,23 @@ use Rattle.ob0_text.specs.declared.position_types.Unit as unit
 use Rattle.ob0_text.specs.declared.position_types.Unit.TheVariants.{Utf16, Utf8}
 use Rattle.ob0_text.specs.Texts.{utf16_width}
 
--- Returns the number of units of a character, in UTF-16 units or bytes of UTF-8.
+-- Returns the width of a character in this unit: its number of UTF-16 units, or of bytes in UTF-8.
 abbrev pub width_of : unit.Unit → ℕ → ℕ
 width_of Utf16 = utf16_width
 width_of Utf8 = len_utf8
 
--- Returns true if the unit is bytes of UTF-8.
+-- Returns whether the unit is bytes of UTF-8.
 abbrev pub is_utf8 : unit.Unit → Bool
 is_utf8 Utf16 = false
 is_utf8 Utf8 = true
 
--- Returns UTF-8 if the argument is true, otherwise UTF-16.
+-- Returns the unit UTF-8 if the argument is true, otherwise UTF-16. This is the inverse of
+-- `is_utf8`.
 abbrev pub utf8_if : Bool → unit.Unit
 utf8_if false = Utf16
 utf8_if true = Utf8
 
--- The encoding (`Coded`) of a unit, from which the encodings of texts and documents are made.
+-- The encoding (`Coded`) of a unit as a boolean. The encodings of texts and documents are made from
+-- it.
 abbrev pub unit_code : Coded unit.Unit
 unit_code = code_by Bool coded_bool is_utf8 utf8_if (elim [ Utf16 ↦ refl | Utf8 ↦ refl ])

@@ -66,7 +66,7 @@ pub fn patch<T: TextStore>(alloc: Global, store: &T, edits: &[Edit]) -> Result<S
     Ok(patched)
 }
 
-/// Returns the edits with byte offsets, in text order.
+/// Returns the edits with byte offsets instead of positions, in text order: by start, then by end.
 fn sorted_cuts<'e, T: TextStore>(
     alloc: Global,
     store: &T,
@@ -82,7 +82,7 @@ fn sorted_cuts<'e, T: TextStore>(
     Ok(cuts)
 }
 
-/// Returns the edits with byte offsets, in the order of the list.
+/// Returns the edits with byte offsets instead of positions, in the order of the list.
 fn unsorted_cuts<'e, T: TextStore>(
     alloc: Global,
     store: &T,
@@ -103,8 +103,8 @@ fn unsorted_cuts<'e, T: TextStore>(
     Ok(cuts)
 }
 
-/// Returns the byte offsets of positions. The positions are dropped here, so the caller owns one
-/// list instead of two.
+/// Returns the byte offset of each position. The list of positions is dropped here, so the caller
+/// owns one list instead of two.
 fn offsets_of_positions<T: TextStore>(
     alloc: Global,
     store: &T,
@@ -116,7 +116,7 @@ fn offsets_of_positions<T: TextStore>(
     store.offsets(alloc, &positions)
 }
 
-/// Returns the starts of the edits' ranges.
+/// Returns the start of each edit's range, in the order of the edits.
 fn starts(alloc: Global, edits: &[Edit]) -> Result<Vec<Position>, AllocError>
     ensures { IfOk result
         (λ positions. positions.items ≡ map (λ edit. edit.range.start) edits.now) }
@@ -124,7 +124,7 @@ fn starts(alloc: Global, edits: &[Edit]) -> Result<Vec<Position>, AllocError>
     edits.iter().map(|edit| edit.range.start).collect(alloc)
 }
 
-/// Returns the ends of the edits' ranges.
+/// Returns the end of each edit's range, in the order of the edits.
 fn ends(alloc: Global, edits: &[Edit]) -> Result<Vec<Position>, AllocError>
     ensures { IfOk result (λ positions. positions.items ≡ map (λ edit. edit.range.end) edits.now) }
 {

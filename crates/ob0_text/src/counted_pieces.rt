@@ -1,14 +1,15 @@
 //! Keeps the part of a line that was counted last. The next position is usually near the end of
 //! this part, so counting starts there.
 //!
-//! `Lines` keeps the counted part of the line of the last change: from the line's start to at most
-//! 64 bytes before the change. The search for the start of the next change begins there: stretches
-//! are removed from the part's end or added to it (`shorten_to`, `extend_to`). So replacing all
-//! occurrences in one long line takes time only for the text between the changes, in either order.
-//! The part contains only text before the change (`kept_if_before`). So the part is still valid
-//! after the change, whatever lines the change makes. `place_after_counted` tests whether a line
-//! still starts at the part's start. If changes alternate between two places of one long line, each
-//! change passes over the text between them.
+//! `Lines` keeps the counted part of the line of the last change: from the line's start to a place
+//! shortly before the change. The search for the start of the next change begins at the end of this
+//! part: stretches are removed there or added there (`shorten_to`, `extend_to`). So replacing all
+//! occurrences in one long line passes only over the text between the changes, whether they are
+//! made forwards or backwards. The part contains only text in front of the change
+//! (`kept_if_before`). So the change leaves the part valid, whatever lines the change makes.
+//! `place_after_counted` tests whether a line still starts at the part's start. If changes
+//! alternate between two places of one long line, each change passes over the text between these
+//! places.
 
 ghost use Rattle.std.specs.Prelude.{◌≡◌, ◌+◌, ◌-◌, ◌<◌, ◌≤◌, ◌++◌, ℕ, List, IfSome, length, take};
 ghost use Rattle.ob0_text.specs.Units.{width_of};
@@ -17,8 +18,8 @@ ghost use Rattle.ob0_text.specs.Stretches.{IsPieceOfLine, IsStretch};
 use crate::position_types::Unit;
 use crate::stretches::{STRETCH_BYTES, Stretch, next_stretch, units_of};
 
-/// Consecutive characters of a line whose units have been counted. They begin at the byte offset
-/// `start`. `counted` has their end and the number of their units.
+/// Consecutive characters of a line whose units have been counted. The characters begin at the byte
+/// offset `start`. `counted` has the byte offset of their end and the number of their units.
 #[derive(Clone, Copy, Drop)]
 pub struct CountedPiece {
     pub start: usize,
@@ -52,9 +53,9 @@ impl CountedPiece {
     }
 }
 
-/// Counts a piece of one line that begins at `start` and has at most `units` units. In a long line
-/// the piece has nearly `units` units. If the piece `last` begins at `start` as well, only the
-/// difference between the two pieces is counted.
+/// Returns a counted piece of one line that begins at the byte offset `start` and has at most
+/// `units` units. In a long line the piece has nearly `units` units. If the piece `last` also
+/// begins at `start`, only the difference between the two pieces is counted.
 pub fn count_up_to(text: &str, unit: Unit, start: usize, last: CountedPiece, units: u64) -> Stretch
     requires start { start ≤ length text.now }
     requires last { IsPieceOfLine (width_of unit) text.now last.start last.counted }
@@ -72,7 +73,8 @@ pub fn count_up_to(text: &str, unit: Unit, start: usize, last: CountedPiece, uni
     extend_to(text, unit, start, nothing, units)
 }
 
-/// Returns a shorter piece: stretches are removed from its end until it has at most `units` units.
+/// Returns the piece `from` without its last characters, so that at most `units` units are left.
+/// The characters are removed from the end in steps of at most 64 bytes.
 fn shorten_to(text: &str, unit: Unit, start: usize, from: Stretch, units: u64) -> Stretch
     requires start { start ≤ length text.now }
     requires is { IsPieceOfLine (width_of unit) text.now start from }
@@ -106,7 +108,7 @@ fn without_last_bytes(text: &str, unit: Unit, start: usize, piece: Stretch) -> O
     if !text.is_char_boundary(start) || !text.is_char_boundary(piece.end) {
         return None;
     }
-    // The proof needs that the rest also consists of whole characters.
+    // The proof needs this slice: it shows that the rest also consists of whole characters.
     let _left = &text[start..end];
     let last = units_of(&text[end..piece.end], unit)?;
     if piece.units < last {
@@ -118,7 +120,8 @@ fn without_last_bytes(text: &str, unit: Unit, start: usize, piece: Stretch) -> O
     })
 }
 
-/// Returns a longer piece: stretches after it are added as long as it has at most `units` units.
+/// Returns the piece `from` extended by the stretches after it, as long as the result has at most
+/// `units` units.
 fn extend_to(text: &str, unit: Unit, start: usize, from: Stretch, units: u64) -> Stretch
     requires few { from.units ≤ units }
     requires is { IsPieceOfLine (width_of unit) text.now start from }
@@ -135,7 +138,8 @@ fn extend_to(text: &str, unit: Unit, start: usize, from: Stretch, units: u64) ->
     counted
 }
 
-/// Returns the stretch after a piece if both together have at most `units` units, otherwise None.
+/// Returns the stretch after a piece. Returns None if both together might have more than `units`
+/// units, or if `next_stretch` returns None.
 fn stretch_after(text: &str, unit: Unit, piece: Stretch, units: u64) -> Option<Stretch>
     ensures is { IfSome result (IsStretch (width_of unit) text.now piece.end) }
     ensures fits { IfSome result (λ s. piece.units + (s.end - piece.end) ≤ units) }

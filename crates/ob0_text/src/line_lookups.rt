@@ -3,16 +3,18 @@
 //! `count_starts_before` is a binary search. Its contract covers each split of the table into
 //! offsets below a bound and offsets at or above it: the result is the length of the first part.
 //! The loop keeps this length between `low` and `high` (`in_front`, `not_in_front` in `Halving`). A
-//! pass may begin at the start of any line (`line_counted`, `line_sought` in `LinePlaces`). So the
-//! result is correct whichever line the pass begins at; the nearest line only saves time.
+//! pass may begin at the start of any line that starts at or before the offset or position that is
+//! looked up (`line_counted`, `line_sought` in `LinePlaces`). So the result is correct whichever of
+//! these lines the pass begins at. The nearest line only saves time.
 //!
-//! The offsets or positions of a list are looked up in order. A look-up continues at the previous
-//! place if the next one follows in the same line. For offsets, it also does if the next one is
-//! less than 32 bytes later. Otherwise it starts at the beginning of the line, which the table
-//! gives (`nearest_place_before`, `place_from_last`). So places in one line take time only for the
-//! text between them, and each other place takes a binary search. For one long line, all look-ups
-//! together are a single pass, as in the plain store `Whole`. If both ends of a changed range are
-//! in one line, one pass finds them (`range_offsets`).
+//! The offsets or positions of a list are looked up in the order of the list. The pass to an entry
+//! continues at the previous entry's place if this place is in the same line and not after the
+//! entry. The pass to an offset also continues if the offset is less than 32 bytes further on.
+//! Otherwise the pass begins at the start of the entry's line, which the table gives
+//! (`nearest_place_before`, `place_from_last`). So ascending entries in one long line take a single
+//! pass over that line, as in the plain store `Whole`. An offset that isn't near takes a binary
+//! search for its line. If both ends of a changed range are in one line, one pass finds both ends
+//! (`range_offsets`).
 
 ghost use Rattle.std.specs.Prelude.{◌≡◌, ◌+◌, ◌-◌, ◌<◌, ◌≤◌, IfOk, length, map, min, slice_get, slice_index};
 ghost use Rattle.std.specs.Option.{option_map};
@@ -36,7 +38,7 @@ use std::alloc::{AllocError, Global};
 /// look-up in the table.
 const NEAR_BYTES: usize = 32;
 
-/// Returns the byte offset of a position.
+/// Returns the byte offset of a position in the text whose line table is `table`.
 pub fn offset_in(text: &str, table: &LineTable, unit: Unit, position: Position) -> usize
     requires { HasLines text.now table.now }
     ensures { result ≡ offset_of (width_of unit) (chars text.now) position }
@@ -44,8 +46,8 @@ pub fn offset_in(text: &str, table: &LineTable, unit: Unit, position: Position) 
     place_of_position(text, table, unit, position).offset
 }
 
-/// The byte offsets at which a range starts and ends. `counted` is a part of the line in which the
-/// range starts, with the number of its units.
+/// The byte offsets at which a range starts and ends. `counted` is a counted piece of a line, from
+/// whose end the next search can begin.
 #[derive(Clone, Copy, Drop)]
 pub struct RangeOffsets {
     pub start: usize,
@@ -54,8 +56,8 @@ pub struct RangeOffsets {
 }
 
 /// Returns the byte offsets of a range's start and end. The search for the start begins with
-/// `last`, the part of a line that was counted last. If the range ends in the line in which it
-/// starts, the search for the end begins at the range's start.
+/// `last`, the piece of a line that was counted last. If the range's end is in the same line as its
+/// start and not before it, the search for the end begins at the range's start.
 pub fn range_offsets(
     text: &str,
     table: &LineTable,
@@ -84,7 +86,7 @@ pub fn range_offsets(
     }
 }
 
-/// Counts a piece of the position's line that ends at or shortly before the position. Counting
+/// Returns a counted piece of the position's line that ends at or before the position. Counting
 /// begins with `last`, the piece that was counted last.
 fn counted_piece_before(
     text: &str,
@@ -107,8 +109,9 @@ fn counted_piece_before(
     }
 }
 
-/// Returns the place of a position. If the counted part of its line ends at or before the position,
-/// the search begins after that part. Otherwise it begins at the start of the line.
+/// Returns the place of a position. If the piece `counted` is the beginning of the position's line
+/// and ends at or before the position, the search begins at the end of this piece. Otherwise the
+/// search begins at the start of the line.
 fn place_after_counted(
     text: &str,
     table: &LineTable,
@@ -136,8 +139,8 @@ fn place_after_counted(
     advance_to_position(text, unit, near, position)
 }
 
-/// Returns the place of a position. Its line is looked up in the table, and the characters of the
-/// line are counted.
+/// Returns the place of a position. The start of the position's line is looked up in the table, and
+/// the characters from there are counted.
 fn place_of_position(text: &str, table: &LineTable, unit: Unit, position: Position) -> PassState
     requires { HasLines text.now table.now }
     ensures place { CanSeekFrom (width_of unit) text.now position result }
@@ -147,7 +150,7 @@ fn place_of_position(text: &str, table: &LineTable, unit: Unit, position: Positi
     advance_to_position(text, unit, start, position)
 }
 
-/// Returns the position of a byte offset. The line is found by binary search.
+/// Returns the position of a byte offset. The offset's line is found by binary search.
 pub fn position_in(text: &str, table: &LineTable, unit: Unit, offset: usize) -> Position
     requires { HasLines text.now table.now }
     ensures { result ≡ position_of (width_of unit) (chars text.now) offset }
@@ -156,8 +159,8 @@ pub fn position_in(text: &str, table: &LineTable, unit: Unit, offset: usize) -> 
     position_at(advance_to_offset(text, unit, place, offset))
 }
 
-/// Returns the positions of byte offsets, in order. Each is counted from the previous place or from
-/// the start of its line.
+/// Returns the position of each byte offset, in the order of the list. Each position is counted
+/// from the previous offset's place or from the start of a line.
 pub fn positions_in(
     alloc: Global,
     text: &str,
@@ -179,9 +182,9 @@ pub fn positions_in(
     Ok(positions)
 }
 
-/// Returns the byte offsets of positions, in order. The search for a position begins at the
-/// previous place if that is in the same line and not after the position. Otherwise it begins at
-/// the start of the position's line.
+/// Returns the byte offset of each position, in the order of the list. The search for a position
+/// begins at the previous position's place if this place is in the same line and not after the
+/// position. Otherwise it begins at the start of the position's line.
 pub fn offsets_in(
     alloc: Global,
     text: &str,
@@ -204,8 +207,8 @@ pub fn offsets_in(
     Ok(offsets)
 }
 
-/// Returns the place of a position. If the previous position `last` is in the same line and not
-/// after it, the search begins at the place of `last`.
+/// Returns the place of `position`. If the previous position `last` is in the same line and not
+/// after `position`, the search begins at `place`, the place of `last`.
 fn place_from_last(
     text: &str,
     table: &LineTable,
@@ -226,9 +229,9 @@ fn place_from_last(
     }
 }
 
-/// Returns the place at which a pass to an offset begins. It is `place`, the last place of the
-/// pass, if that isn't after the offset, and is near it or in its line. Otherwise it is the start
-/// of the offset's line.
+/// Returns the place at which a pass to a byte offset begins. The result is `place`, the previous
+/// offset's place, if `place` isn't after the offset, and is near the offset or in the offset's
+/// line. Otherwise the result is the start of the offset's line.
 fn nearest_place_before(text: &str, table: &LineTable, place: PassState, offset: usize) -> PassState
     requires { HasLines text.now table.now }
     ensures place { (unit : Unit) → CanCountFrom (width_of unit) text.now place
@@ -268,8 +271,8 @@ pub fn line_in<'a>(text: &'a str, table: &LineTable, k: usize) -> Option<&'a str
     Some(&text[table.at(k)..end])
 }
 
-/// Returns the byte offset at which line `k` ends: the start of the next line, or the end of the
-/// text.
+/// Returns the byte offset at which line `k`, counted from 0, ends with its ending. The result is
+/// the start of the next line, or the text's length `len` if line `k` is the last one.
 fn line_end_offset(table: &LineTable, len: usize, k: usize) -> usize
     requires { k < length table.now.starts }
     ensures next { k + 1 < length table.now.starts → result ≡ slice_index table.now.starts (k + 1) }
@@ -279,7 +282,8 @@ fn line_end_offset(table: &LineTable, len: usize, k: usize) -> usize
     if k + 1 < count { table.at(k + 1) } else { len }
 }
 
-/// Returns the place at which a line starts. A number after the last line means the last line.
+/// Returns the place at which a line, counted from 0, starts. If there is no such line, the result
+/// is the start of the last line.
 fn line_start_place(table: &LineTable, line: u64) -> PassState
     requires { 0 < length table.now.starts }
     ensures offset { result.offset ≡ slice_index table.now.starts result.line }

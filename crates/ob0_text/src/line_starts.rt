@@ -16,9 +16,9 @@ pub fn line_starts_of(alloc: Global, text: &str) -> Result<Vec<usize>, AllocErro
     Ok(starts)
 }
 
-/// Returns the byte offsets at which a line starts after `new` replaces the bytes `from..to` of the
-/// text. The result has only offsets from the start of `new` to its end, both included. It also
-/// depends on the byte before `from` and the bytes after `to`.
+/// Returns the byte offsets at which lines start in the text in which `new` has replaced the bytes
+/// `from..to`. The result has only offsets from the start of `new` to its end, both included. These
+/// starts also depend on the byte before `from` and on the bytes behind `to`.
 pub fn line_starts_in_change(
     alloc: Global,
     text: &str,
@@ -43,8 +43,8 @@ pub fn line_starts_in_change(
     Ok(starts)
 }
 
-/// Returns the byte before an offset. At offset 0 it is an LF, because the first line starts like a
-/// line after an LF.
+/// Returns the byte before a byte offset. At offset 0 the result is an LF, because the first line
+/// starts like a line after an LF.
 fn byte_before(bytes: &[u8], offset: usize) -> u8
     requires { offset ≤ length bytes.now }
     ensures { result ≡ slice_index (LF ∷ bytes.now) offset }
@@ -56,9 +56,9 @@ fn byte_before(bytes: &[u8], offset: usize) -> u8
     }
 }
 
-/// Appends the offsets at which a line starts, from the start of `bytes` to its end, both included.
-/// `bytes` begins at the offset `from`, after the byte `before`. The bytes `following` come after
-/// `bytes`.
+/// Appends to `starts` the byte offsets at which a line starts, from the start of `bytes` to its
+/// end, both included. In the text, `bytes` begins at the offset `from`, between the byte `before`
+/// and the bytes `following`.
 fn add_line_starts(
     starts: &mut Vec<usize>,
     from: usize,
@@ -86,8 +86,8 @@ fn add_line_starts(
     Ok(())
 }
 
-/// Returns true if a line starts between the byte `last` and the byte `next`, which is None at the
-/// end of the text. No line starts between CR and LF.
+/// Returns whether a line starts between the byte `last` and the byte `next`. At the end of the
+/// text, `next` is None. No line starts between CR and LF.
 #[tactic(auto, unfolding(crate::specs::Texts::ends_line, crate::specs::Texts::starts_with_lf))]
 #[inline(always)]
 fn separates_lines(last: u8, next: Option<u8>) -> bool

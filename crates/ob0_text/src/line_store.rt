@@ -24,8 +24,9 @@ use crate::stores::TextStore;
 use std::alloc::{AllocError, Global};
 use std::marker::Model;
 
-/// A text with the table of its lines. A look-up takes time only for one line. A change in the line
-/// of the previous change takes time only for the text between the two changes.
+/// A text with the table of its lines. A look-up counts the characters of one line only. If a
+/// change is in the line of the previous change, the search for it passes only over the text
+/// between the two changes.
 #[derive(Drop)]
 pub struct Lines {
     text: String,

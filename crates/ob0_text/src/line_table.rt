@@ -1,17 +1,18 @@
 //! Keeps the table of a text's lines, in two parts.
 //!
-//! Line starts before the last change are kept as offsets. The starts after it are kept as
-//! distances from the text's end, last line first. So a change doesn't alter the distances of the
-//! starts after it (`with_the_end` in `LineTables`). A change takes time for the starts that it
-//! adds or drops, and for the starts between it and the previous change. `move_starts_to_back` and
-//! `move_starts_to_front` move these from one part to the other; their clauses say that no start
-//! changes. If changes alternate between two distant places, each change moves all starts between
-//! them.
+//! The starts up to the end of the last change are kept as byte offsets. The starts behind that
+//! place are kept as distances in bytes from the text's end, last line first. So a change doesn't
+//! alter the stored distances of the lines behind it (`with_the_end` in `LineTables`). A change
+//! takes time for the starts that it adds or removes, and for the starts between its place and the
+//! previous change's place. `move_starts_to_back` and `move_starts_to_front` move the starts
+//! between these two places from one part to the other. Their contracts say that the list of all
+//! starts is unchanged. If changes alternate between two distant places, each change moves all
+//! starts between these places.
 //!
 //! `replace_untrimmed` allocates all memory first: for the new starts, for both parts of the table,
 //! then for the text. After that no allocation can fail, as the contracts of `reserve` and
 //! `extend_from_slice` say. If an allocation fails while starts are moved, the two parts divide the
-//! table at another line, but the table is still the text's. At the end `replace` releases spare
+//! table at another line, but the table still matches the text. At the end `replace` releases spare
 //! memory (`spare_room.rt`).
 
 ghost use Rattle.std.specs.Prelude.{◌≡◌, ◌+◌, ◌<◌, ◌≤◌, ◌++◌, IfOk, OnOk, OnErr, drop, length, min, slice_index, string_bytes, take};
@@ -23,9 +24,10 @@ use crate::spare_room::{trim_list, trim_text};
 use std::alloc::{AllocError, Global};
 use std::marker::Model;
 
-/// The byte offsets at which a text's lines start, in order. Starts before the last change are kept
-/// as offsets, and starts after it as distances from the text's end, last line first. So a change
-/// moves only the starts between it and the previous change.
+/// The byte offsets at which a text's lines start, in text order. `front` has the starts up to the
+/// end of the last change, as byte offsets. `back` has the starts behind that place, last line
+/// first, as distances in bytes from the text's end. So a change moves only the starts between its
+/// place and the previous change's place. `len` is the text's length in bytes.
 #[derive(Drop)]
 pub struct LineTable {
     front: Vec<usize>,
@@ -45,7 +47,7 @@ impl Model for LineTable {
 }
 
 impl LineTable {
-    /// Returns the table of a text.
+    /// Returns the table of a text: the starts of its lines, and its length in bytes.
     pub fn of(alloc: Global, text: &str) -> Result<LineTable, AllocError>
         ensures { IfOk result (HasLines text.now) }
     {
@@ -57,7 +59,7 @@ impl LineTable {
         })
     }
 
-    /// Returns the number of lines.
+    /// Returns the number of lines in the text.
     pub fn count(&self) -> usize
         ensures { result ≡ length self.now.starts }
     {
@@ -77,7 +79,8 @@ impl LineTable {
             .saturating_sub(self.back[self.back.len() - 1 - later])
     }
 
-    /// Returns the number of lines that start before an offset, by binary search.
+    /// Returns the number of lines whose start is less than the byte offset `offset`, by binary
+    /// search.
     pub fn count_starts_before(&self, offset: usize) -> usize
         ensures bound { result ≤ length self.now.starts }
         ensures count { IsCountBefore self.now.starts offset result }
@@ -95,9 +98,9 @@ impl LineTable {
         low
     }
 
-    /// Replaces the bytes `from..to` of the text by `new`, updates this table of the text, and
-    /// releases memory that a shorter text doesn't need. If an allocation fails, the text is
-    /// unchanged.
+    /// Replaces the bytes `from..to` of the text by `new`, updates this table to match the text,
+    /// and releases memory that a shorter text doesn't need. If an allocation fails, the text is
+    /// unchanged, and the table still matches it.
     pub fn replace(
         &mut self,
         text: &mut String,
@@ -120,7 +123,7 @@ impl LineTable {
         Ok(())
     }
 
-    /// Releases memory that the table doesn't need.
+    /// Releases most of the memory that the table doesn't need. The line starts don't change.
     fn trim(&mut self)
         ensures { self.new ≡ self.old }
     {
@@ -128,8 +131,9 @@ impl LineTable {
         trim_list(&mut self.back);
     }
 
-    /// Replaces the bytes `from..to` of the text by `new`, and updates this table of the text. If
-    /// an allocation fails, the text is unchanged.
+    /// Replaces the bytes `from..to` of the text by `new`, and updates this table to match the
+    /// text. Spare memory isn't released. If an allocation fails, the text is unchanged, and the
+    /// table still matches it.
     fn replace_untrimmed(
         &mut self,
         text: &mut String,
@@ -161,8 +165,9 @@ impl LineTable {
     }
 }
 
-/// Moves starts from the front part to the back part until at most `count` are left in the front.
-/// The starts of the table don't change, even if an allocation fails.
+/// Moves starts from the end of the front part to the back part until at most `count` starts are
+/// left in the front part. The two parts together have the same starts as before, even if an
+/// allocation fails.
 fn move_starts_to_back(
     front: &mut Vec<usize>,
     back: &mut Vec<usize>,
@@ -185,8 +190,9 @@ fn move_starts_to_back(
     Ok(())
 }
 
-/// Moves starts from the back part to the front part until the front has `count` of them. The
-/// starts of the table don't change, even if an allocation fails.
+/// Moves starts from the back part to the end of the front part until the front part has at least
+/// `count` starts or the back part is empty. The two parts together have the same starts as before,
+/// even if an allocation fails.
 fn move_starts_to_front(
     front: &mut Vec<usize>,
     back: &mut Vec<usize>,

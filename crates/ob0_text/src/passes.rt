@@ -1,11 +1,13 @@
 //! Converts offsets to positions, and positions to offsets, in passes over a text.
 //!
-//! Both passes first advance by whole stretches of a line. Then the pass towards an offset advances
-//! over ASCII bytes, even across lines (`skip_ascii`), because the places of edits are close
-//! together. It decodes only CR and characters outside ASCII. The pass towards a position decodes
-//! each character: in the store `Lines` fewer than 64 characters of the line are left. Each pass
-//! preserves one invariant (`CanCountFrom`, `CanSeekFrom`). `StretchSteps` proves that a whole
-//! stretch preserves it, from the step over one character.
+//! There are two kinds of passes: to a byte offset (`advance_to_offset`) and to a position
+//! (`advance_to_position`). Each first advances by whole stretches of a line (`stretches.rt`). Then
+//! the pass to an offset advances over ASCII bytes, even across lines (`skip_ascii`), because the
+//! places of edits are close together. This pass decodes only CR and characters outside ASCII. The
+//! pass to a position decodes each remaining character: in the store `Lines` fewer than 64
+//! characters of the line are left. The pass to an offset preserves the invariant `CanCountFrom`,
+//! and the pass to a position preserves `CanSeekFrom`. `StretchSteps` proves that a step over a
+//! whole stretch preserves both, from the step over one character.
 
 ghost use Rattle.std.specs.Prelude.{◌≡◌, ◌↔◌, ◌==◌, ◌||◌, ◌+◌, ◌-◌, ◌<◌, ◌≤◌, IfOk, IfSome, IsTrue, None, map};
 ghost use Rattle.std.specs.Str.{IsCharBoundary, chars};
@@ -18,8 +20,8 @@ use crate::position_types::{Position, Unit};
 use crate::stretches::{Stretch, next_stretch};
 use std::alloc::{AllocError, Global};
 
-/// A place that a pass has reached: its byte offset, its line, and the number of units before it in
-/// that line.
+/// A place that a pass has reached: its byte offset, its line (counted from 0), and the number of
+/// units from the line's start to the place.
 #[derive(Clone, Copy)]
 pub struct PassState {
     pub offset: usize,
@@ -34,7 +36,8 @@ pub const START: PassState = PassState {
     character: 0,
 };
 
-/// Returns the positions of byte offsets, in one pass if the offsets ascend.
+/// Returns the position of each byte offset, in the order of the list. If the offsets ascend, a
+/// single pass finds all of them.
 pub fn positions_of(
     alloc: Global,
     text: &str,
@@ -56,7 +59,8 @@ pub fn positions_of(
     Ok(positions)
 }
 
-/// Returns the byte offsets of positions, in one pass if the positions ascend.
+/// Returns the byte offset of each position, in the order of the list. If the positions ascend, a
+/// single pass finds all of them.
 pub fn offsets_of(
     alloc: Global,
     text: &str,
@@ -80,14 +84,14 @@ pub fn offsets_of(
     Ok(offsets)
 }
 
-/// Returns the position of a byte offset. Its character is counted in `unit`.
+/// Returns the position of a byte offset. The position's `character` is counted in `unit`.
 pub fn position_of(text: &str, unit: Unit, offset: usize) -> Position
     ensures { result ≡ position_of (width_of unit) (chars text.now) offset }
 {
     position_at(advance_to_offset(text, unit, START, offset))
 }
 
-/// Returns the byte offset of a position. Its character is counted in `unit`.
+/// Returns the byte offset of a position. The position's `character` is counted in `unit`.
 pub fn offset_of(text: &str, unit: Unit, position: Position) -> usize
     ensures { result ≡ offset_of (width_of unit) (chars text.now) position }
 {
@@ -104,7 +108,7 @@ pub fn position_at(place: PassState) -> Position
     }
 }
 
-/// Returns true if `position` equals `from` or comes after it.
+/// Returns whether `position` equals `from` or comes after `from` in the text.
 pub fn is_at_or_after(from: Position, position: Position) -> bool
     ensures { IsTrue result ↔ IsAtOrAfter from position }
 {
@@ -112,14 +116,14 @@ pub fn is_at_or_after(from: Position, position: Position) -> bool
         || (from.line == position.line && from.character <= position.character)
 }
 
-/// Returns true for LF and CR.
+/// Returns whether the character is LF or CR.
 fn is_line_break(c: char) -> bool
     ensures { result ≡ (c == LF || c == CR) }
 {
     c == '\n' || c == '\r'
 }
 
-/// Returns true if the character `c` ends a line. `rest` is the text after it. A CR before an LF
+/// Returns whether the character `c` ends a line if the text `rest` follows `c`. A CR before an LF
 /// doesn't end the line, because the LF does.
 fn ends_line(c: char, rest: &str) -> bool
     ensures { result ≡ ends_line c (chars rest.now) }
@@ -127,7 +131,7 @@ fn ends_line(c: char, rest: &str) -> bool
     c == '\n' || (c == '\r' && !rest.starts_with('\n'))
 }
 
-/// Returns the number of units of a character.
+/// Returns the width of a character: its length in UTF-16 units or in bytes of UTF-8.
 fn width(c: char, unit: Unit) -> u64
     ensures { result ≡ width_of unit c }
 {
@@ -139,7 +143,7 @@ fn width(c: char, unit: Unit) -> u64
 
 /// Advances from the place `from` to a byte offset, and returns the place there. If the offset is
 /// inside a character, the result is the place before that character. If the offset is after the
-/// text's end, it is the end.
+/// text's end, the result is the text's end.
 pub fn advance_to_offset(text: &str, unit: Unit, from: PassState, offset: usize) -> PassState
     requires place { CanCountFrom (width_of unit) text.now from }
     requires following { from.offset ≤ offset }
@@ -156,8 +160,8 @@ pub fn advance_to_offset(text: &str, unit: Unit, from: PassState, offset: usize)
     place
 }
 
-/// Skips stretches of the line, as long as they end at or before a byte offset. Returns the place
-/// after them.
+/// Advances from the place `from` by whole stretches of its line, but not beyond the byte offset
+/// `offset`. Returns the place reached.
 fn skip_stretches_to(text: &str, unit: Unit, from: PassState, offset: usize) -> PassState
     requires place { CanCountFrom (width_of unit) text.now from }
     requires following { from.offset ≤ offset }
@@ -180,8 +184,9 @@ fn skip_stretches_to(text: &str, unit: Unit, from: PassState, offset: usize) -> 
     place
 }
 
-/// Skips ASCII characters other than CR, as long as they end at or before a byte offset. Returns
-/// the place after them. The characters are recognized by their bytes, without decoding.
+/// Advances from the place `from` over ASCII characters other than CR, but not beyond the byte
+/// offset `offset`. Returns the place reached. The characters are recognized by their bytes,
+/// without decoding.
 fn skip_ascii(text: &str, unit: Unit, from: PassState, offset: usize) -> PassState
     requires place { CanCountFrom (width_of unit) text.now from }
     requires following { from.offset ≤ offset }
@@ -217,8 +222,8 @@ fn skip_ascii(text: &str, unit: Unit, from: PassState, offset: usize) -> PassSta
     }
 }
 
-/// Returns the place after the next character. Returns None if that place is after the byte offset,
-/// or if no character follows.
+/// Returns the place after the character that begins at `place`. Returns None if the result would
+/// be beyond the byte offset `offset`, or if no character follows `place`.
 fn skip_char(text: &str, unit: Unit, place: PassState, offset: usize) -> Option<PassState>
     requires place { CanCountFrom (width_of unit) text.now place }
     requires following { place.offset ≤ offset }
@@ -288,8 +293,8 @@ pub fn advance_to_position(text: &str, unit: Unit, from: PassState, position: Po
     }
 }
 
-/// Skips stretches of the position's line, as long as they end at or before the position. Returns
-/// the place after them. A place outside that line is returned unchanged.
+/// Advances from the place `from` by whole stretches of the position's line, but not beyond the
+/// position. Returns the place reached. If `from` is in another line, the result is `from`.
 fn skip_stretches(text: &str, unit: Unit, from: PassState, position: Position) -> PassState
     requires place { CanSeekFrom (width_of unit) text.now position from }
     ensures place { CanSeekFrom (width_of unit) text.now position result }
@@ -305,8 +310,8 @@ fn skip_stretches(text: &str, unit: Unit, from: PassState, position: Position) -
     place
 }
 
-/// Returns the stretch after a place. Returns None if the place isn't in the position's line, or if
-/// the next stretch might end after the position.
+/// Returns the stretch that begins at a place. Returns None if the place isn't in the position's
+/// line, if the stretch might end after the position, or if `next_stretch` returns None.
 fn next_stretch_before(
     text: &str,
     unit: Unit,

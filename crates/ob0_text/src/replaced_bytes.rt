@@ -1,19 +1,19 @@
 //! Describes which bytes of a text a change has replaced.
 //!
-//! All changes of a notification give one range of bytes that contains every change. The text
-//! before and after this range is unchanged, byte by byte (`CoversAllChanges`, `IsChangedAt`).
-//! `ReplacesRange` of `ob0_scan` requires this. `replace_at` of a store returns the bytes of one
-//! change, and `merged_with` joins the bytes of two changes. It compares both ranges in the text
-//! that the first change leaves: the bytes after both ranges are unchanged. A change of the whole
-//! text replaces all bytes. The contract allows more bytes than necessary; a smaller range only
-//! saves time. If the text wasn't known, the result is None, since no part of it is known to be
-//! unchanged.
+//! The changes in one notification are merged into one range of bytes that contains every change.
+//! The bytes in front of this range and behind it are unchanged (`CoversAllChanges`,
+//! `IsChangedAt`). `ReplacesRange` of `ob0_scan` requires this. `replace_at` of a store returns the
+//! bytes of one change, and `merged_with` joins the bytes of two changes. `merged_with` compares
+//! the two ranges in the text between the two changes: the bytes behind both ranges are unchanged.
+//! A change of the whole text replaces all bytes. The contract allows a range with more bytes than
+//! necessary. A smaller range only saves time. If the text before the changes wasn't known, the
+//! result is None, because no part of that text is known to be unchanged.
 
 ghost use Rattle.std.specs.Prelude.{◌≡◌, ℕ, List, Option, is_some};
 ghost use Rattle.ob0_text.specs.ChangedBytes.{CoversAllChanges, IsChangedAt};
 
-/// A change of a text: at the byte offset `from`, `removed` bytes were replaced by `added` other
-/// bytes.
+/// A change of a text: at the byte offset `from`, `removed` bytes of the old text were replaced by
+/// `added` bytes of the changed text.
 #[derive(Clone, Copy, Debug, PartialEq, Eq)]
 pub struct ReplacedBytes {
     pub from: usize,
@@ -22,8 +22,8 @@ pub struct ReplacedBytes {
 }
 
 impl ReplacedBytes {
-    /// Returns one change that contains both this change and the next one. The next change was made
-    /// to the result of this one.
+    /// Returns one change that covers both this change and `next`. The change `next` was made to
+    /// the text that this change left.
     pub(crate) fn merged_with(self, next: ReplacedBytes) -> ReplacedBytes
         ensures { (first middle last : List ℕ)
             → IsChangedAt first middle self
@@ -50,8 +50,9 @@ impl ReplacedBytes {
     }
 }
 
-/// Returns one change that contains the changes so far (`hull`) and the next one. Returns None if
-/// the text before all changes wasn't known (`known` is false), or if nothing changed.
+/// Returns one change that covers the changes so far (`hull`) and the next change. Returns None if
+/// the text before all changes wasn't known (`known` is false), or if both `hull` and `next` are
+/// None.
 pub(crate) fn extend_hull(
     known: bool,
     hull: Option<ReplacedBytes>,

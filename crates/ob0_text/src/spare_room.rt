@@ -1,11 +1,10 @@
 //! Releases spare memory.
 //!
 //! A list keeps its capacity when it gets shorter. `trim_list` and `trim_text` release most of the
-//! capacity if the used part and `MAX_SPARE` together are less than a quarter of it. So an open
-//! document occupies a few times its own length, however long it was before. Room for twice the
-//! length is kept. So a list has to grow or shrink by its own length before memory is moved again.
-//! No clause bounds the capacity, because std's `shrink_to` keeps it if a smaller block can't be
-//! allocated.
+//! capacity if the used part and `MAX_SPARE` together are less than a quarter of the capacity. So
+//! an open document occupies a few times its own length, however long it was before. Room for twice
+//! the length is kept, so a list can grow by its own length before memory is moved again. No clause
+//! bounds the capacity, because std's `shrink_to` keeps it if a smaller block can't be allocated.
 
 ghost use Rattle.std.specs.Prelude.{◌≡◌, string_bytes};
 
@@ -32,7 +31,7 @@ pub(crate) fn trim_text(text: &mut String)
     }
 }
 
-/// Returns true if a quarter of a capacity is more than the used part and `MAX_SPARE` together.
+/// Returns whether a quarter of a capacity is more than the used part and `MAX_SPARE` together.
 fn is_sparse(capacity: usize, used: usize) -> bool {
     capacity / 4 > used.saturating_add(MAX_SPARE)
 }

@@ -1,8 +1,8 @@
 //! Counts stretches of a line: short runs of characters that are counted without decoding them.
 //!
 //! A stretch has at most 64 bytes of whole characters, and no character in it is LF or CR. One loop
-//! counts the bytes that are LF or CR. In UTF-16 another loop counts the first byte of each
-//! character, and counts it twice if the character has four bytes (`utf16_units_at`).
+//! counts the bytes that are LF or CR. If the unit is UTF-16, another loop counts the first byte of
+//! each character, and counts this byte twice if the character has four bytes (`utf16_units_at`).
 //! `StretchBytes` proves that this sum is the width of the characters. Both loops add to an 8-bit
 //! number and have no early exit, so the compiler vectorizes them. It doesn't vectorize a loop that
 //! sets a flag.
@@ -26,8 +26,9 @@ pub struct Stretch {
 /// The greatest number of bytes in a stretch.
 pub(crate) const STRETCH_BYTES: usize = 64;
 
-/// Returns the stretch of up to 64 bytes that begins at a byte offset. Returns None if fewer than
-/// 64 bytes follow, if `room` is less than 64, or if one of the bytes is LF or CR.
+/// Returns the stretch of up to 64 bytes that begins at the byte offset `from`. The stretch has at
+/// most `room` bytes. Returns None if fewer than 64 bytes follow, if `room` is less than 64, or if
+/// one of the bytes is LF or CR.
 pub fn next_stretch(text: &str, unit: Unit, from: usize, room: u64) -> Option<Stretch>
     requires { IsCharBoundary text.now from }
     ensures is { IfSome result (λ s. IsStretch (width_of unit) text.now from s) }
@@ -58,8 +59,8 @@ pub(crate) fn units_of(piece: &str, unit: Unit) -> Option<u64>
     }
 }
 
-/// Returns true if one of these bytes is LF or CR. The loop counts them all instead of stopping at
-/// the first, because the compiler vectorizes that.
+/// Returns whether one of these bytes is LF or CR. The loop counts all such bytes instead of
+/// stopping at the first, because the compiler vectorizes a loop without an early exit.
 fn has_line_break(bytes: &[u8]) -> bool
     requires { length bytes.now ≤ 64 }
     ensures no { result ≡ false → All IsNotLineBreak bytes.now }
@@ -73,14 +74,14 @@ fn has_line_break(bytes: &[u8]) -> bool
     0 < breaks
 }
 
-/// Returns true for LF and CR.
+/// Returns whether the byte is LF or CR.
 fn is_line_break(byte: u8) -> bool
     ensures { result ≡ (byte == LF || byte == CR) }
 {
     byte == b'\n' || byte == b'\r'
 }
 
-/// Returns the number of UTF-16 units of a piece's characters, counted from its bytes.
+/// Returns the number of UTF-16 units of a piece's characters. `bytes` are the characters in UTF-8.
 fn utf16_units(bytes: &[u8]) -> u64
     requires { length bytes.now ≤ 64 }
     ensures { result ≡ sum_by utf16_units_at bytes.now }

@@ -1,4 +1,4 @@
-//! Defines the plain store: a text as one `String`, which each look-up searches from its start.
+//! Defines the plain store: a text as one `String`. Each look-up searches the text from its start.
 
 ghost use Rattle.std.specs.Prelude.{string_bytes};
 ghost use Rattle.std.specs.Str.{chars};

@@ -1,4 +1,4 @@
--- Defines the token indexes of the identifiers of a tree, and when such indexes ascend.
+-- Defines the token indexes of a tree's identifiers, and states when such indexes ascend.
 -- Rule: none; for contracts: identifiers by their places.
 use Rattle.std.specs.Prelude.{◌≡◌, ℕ, ◌+◌, ◌≤◌, ◌<◌, List, [], ◌∷◌, ◌++◌, map, length}
 use Rattle.std.specs.List.{HoldsAt}
@@ -9,12 +9,13 @@ use Rattle.ob0_tree.specs.declared.tree.Role.{Role}
 use Rattle.ob0_tree.specs.declared.tree.Role.TheVariants as role
 use Rattle.ob0_tree.specs.Tree.{Sort, Tree, identifiers}
 
--- Holds if the numbers are strictly ascending, from `low` up to but not including `high`.
+-- States that the numbers are strictly ascending, at least `low` and less than `high`. Also states
+-- that `low` is at most `high`.
 abbrev pub AreAscending : ℕ → List ℕ → ℕ → Type 0
 AreAscending low [] high = low ≤ high
 AreAscending low (x ∷ xs) high = (low ≤ x) × AreAscending (x + 1) xs high
 
--- Returns the identifiers of a list without their roles, in the same order.
+-- Returns the names of these identifiers, without the roles, in the same order.
 abbrev pub names_without_roles : {N : Type 0} → List (Role × N) → List N
 names_without_roles xs = map (λ x. x.1) xs
 
@@ -22,7 +23,8 @@ names_without_roles xs = map (λ x. x.1) xs
 abbrev pub leaves : {N : Type 0} {s : Sort} → Tree N s → List N
 leaves t = names_without_roles (identifiers role.Declaring t)
 
--- Returns a list with only `i` if a token of this kind is an identifier, otherwise an empty list.
+-- Returns a list of the one index `i` if this is the kind of an identifier, otherwise the empty
+-- list.
 abbrev pub identifier_index : ℕ → TokenKind → List ℕ
 identifier_index i kind.Identifier = i ∷ []
 identifier_index i k = []
@@ -32,11 +34,11 @@ abbrev pub identifier_indexes_from : ℕ → List Token → List ℕ
 identifier_indexes_from i [] = []
 identifier_indexes_from i (t ∷ ts) = identifier_index i t.kind ++ identifier_indexes_from (i + 1) ts
 
--- Holds if there is a token with this index and it is an identifier.
+-- States that the list of tokens has an identifier at the index `i`, counted from 0.
 abbrev pub IsIdentifierToken : List Token → ℕ → Type 0
 IsIdentifierToken ts i = (i < length ts) × HoldsAt (λ t. t.kind ≡ kind.Identifier) ts i
 
--- Holds if there is an identifier at each of these indexes in the list of tokens.
+-- States that the list of tokens has an identifier at each of these indexes, counted from 0.
 abbrev pub AreIdentifierTokens : List Token → List ℕ → Type 0
 AreIdentifierTokens ts [] = Unit {0}
 AreIdentifierTokens ts (i ∷ others) = IsIdentifierToken ts i × AreIdentifierTokens ts others

@@ -1,5 +1,5 @@
 -- Defines a module that was parsed from a text.
--- Rule: none; for contracts: a module as it was read.
+-- Rule: none; for contracts: a module that was read from a text.
 use Rattle.std.specs.Prelude.{◌≡◌, ℕ, List, [], ◌∷◌, ◌++◌}
 use Rattle.ob0_scan.specs.TextWithTokens.{TextWithTokens}
 use Rattle.ob0_tree.specs.declared.tree.Block.{Block}
@@ -10,19 +10,19 @@ use Rattle.ob0_tree.specs.View.{block_of}
 use Rattle.ob0_tree.specs.Module.{ModuleOf}
 use Rattle.ob0_tree.specs.Places.{index_terminals, tree_with_names}
 
--- A parsed module: the tokens and comments of its text, its name, its block and its closing name.
--- Names are indexes of tokens.
+-- A parsed module: its text with the tokens and comments (`source`), its name, its block and its
+-- closing name. A name is given by the index of its token.
 pub record ParsedModule : Type 0 where
   pub source : TextWithTokens
   pub name : ℕ
   pub block : Block
   pub closing : ℕ
 
--- Returns the parsed module with these tokens and comments and this tree.
+-- Returns the parsed module with this text and this tree.
 abbrev pub parsed_module : TextWithTokens → ModuleTree → ParsedModule
 parsed_module s t = record { source = s; name = t.name; block = t.block; closing = t.closing }
 
--- Returns the module's tree, with indexes of tokens as its names.
+-- Returns the module's tree. Each identifier and integer is given by the index of its token.
 abbrev pub tree_of : ParsedModule → Tree ℕ module_text
 tree_of m = is_module m.name (block_of m.block) m.closing
 
@@ -30,8 +30,8 @@ tree_of m = is_module m.name (block_of m.block) m.closing
 abbrev pub named_tree_of : ParsedModule → Tree (List ℕ) module_text
 named_tree_of m = tree_with_names m.source (tree_of m)
 
--- Holds if the text is a module with this tree, and each identifier and integer of the tree is the
--- index of its own token.
+-- States that the text is a module with this tree, and that each identifier and integer in `tree_of
+-- m` is the index of its token.
 pub record IsParsed (m : ParsedModule) : Type 0 where
   pub module_of : ModuleOf m.source (named_tree_of m)
   pub places : spell (tree_of m) ++ (EndOfText ∷ []) ≡ index_terminals m.source.tokens

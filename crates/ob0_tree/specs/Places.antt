@@ -1,5 +1,5 @@
--- Defines trees in which each identifier and integer is the index of its token. Also defines how
--- such a tree gets the texts and values of these tokens.
+-- Defines how a tree whose leaves are token indexes spells tokens. Also defines how these indexes
+-- are replaced by the tokens' texts and values.
 -- Rule: none; for contracts: trees over indexes of tokens.
 use Rattle.std.specs.Prelude.{ℕ, ◌+◌, Option, Some, None, List, [], ◌∷◌, slice_get}
 use Rattle.ob0_scan.specs.declared.lexeme.TokenKind.{TokenKind}
@@ -9,35 +9,37 @@ use Rattle.ob0_scan.specs.TextWithTokens.{TextWithTokens, text_in_span}
 use Rattle.ob0_tree.specs.Lexeme.{Terminal, Name, Number, Mark, EndOfText}
 use Rattle.ob0_tree.specs.Tree.{Sort, Tree, mapped}
 
--- Returns a token of this kind at the index `i`, as a tree whose leaves are token indexes spells
--- it. An identifier or integer has `i` instead of its name or value.
+-- Returns the token of this kind with the index `i`, as it is spelled by a tree whose leaves are
+-- token indexes. An identifier has `i` as its name, and an integer has `i` as its number.
 abbrev pub index_terminal : ℕ → TokenKind → Terminal ℕ
 index_terminal i kind.Identifier = Name i
 index_terminal i (kind.Integer value) = Number i
 index_terminal i k = Mark k
 
--- Returns the tokens as a tree whose leaves are token indexes spells them, followed by the end of
--- the text. The first token has the index `i`.
+-- Returns the tokens as they are spelled by a tree whose leaves are token indexes, followed by the
+-- end of the text. The first token has the index `i`.
 abbrev pub index_terminals_from : ℕ → List Token → List (Terminal ℕ)
 index_terminals_from i [] = EndOfText ∷ []
 index_terminals_from i (t ∷ ts) = index_terminal i t.kind ∷ index_terminals_from (i + 1) ts
 
--- Returns the tokens of a text as a tree whose leaves are token indexes spells them, followed by
--- the end of the text. The first token has the index 0.
+-- Returns the tokens of a text as they are spelled by a tree whose leaves are token indexes,
+-- followed by the end of the text. The first token has the index 0.
 abbrev pub index_terminals : List Token → List (Terminal ℕ)
 index_terminals ts = index_terminals_from 0 ts
 
--- Returns the text of a token, or the empty text for None.
+-- Returns the part of `text` that is the token's text, or the empty text if there is no token
+-- (None).
 abbrev pub token_text_or_empty : List ℕ → Option Token → List ℕ
 token_text_or_empty text None = []
 token_text_or_empty text (Some t) = text_in_span text t.span
 
--- Returns the value of an integer, or 0 for any other kind of token.
+-- Returns the value of an integer token, given its kind, or 0 for any other kind.
 abbrev pub kind_value_or_zero : TokenKind → ℕ
 kind_value_or_zero (kind.Integer value) = value
 kind_value_or_zero _ = 0
 
--- Returns the value of a token, or 0 if it isn't an integer or is None.
+-- Returns the value of an integer token. Returns 0 for any other token, or if there is no token
+-- (None).
 abbrev pub token_value_or_zero : Option Token → ℕ
 token_value_or_zero None = 0
 token_value_or_zero (Some t) = kind_value_or_zero t.kind
@@ -46,12 +48,12 @@ token_value_or_zero (Some t) = kind_value_or_zero t.kind
 abbrev pub text_at : TextWithTokens → ℕ → List ℕ
 text_at s i = token_text_or_empty s.text (slice_get s.tokens i)
 
--- Returns the value of the token with this index, or 0 if it isn't an integer or there is no such
--- token.
+-- Returns the value of the integer token with this index. Returns 0 if the token isn't an integer
+-- or there is no such token.
 abbrev pub value_at : TextWithTokens → ℕ → ℕ
 value_at s i = token_value_or_zero (slice_get s.tokens i)
 
--- Returns the tree with the index of each identifier replaced by its spelling, and the index of
--- each integer by its value.
+-- Returns the tree with texts and values in place of token indexes. The index of each identifier is
+-- replaced by the identifier's text, and the index of each integer by the integer's value.
 abbrev pub tree_with_names : {s : Sort} → TextWithTokens → Tree ℕ s → Tree (List ℕ) s
 tree_with_names s t = mapped (text_at s) (value_at s) t

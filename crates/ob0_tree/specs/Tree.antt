@@ -1,4 +1,5 @@
--- Defines the syntax trees of the language: one family of trees with a sort for each nonterminal.
+-- Defines the syntax trees of the language: one type `Tree`, indexed by a sort for each nonterminal
+-- of the grammar.
 -- Rule: docs/LANGUAGE.md, Grammar 1, Nesting and limits 1.
 use Rattle.std.specs.Prelude.{ℕ, ◌+◌, Option, List, [], ◌∷◌, ◌++◌, max}
 use Rattle.ob0_scan.specs.declared.lexeme.TokenKind.{TokenKind}
@@ -13,7 +14,7 @@ use Rattle.ob0_tree.specs.declared.tree.Role.{Role}
 use Rattle.ob0_tree.specs.declared.tree.Role.TheVariants as role
 use Rattle.ob0_tree.specs.Lexeme.{Terminal, Name, Number, Mark, relation_token, sign_tokens, add_operator_token, multiply_operator_token}
 
--- The parts of productions that may be repeated or omitted.
+-- An item: a part of a production that may be repeated or omitted.
 pub data Item : Type 0 where
   selector : Item
   multiplier : Item
@@ -37,8 +38,8 @@ pub data Item : Type 0 where
   procedure : Item
   body : Item
 
--- The sorts of trees: one item, a list of items of one kind, an optional item, and the other
--- nonterminals of the grammar.
+-- The sort of a tree: one item, a list of items of the same kind, an optional item, or another
+-- nonterminal of the grammar.
 pub data Sort : Type 0 where
   item : Item → Sort
   items : Item → Sort
@@ -57,7 +58,8 @@ pub data Sort : Type 0 where
   block : Sort
   module_text : Sort
 
--- A syntax tree of a sort, with a value of `N` for each identifier and a number for each integer.
+-- A syntax tree of a sort, with a value of the type `N` for each identifier and a number for each
+-- integer. The number is the integer's value or the index of its token.
 pub data Tree (N : Type 0) : Sort → Type 0 where
   none : {i : Item} → Tree N (maybe i)
   one : {i : Item} → Tree N (item i) → Tree N (maybe i)
@@ -125,8 +127,8 @@ pub data Tree (N : Type 0) : Sort → Type 0 where
 abbrev pub single_token : {N : Type 0} → TokenKind → List (Terminal N)
 single_token k = Mark k ∷ []
 
--- Returns the tokens that a tree spells, in text order. There is one case for each production of
--- the grammar.
+-- Returns the tokens that a tree spells, in text order. The cases follow the productions of the
+-- grammar.
 abbrev pub spell : {N : Type 0} {s : Sort} → Tree N s → List (Terminal N)
 spell none = []
 spell (one t) = spell t
@@ -221,9 +223,9 @@ spell (is_module name b closing) =
     ∷ (spell b
     ++ (Mark (kind.ReservedWord reserved.End) ∷ Name closing ∷ single_token (kind.Symbol symbol.Dot)))
 
--- Returns the greatest number of constructs that are nested in each other. Parenthesised and
--- negated factors, indexes, IF, WHILE and REPEAT, array and record types, and procedures count:
--- their cases add 1.
+-- Returns the nesting depth of a tree: the greatest number of constructs that are nested in each
+-- other. Parenthesised and negated factors, indexes, IF, WHILE and REPEAT statements, array and
+-- record types, and procedures count: their cases add 1.
 abbrev pub nesting : {N : Type 0} {s : Sort} → Tree N s → ℕ
 nesting none = 0
 nesting (one t) = nesting t
@@ -339,9 +341,9 @@ mapped f g (begins s) = begins (mapped f g s)
 mapped f g (has_body ds b) = has_body (mapped f g ds) (mapped f g b)
 mapped f g (is_module name b closing) = is_module (f name) (mapped f g b) (f closing)
 
--- Returns the identifiers of a tree in text order, each with its role. The first argument is the
--- role of the names in a list of names. Such names declare variables or parameters, or they are the
--- fields of a record.
+-- Returns the identifiers of a tree in text order, each with its role. The first argument matters
+-- only if the tree is itself a list of names: it is the role of these names. In a larger tree, the
+-- construct around a list of names decides their role.
 abbrev pub identifiers : {N : Type 0} {s : Sort} → Role → Tree N s → List (Role × N)
 identifiers r none = []
 identifiers r (one t) = identifiers r t
@@ -403,8 +405,8 @@ identifiers r (has_body ds b) = identifiers r ds ++ identifiers r b
 identifiers r (is_module name b closing) =
     (role.ModuleName, name) ∷ (identifiers r b ++ ((role.ModuleName, closing) ∷ []))
 
--- Returns the names of a tree that are looked up, in text order: no declaring names, closing names,
--- fields or names of the module.
+-- Returns the names of a tree that refer to a declaration, in text order. The list has no declaring
+-- names, closing names, names of fields or names of the module.
 abbrev pub occurrences : {N : Type 0} {s : Sort} → Tree N s → List N
 occurrences none = []
 occurrences (one t) = occurrences t

@@ -1,5 +1,5 @@
-//! Finds the first identifier of a block's statements. The search ends there, and nothing is
-//! allocated.
+//! Finds the first identifier in a block's statements. The search stops at that identifier and
+//! allocates nothing.
 
 ghost use Rattle.std.specs.Prelude.{◌≡◌};
 ghost use Rattle.ob0_tree.specs.FirstIdentifier.{first_identifier};

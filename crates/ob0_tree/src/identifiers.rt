@@ -10,7 +10,8 @@ use crate::walk::Visitor;
 use std::alloc::{AllocError, Global};
 use std::marker::Model;
 
-/// The identifiers visited so far, in text order, each with its role and the index of its token.
+/// A visitor that collects the identifiers visited so far, in text order. Each identifier has its
+/// role and the index of its token.
 #[derive(Drop)]
 struct IdentifierCollector {
     listed: Vec<(Role, usize)>,
@@ -35,7 +36,8 @@ impl Visitor for IdentifierCollector {
 }
 
 impl IdentifierCollector {
-    /// Returns the listed identifiers, in text order.
+    /// Returns the collected identifiers in text order, each with its role and the index of its
+    /// token.
     fn into_list(self) -> Vec<(Role, usize)>
         ensures { result.items ≡ self }
     {

@@ -1,8 +1,8 @@
-//! Computes the nesting of a module's constructs.
+//! Computes the nesting depth of a module.
 //!
-//! The private functions use saturating addition, so that the recursive functions need no
-//! precondition: their clauses say `capped (nesting ..)`. `Module::nesting` removes the cap,
-//! because by its invariant a module has at most 100 levels.
+//! The private functions add with saturation, so they need no precondition that bounds the depth:
+//! their contracts promise `capped (nesting ..)`. `Module::nesting` promises the exact depth,
+//! because a module has at most 100 levels by its invariant.
 
 ghost use Rattle.std.specs.Prelude.{◌≡◌, ◌+◌};
 ghost use Rattle.ob0_tree.specs.Tree.{nesting};
@@ -16,30 +16,32 @@ use crate::tree::{
     Statement, Term, TypeDeclaration, VariableDeclaration, WrittenType,
 };
 
-/// The greatest number of nested constructs in a module.
+/// The greatest number of constructs that may be nested in each other in a module.
 pub const MAX_NESTING: u32 = 100;
 
 impl<'t> Module<'t> {
-    /// Returns the greatest number of constructs that are nested in each other. Parenthesised and
-    /// negated factors, indexes, IF, WHILE and REPEAT, array and record types, and procedures
-    /// count. The result is at most [`MAX_NESTING`].
+    /// Returns the module's nesting depth: the greatest number of constructs that are nested in
+    /// each other. The constructs that count are parenthesised and negated factors, indexes, IF,
+    /// WHILE and REPEAT statements, array and record types, and procedures. The depth is at most
+    /// [`MAX_NESTING`].
     pub fn nesting(&self) -> u32
         ensures { result ≡ nesting (tree_of self.now) }
     {
-        // The contract of this call states the module's invariant, which the proof uses.
+        // The contract of `tokens` states the module's invariant, and the proof uses this
+        // invariant.
         let _parsed = self.tokens();
         block_nesting(self.block())
     }
 }
 
-/// Returns the number of levels plus 1, at most 2^32 - 1.
+/// Returns `levels` plus 1, capped at 2^32 - 1.
 fn one_level_deeper(levels: u32) -> u32
     ensures { result ≡ capped (levels + 1) }
 {
     levels.saturating_add(1)
 }
 
-/// Returns the nesting depth of an expression, at most 2^32 - 1.
+/// Returns the nesting depth of an expression, capped at 2^32 - 1.
 #[cycle(expressions)]
 fn expression_nesting(e: &Expression) -> u32
     ensures { result ≡ capped (nesting (expression_of e.now)) }
@@ -50,7 +52,7 @@ fn expression_nesting(e: &Expression) -> u32
     }
 }
 
-/// Returns the nesting depth of an expression that isn't a single factor, at most 2^32 - 1.
+/// Returns the nesting depth of an expression that isn't a single factor, capped at 2^32 - 1.
 #[cycle(expressions)]
 fn compound_nesting(c: &CompoundExpression) -> u32
     ensures { result ≡ capped (nesting (compound_of c.now)) }
@@ -62,7 +64,7 @@ fn compound_nesting(c: &CompoundExpression) -> u32
     }
 }
 
-/// Returns the nesting depth of a simple expression, at most 2^32 - 1.
+/// Returns the nesting depth of a simple expression, capped at 2^32 - 1.
 #[cycle(expressions)]
 fn simple_nesting(s: &SimpleExpression) -> u32
     ensures { result ≡ capped (nesting (simple_of s.now)) }
@@ -74,7 +76,7 @@ fn simple_nesting(s: &SimpleExpression) -> u32
     deepest
 }
 
-/// Returns the nesting depth of a term, at most 2^32 - 1.
+/// Returns the nesting depth of a term, capped at 2^32 - 1.
 #[cycle(expressions)]
 fn term_nesting(t: &Term) -> u32
     ensures { result ≡ capped (nesting (term_of t.now)) }
@@ -86,7 +88,7 @@ fn term_nesting(t: &Term) -> u32
     deepest
 }
 
-/// Returns the nesting depth of a factor, at most 2^32 - 1.
+/// Returns the nesting depth of a factor, capped at 2^32 - 1.
 #[cycle(expressions)]
 fn factor_nesting(f: &Factor) -> u32
     ensures { result ≡ capped (nesting (factor_of f.now)) }
@@ -99,7 +101,7 @@ fn factor_nesting(f: &Factor) -> u32
     }
 }
 
-/// Returns the nesting depth of a name with its selectors, at most 2^32 - 1.
+/// Returns the nesting depth of a designator (a name with its selectors), capped at 2^32 - 1.
 #[cycle(expressions)]
 fn designator_nesting(d: &Designator) -> u32
     ensures { result ≡ capped (nesting (designator_of d.now)) }
@@ -111,7 +113,7 @@ fn designator_nesting(d: &Designator) -> u32
     deepest
 }
 
-/// Returns the nesting depth of a selector, at most 2^32 - 1.
+/// Returns the nesting depth of a selector, capped at 2^32 - 1.
 #[cycle(expressions)]
 fn selector_nesting(s: &Selector) -> u32
     ensures { result ≡ capped (nesting (selector_of s.now)) }
@@ -122,14 +124,14 @@ fn selector_nesting(s: &Selector) -> u32
     }
 }
 
-/// Returns the nesting depth of an assignment, at most 2^32 - 1.
+/// Returns the nesting depth of an assignment, capped at 2^32 - 1.
 fn assignment_nesting(a: &Assignment) -> u32
     ensures { result ≡ capped (nesting (assignment_of a.now)) }
 {
     designator_nesting(&a.target).max(expression_nesting(&a.value))
 }
 
-/// Returns the nesting depth of a call, at most 2^32 - 1.
+/// Returns the nesting depth of a call, capped at 2^32 - 1.
 fn call_nesting(c: &Call) -> u32
     ensures { result ≡ capped (nesting (call_of c.now)) }
 {
@@ -143,7 +145,7 @@ fn call_nesting(c: &Call) -> u32
     deepest
 }
 
-/// Returns the nesting depth of a sequence of statements, at most 2^32 - 1.
+/// Returns the nesting depth of a sequence of statements, capped at 2^32 - 1.
 #[cycle(statements)]
 fn sequence_nesting(statements: &Vec<Statement>) -> u32
     ensures { result ≡ capped (nesting (sequence_of_vec statements.now)) }
@@ -155,7 +157,7 @@ fn sequence_nesting(statements: &Vec<Statement>) -> u32
     deepest
 }
 
-/// Returns the nesting depth of a statement, at most 2^32 - 1.
+/// Returns the nesting depth of a statement, capped at 2^32 - 1.
 #[cycle(statements)]
 fn statement_nesting(s: &Statement) -> u32
     ensures { result ≡ capped (nesting (statement_of s.now)) }
@@ -174,7 +176,7 @@ fn statement_nesting(s: &Statement) -> u32
     }
 }
 
-/// Returns the nesting depth of an IF statement, including its own level, at most 2^32 - 1.
+/// Returns the nesting depth of an IF statement, including its own level, capped at 2^32 - 1.
 #[cycle(statements)]
 fn if_nesting(i: &If) -> u32
     ensures { result ≡ capped (nesting (if_of i.now)) }
@@ -187,7 +189,7 @@ fn if_nesting(i: &If) -> u32
     }
 }
 
-/// Returns the nesting depth of the ELSIF parts of an IF statement, at most 2^32 - 1.
+/// Returns the nesting depth of an IF statement's ELSIF parts, capped at 2^32 - 1.
 #[cycle(statements)]
 fn elsifs_nesting(parts: &Vec<Elsif>) -> u32
     ensures { result ≡ capped (nesting (elsifs_of_vec parts.now)) }
@@ -199,7 +201,7 @@ fn elsifs_nesting(parts: &Vec<Elsif>) -> u32
     deepest
 }
 
-/// Returns the nesting depth of a written type, at most 2^32 - 1.
+/// Returns the nesting depth of a written type, capped at 2^32 - 1.
 #[cycle(types)]
 fn type_nesting(t: &WrittenType) -> u32
     ensures { result ≡ capped (nesting (type_of t.now)) }
@@ -213,7 +215,7 @@ fn type_nesting(t: &WrittenType) -> u32
     }
 }
 
-/// Returns the nesting depth of a record type, including its own level, at most 2^32 - 1.
+/// Returns the nesting depth of a record type, including its own level, capped at 2^32 - 1.
 #[cycle(types)]
 fn record_nesting(r: &RecordType) -> u32
     ensures { result ≡ capped (nesting (record_type_of r.now)) }
@@ -225,7 +227,7 @@ fn record_nesting(r: &RecordType) -> u32
     one_level_deeper(deepest)
 }
 
-/// Returns the nesting depth of a group of fields, at most 2^32 - 1.
+/// Returns the nesting depth of a group of fields, capped at 2^32 - 1.
 #[cycle(types)]
 fn fields_nesting(f: &Fields) -> u32
     ensures { result ≡ capped (nesting (fields_of f.now)) }
@@ -236,14 +238,15 @@ fn fields_nesting(f: &Fields) -> u32
     }
 }
 
-/// Returns the nesting depth of a section of parameters, at most 2^32 - 1.
+/// Returns the nesting depth of a section of parameters, capped at 2^32 - 1.
 fn section_nesting(s: &ParameterSection) -> u32
     ensures { result ≡ capped (nesting (section_of s.now)) }
 {
     type_nesting(&s.written)
 }
 
-/// Returns the nesting depth of the formal parameters of a heading, at most 2^32 - 1.
+/// Returns the nesting depth of a procedure's formal parameters, capped at 2^32 - 1. The result is
+/// 0 if the procedure has none.
 fn formals_nesting(sections: &Option<Vec<ParameterSection>>) -> u32
     ensures { result ≡ capped (nesting (formals_of sections.now)) }
 {
@@ -257,7 +260,8 @@ fn formals_nesting(sections: &Option<Vec<ParameterSection>>) -> u32
     deepest
 }
 
-/// Returns the nesting depth of a CONST section, at most 2^32 - 1.
+/// Returns the nesting depth of a block's CONST section, capped at 2^32 - 1. The result is 0 if
+/// there is no such section.
 fn constants_nesting(declared: &Option<Vec<Constant>>) -> u32
     ensures { result ≡ capped (nesting (constants_of declared.now)) }
 {
@@ -271,7 +275,8 @@ fn constants_nesting(declared: &Option<Vec<Constant>>) -> u32
     deepest
 }
 
-/// Returns the nesting depth of a TYPE section, at most 2^32 - 1.
+/// Returns the nesting depth of a block's TYPE section, capped at 2^32 - 1. The result is 0 if
+/// there is no such section.
 fn types_nesting(declared: &Option<Vec<TypeDeclaration>>) -> u32
     ensures { result ≡ capped (nesting (types_of declared.now)) }
 {
@@ -285,7 +290,8 @@ fn types_nesting(declared: &Option<Vec<TypeDeclaration>>) -> u32
     deepest
 }
 
-/// Returns the nesting depth of a VAR section, at most 2^32 - 1.
+/// Returns the nesting depth of a block's VAR section, capped at 2^32 - 1. The result is 0 if there
+/// is no such section.
 fn variables_nesting(declared: &Option<Vec<VariableDeclaration>>) -> u32
     ensures { result ≡ capped (nesting (variables_of declared.now)) }
 {
@@ -299,7 +305,8 @@ fn variables_nesting(declared: &Option<Vec<VariableDeclaration>>) -> u32
     deepest
 }
 
-/// Returns the nesting depth of a block's statements, at most 2^32 - 1.
+/// Returns the nesting depth of a block's statements, capped at 2^32 - 1. The result is 0 if the
+/// block has no body.
 fn body_nesting(statements: &Option<Vec<Statement>>) -> u32
     ensures { result ≡ capped (nesting (body_of statements.now)) }
 {
@@ -309,7 +316,7 @@ fn body_nesting(statements: &Option<Vec<Statement>>) -> u32
     }
 }
 
-/// Returns the nesting depth of a block and its procedures, at most 2^32 - 1.
+/// Returns the nesting depth of a block and its procedures, capped at 2^32 - 1.
 #[cycle(blocks)]
 fn block_nesting(b: &Block) -> u32
     ensures { result ≡ capped (nesting (block_of b.now)) }
@@ -325,7 +332,7 @@ fn block_nesting(b: &Block) -> u32
     declared.max(body_nesting(&b.body))
 }
 
-/// Returns the nesting depth of a procedure, including its own level, at most 2^32 - 1.
+/// Returns the nesting depth of a procedure, including its own level, capped at 2^32 - 1.
 #[cycle(blocks)]
 fn procedure_nesting(p: &Procedure) -> u32
     ensures { result ≡ capped (nesting (procedure_of p.now)) }

@@ -1,9 +1,10 @@
 //! Visits the identifiers of a module in text order, with any `Visitor`.
 //!
-//! A visitor's ghost member `seen` gives the state after one identifier. A walk applies it to each
-//! identifier of the tree, in text order. In proofs, invariants of the recursive functions take `g`
-//! first, and `g.V.Visitor.seen` is the member. A visitor that clauses mention needs a model,
-//! because an equation of a `Vec` would also compare capacities.
+//! Each `Visitor` defines a ghost function `seen`, which returns the visitor's state after one
+//! identifier. A walk leads to the state that results from applying `seen` to each identifier of
+//! the tree, in text order. In proofs, the invariants of the recursive functions take the generic
+//! parameters `g` first, and `g.V.Visitor.seen` is the visitor's `seen`. A visitor that contracts
+//! mention needs a model: an equation of a `Vec` would also compare capacities.
 
 #![tactic(auto, using(std::proofs::lemmas::Grind::common_steps, crate::proofs::Visits::visited_append))]
 
@@ -25,11 +26,12 @@ use std::alloc::AllocError;
 /// A state that a walk changes at each identifier of a part of a module. The walk visits the
 /// identifiers in text order.
 pub trait Visitor {
-    /// Returns the state after an identifier, given its role, the index of its token and the state
-    /// before.
+    /// Returns the state after the visit of an identifier. The arguments are the identifier's role,
+    /// the index of its token and the state before the visit.
     ghost seen: { Role → ℕ → Self → Self };
 
-    /// Visits an identifier, given its role and the index of its token.
+    /// Visits an identifier, given its role and the index of its token. On success, the state
+    /// afterwards is the one that `seen` returns.
     fn see_identifier(&mut self, role: Role, token: usize) -> Result<(), AllocError>
         ensures { OnOk result (self.new ≡ seen role token self.old) };
 }
@@ -105,7 +107,7 @@ fn walk_factor<V: Visitor>(visitor: &mut V, f: &Factor) -> Result<(), AllocError
     }
 }
 
-/// Visits the identifiers of a name with its selectors.
+/// Visits the identifiers of a designator: its name and the identifiers of its selectors.
 #[cycle(expressions)]
 fn walk_designator<V: Visitor>(visitor: &mut V, d: &Designator) -> Result<(), AllocError>
     ensures { OnOk result (visitor.new ≡ state_after_visit V.seen (designator_of d.now) visitor.old) }
@@ -218,7 +220,7 @@ fn walk_elsifs<V: Visitor>(visitor: &mut V, parts: &Vec<Elsif>) -> Result<(), Al
     Ok(())
 }
 
-/// Visits names that all have this role, in text order.
+/// Visits a list of names in text order, each with the role `role`.
 fn walk_names<V: Visitor>(visitor: &mut V, role: Role, ns: &Names) -> Result<(), AllocError>
     ensures { OnOk result (visitor.new ≡ state_after_identifiers V.seen (identifiers role (names_of ns.now)) visitor.old) }
 {
@@ -280,7 +282,7 @@ fn walk_section<V: Visitor>(visitor: &mut V, s: &ParameterSection) -> Result<(),
     walk_type(visitor, &s.written)
 }
 
-/// Visits the identifiers of the formal parameters of a heading.
+/// Visits the identifiers of a procedure's formal parameters, if it has any.
 fn walk_formals<V: Visitor>(
     visitor: &mut V,
     sections: &Option<Vec<ParameterSection>>,
@@ -296,7 +298,7 @@ fn walk_formals<V: Visitor>(
     Ok(())
 }
 
-/// Visits the identifiers of a CONST section.
+/// Visits the identifiers of a CONST section, if there is one.
 fn walk_constants<V: Visitor>(
     visitor: &mut V,
     declared: &Option<Vec<Constant>>,
@@ -313,7 +315,7 @@ fn walk_constants<V: Visitor>(
     Ok(())
 }
 
-/// Visits the identifiers of a TYPE section.
+/// Visits the identifiers of a TYPE section, if there is one.
 fn walk_types<V: Visitor>(
     visitor: &mut V,
     declared: &Option<Vec<TypeDeclaration>>,
@@ -330,7 +332,7 @@ fn walk_types<V: Visitor>(
     Ok(())
 }
 
-/// Visits the identifiers of a VAR section.
+/// Visits the identifiers of a VAR section, if there is one.
 fn walk_variables<V: Visitor>(
     visitor: &mut V,
     declared: &Option<Vec<VariableDeclaration>>,
@@ -347,7 +349,7 @@ fn walk_variables<V: Visitor>(
     Ok(())
 }
 
-/// Visits the identifiers of a block's statements.
+/// Visits the identifiers of a block's statements, if the block has a body.
 pub fn walk_body<V: Visitor>(
     visitor: &mut V,
     statements: &Option<Vec<Statement>>,

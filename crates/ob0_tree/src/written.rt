@@ -1,11 +1,12 @@
-//! Returns the text of tokens.
+//! Returns the text of a token.
 
 ghost use Rattle.std.specs.Prelude.{◌≡◌};
 ghost use Rattle.ob0_tree.specs.Places.{text_at};
 
 use ob0_scan::Tokens;
 
-/// Returns the text of the token with this index, or the empty text if there is no such token.
+/// Returns the text of the token with the index `token`, or the empty text if there is no such
+/// token.
 pub fn text_at(tokens: &Tokens, token: usize) -> &str
     ensures { result.now ≡ text_at tokens.now token }
 {

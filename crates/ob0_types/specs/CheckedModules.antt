@@ -19,8 +19,8 @@ pub record CheckedModule : Type 0 where
   pub faults : List Fault
   pub known : Option Tables
 
--- Holds if the faults are the first 100 of the module, in order, and there are none exactly if the module is
--- well-typed. A table, if present, has the module's declarations. If there are no faults, the table is present.
+-- States that the faults are the module's first 100 faults, in order, and that there are none exactly if the module is
+-- well-typed. If there is a table, it has the module's declarations. If there are no faults, there is a table.
 pub record IsChecked (c : CheckedModule) : Type 0 where
   pub resolved : IsResolution c.names
   pub reported : (c.faults ≡ []) ↔ WellTyped (named_tree_of c.names.module_read)
@@ -29,8 +29,7 @@ pub record IsChecked (c : CheckedModule) : Type 0 where
   pub few : length c.faults ≤ max_faults
   pub first : AreFirstFaults c.names c.faults
 
--- holds if there is a table of declarations, or None, with which this module and these faults are a
--- checked module
+-- states that this module and these faults, together with some table of declarations or None, are a checked module
 abbrev pub AreCheckedFaults : Resolution → List Fault → Type 0
 AreCheckedFaults names faults =
     (known : Option Tables) × IsChecked (record { names = names; faults = faults; known = known })
@@ -39,30 +38,29 @@ AreCheckedFaults names faults =
 abbrev pub checked_module : Resolution → ModuleTypes → CheckedModule
 checked_module names types = record { names = names; faults = types.faults.items; known = types.known }
 
--- Holds if this is the result of checking a module's types. If the module has no fault, the fields are its fields. Each
--- body with a fault is listed among the faulty bodies.
+-- States that `types` is the result of checking a module. If the module has no fault, the lists of fields have the
+-- module's fields. Each body with a fault of types is listed among the faulty bodies.
 pub record AreTypesOf (names : Resolution) (types : ModuleTypes) : Type 0 where
   pub checked : IsChecked (checked_module names types)
   pub fields : types.faults.items ≡ [] → AreFieldListsOf names types.fields
   pub faulty : AllPass (is_among types.faulty.items) (faulty_bodies names)
 
--- Holds if the table is None or has the module's declarations. It must not be None if the module is
--- well-typed.
+-- States that the table is None or has the module's declarations, and that it isn't None if the module is well-typed.
 pub record IsKnownIfTyped (names : Resolution) (known : Option Tables) : Type 0 where
   pub holds : IfSome known (HasDeclarations (named_tree_of names.module_read))
   pub kept : WellTyped (named_tree_of names.module_read) → is_some known ≡ true
 
--- holds if these are the module's fields, or the module isn't well-typed
+-- states that these are the module's fields if the module is well-typed
 abbrev pub AreFieldsIfTyped : Resolution → FieldLists → Type 0
 AreFieldsIfTyped names fields =
     WellTyped (named_tree_of names.module_read) → AreFieldListsOf names fields
 
--- holds if the module is well-typed and its names are bound
+-- states that the module is well-typed and its names are bound
 pub record IsWellTyped (names : Resolution) : Type 0 where
   pub resolved : IsResolution names
   pub well_typed : WellTyped (named_tree_of names.module_read)
 
--- holds if the module is well-typed and these are its declarations and its fields
+-- states that the module is well-typed, and that these are its declarations and its fields
 pub record IsKnownOf (names : Resolution) (known : Tables) (fields : FieldLists) : Type 0 where
   pub well_typed : IsWellTyped names
   pub declarations : HasDeclarations (named_tree_of names.module_read) known

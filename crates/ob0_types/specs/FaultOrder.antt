@@ -12,8 +12,8 @@ use Rattle.ob0_scan.specs.declared.fault.Fault.{Fault}
 use Rattle.ob0_scope_table.specs.Resolution.{Resolution, is_declaration_fault}
 use Rattle.ob0_types_check.specs.DeclarationFaults.{reported_module}
 
--- returns the number of a code; codes are ordered by it, first lexical codes, then codes of scopes,
--- then codes of types
+-- returns the number of a fault's code; the numbers order the codes: first lexical codes, then codes of scopes, then
+-- codes of types
 abbrev pub code_number : FaultCode → ℕ
 code_number code.TooLong = 1
 code_number code.BadChar = 2
@@ -43,19 +43,19 @@ place_cmp x y = ordering_then (nat_cmp x.span.start y.span.start) (nat_cmp x.spa
 abbrev pub fault_cmp : Fault → Fault → Ordering
 fault_cmp x y = ordering_then (place_cmp x y) (nat_cmp (code_number x.code) (code_number y.code))
 
--- holds if `faults` are the first 100 of the faults `found`, sorted by `fault_cmp`
+-- states that `faults` has the first 100 of the faults `found`, after these are sorted by `fault_cmp`
 pub record AreFirstOf (found faults : List Fault) : Type 0 where
   pub all : List Fault
   pub joined : IsPermutation found all
   pub in_order : IsSorted fault_cmp all
   pub first : faults ≡ take max_faults all
 
--- Returns all faults of a module, according to LANGUAGE.md, Faults of scopes and types. These are the undeclared names
--- and faults of types, then the duplicate declarations and wrong closing names. Only the first 100 in order are
--- reported.
+-- Returns all faults of a module, according to LANGUAGE.md, Faults of scopes and types. The undeclared names and the
+-- faults of types come first, then the duplicate declarations and wrong closing names. Only the first 100 faults in the
+-- order of `fault_cmp` are reported.
 abbrev pub faults_in : Resolution → List Fault
 faults_in r = reported_module r ++ filter is_declaration_fault r.faults
 
--- holds if these are the first 100 faults of the module, in order
+-- states that these are the first 100 faults of the module, in the order of `fault_cmp`
 abbrev pub AreFirstFaults : Resolution → List Fault → Type 0
 AreFirstFaults r faults = AreFirstOf (faults_in r) faults

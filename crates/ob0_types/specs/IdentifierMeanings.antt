@@ -10,25 +10,26 @@ use Rattle.ob0_types.specs.declared.meant.ResolvedIdentifier.{ResolvedIdentifier
 use Rattle.ob0_types.specs.declared.meant.IdentifierMeaning.{IdentifierMeaning}
 use Rattle.ob0_types.specs.declared.meant.IdentifierMeaning.TheVariants.{Name, Field}
 
--- returns the identifier of a bound name with its meaning: the declaration
+-- returns the identifier of a bound name, with the declaration's ordinal as its meaning
 abbrev pub resolved_name : named.Named → ResolvedIdentifier
 resolved_name n = record { token = n.token; means = Name n.ordinal }
 
--- returns the identifier of a field with its meaning: the ordinal of the field's record
+-- returns the identifier of a field, with the ordinal of the field's record as its meaning
 abbrev pub resolved_field : FieldName → ResolvedIdentifier
 resolved_field x = record { token = x.token; means = Field x.owner }
 
--- returns the identifier of the name with its meaning if there is a name, otherwise the identifier
--- of the field with its meaning
+-- returns the name's identifier with its meaning if there is a name, otherwise the field's identifier with its meaning;
+-- None if there is neither
 abbrev pub meaning_of_name_or_field : Option named.Named → Option FieldName → Option ResolvedIdentifier
 meaning_of_name_or_field (Some n) f = Some (resolved_name n)
 meaning_of_name_or_field None f = option_map resolved_field f
 
--- returns the identifier at a byte offset with its meaning; None if there is no name and no field
+-- returns the identifier that contains a byte offset or ends there, with its meaning; None if there is no bound name
+-- and no field
 abbrev pub identifier_meaning_at : Resolution → ℕ → Option ResolvedIdentifier
 identifier_meaning_at r offset = meaning_of_name_or_field (name_on r.module_read offset) (field_at r offset)
 
--- holds if the meaning is a field
+-- states that the meaning is a field
 abbrev pub IsField : IdentifierMeaning → Type 0
 IsField (Name ordinal) = ⊥
 IsField (Field k) = ⊤

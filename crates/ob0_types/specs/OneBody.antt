@@ -22,18 +22,18 @@ pub record OneBody : Type 0 where
 abbrev pub body_view : Body → OneBody
 body_view b = record { closing = b.closing; statements = body_of b.statements.now }
 
--- Returns the body that contains a range of tokens, which starts at index `low`. If the range isn't
--- in one body, the result may be any body of the module.
+-- Returns the body that contains a range of tokens, given the index `low` of the range's first token. If the range
+-- isn't in one body, the result may be any body of the module.
 abbrev mutual
-  -- returns the body of a block with closing name `own`, or of a procedure in that block; the token
-  -- index `low` decides which
+  -- returns the body of a block with the closing name `own`, or of a procedure in that block: the one that contains the
+  -- token `low`, if one does
   pub body_in_block : ℕ → ℕ → Tree ℕ block → OneBody
   body_in_block low own (has_body (declares cs ts vs ps) statements) =
       body_among low own ps statements
 
-  -- Returns the body of the first procedure whose closing name isn't before `low`, or of a
-  -- procedure inside it. If there is none, returns the body of the surrounding block, with its
-  -- closing name `own` and these statements.
+  -- Returns the body of the first procedure whose closing name isn't before `low`, or of a procedure inside it. If
+  -- there is no such procedure, returns the body of the surrounding block, with the closing name `own` and these
+  -- statements.
   pub body_among : ℕ → ℕ → Tree ℕ (items procedure) → Tree ℕ (maybe body) → OneBody
   body_among low own end statements = record { closing = own; statements = statements }
   body_among low own (more p ps) statements =
@@ -41,12 +41,11 @@ abbrev mutual
       then body_among low own ps statements
       else body_in_procedure low p
 
-  -- returns the body of the procedure, or of a procedure inside it; the token index `low` decides
-  -- which
+  -- returns the body of the procedure, or of a procedure inside it: the one that contains the token `low`, if one does
   pub body_in_procedure : ℕ → Tree ℕ (item procedure) → OneBody
   body_in_procedure low (declares_procedure x fs b closing) = body_in_block low closing b
 
--- returns the body of the module, or of a procedure inside it; the token index `low` decides which
+-- returns the body of the module, or of a procedure inside it: the one that contains the token `low`, if one does
 abbrev pub body_in_module : ℕ → Tree ℕ module_text → OneBody
 body_in_module low (is_module x b closing) = body_in_block low closing b
 
@@ -55,9 +54,8 @@ abbrev pub with_source : TextWithTokens → ParsedModule → ParsedModule
 with_source source m =
     record { source = source; name = m.name; block = m.block; closing = m.closing }
 
--- Holds if `types` is the result of checking the module before a change. The changed tokens have
--- indexes of at least `low` and are in one body. All other tokens have the same spellings and
--- bindings as before.
+-- States that `types` is the result of checking the module before a change. The changed tokens have indexes of at least
+-- `low` and are in one body. All other tokens have the same spellings and bindings as before the change.
 pub record WereTypesBeforeChange (r : Resolution) (types : ModuleTypes) (low : ℕ) : Type 0 where
   pub high : ℕ
   pub old : TextWithTokens

@@ -1,4 +1,5 @@
--- The result of checking a module if all tokens of its text have the same spellings as before.
+-- The result of checking a module after a change that keeps the spellings of all tokens, for example of only the white
+-- space.
 -- Rule: docs/LANGUAGE.md, Types 8, Faults of scopes and types 1.
 use Rattle.std.specs.Prelude.{◌≡◌}
 use Rattle.ob0_scan.specs.TextWithTokens.{TextWithTokens}
@@ -11,16 +12,16 @@ use Rattle.ob0_scope_table.specs.declared.resolved.Bindings.{Bindings}
 use Rattle.ob0_types.specs.CheckedModules.{AreTypesOf}
 use Rattle.ob0_types.specs.declared.checked.ModuleTypes.{ModuleTypes}
 
--- holds if `moved` equals `types`, except that the faults are moved from the text `old` to the same
--- tokens of the text `new`
+-- states that `moved` equals `types`, except that the faults are moved from the text `old` to the same tokens of the
+-- text `new`
 pub record AreTypesMoved (old new : TextWithTokens) (types moved : ModuleTypes) : Type 0 where
   pub known : moved.known ≡ types.known
   pub fields : moved.fields ≡ types.fields
   pub faulty : moved.faulty ≡ types.faulty
   pub faults : moved.faults.items ≡ moved_faults old new types.faults.items
 
--- Suppose that the tokens of two texts have the same spellings and bindings. Then the result of
--- checking one text also holds for the other, with the faults moved to the same tokens.
+-- States that the result of checking a text also holds for any text whose tokens have the same spellings and bindings.
+-- Only the faults are moved to the same tokens of the other text.
 abbrev pub TypesDependOnTokens : Type 0
 TypesDependOnTokens =
     (old new : TextWithTokens) (tree : ModuleTree) (b c : Bindings) (types moved : ModuleTypes)

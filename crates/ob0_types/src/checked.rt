@@ -1,13 +1,16 @@
-//! Checks the scopes and types of a module, and returns the types, values and fields of a well-typed module.
+//! Checks the scopes and types of a module, and returns the types, values and fields of a
+//! well-typed module.
 //!
-//! `ModuleTypes` is the complete result of checking. It borrows nothing, so it can be kept next to the module's
-//! bindings. A `Checked` joins this result to the bindings. `check` makes a `Checked` that owns the result.
-//! `Checked::from_parts` makes one from a result that is kept elsewhere, without allocating.
+//! `ModuleTypes` is the complete result of checking. It borrows nothing, so it can be kept next to
+//! the module's bindings. A `Checked` joins this result to the bindings. `check` makes a `Checked`
+//! that owns the result. `Checked::from_parts` makes a `Checked` that borrows a result kept
+//! elsewhere, without allocating.
 //!
 //! Faults are sorted by (start, end, code). The lists of fields are made only for a well-typed
-//! module (`fields_from_table`). If one body changed, they are made from the lists of the previous text
-//! (`fields_after_body_change`). The invariant of `Checked` states that they are the module's fields if it has
-//! no fault. So the view of a `Checked` doesn't contain them.
+//! module (`fields_from_table`). If one body changed, the lists are made from the lists of the
+//! previous text (`fields_after_body_change`). The invariant of `Checked` states that the lists
+//! have the module's fields if the module has no fault. So the value of a `Checked` in contracts
+//! doesn't contain the lists.
 
 ghost use Rattle.ob0_scope_table.specs.Resolution.{is_declaration_fault};
 ghost use Rattle.ob0_types.specs.CheckedModules.{AreFieldsIfTyped, AreTypesOf, IsChecked, IsKnownIfTyped, checked_module};
@@ -31,14 +34,15 @@ use std::alloc::{AllocError, Global};
 use std::borrow::Cow;
 use std::marker::Model;
 
-/// The greatest number of faulty bodies with which only the changed body and the faulty bodies are
-/// checked again. If the previous text had more, all bodies are checked, because searching a longer
-/// list for each body would cost as much.
+/// The greatest number of faulty bodies in the previous text for which only these bodies and the
+/// changed body are checked again. If there are more, all bodies are checked, because searching a
+/// longer list for each body would cost as much.
 const MAX_FAULTY_BODIES: usize = 32;
 
-/// The result of checking a module. If the module is well-typed, `known` has its declarations and `fields` its fields.
-/// `faults` has the first 100 faults of its scopes and types. `faulty` has the closing names of the bodies with a fault
-/// of types, as token indexes. The result borrows nothing.
+/// The result of checking a module. If the module is well-typed, `known` has the table of its
+/// declarations, and `fields` the lists of its fields. `faults` has the first 100 faults of its
+/// scopes and types. `faulty` has the closing names of the bodies with a fault of types, as token
+/// indexes. The result borrows nothing.
 #[derive(Drop)]
 pub struct ModuleTypes {
     pub known: Option<DeclarationTable>,
@@ -47,7 +51,7 @@ pub struct ModuleTypes {
     pub faulty: Vec<usize>,
 }
 
-/// A module with the result of checking it, such as its faults.
+/// A module with the result of checking it, for example its faults.
 #[derive(Drop)]
 pub struct Checked<'t> {
     resolved: &'t Resolved<'t>,
@@ -94,15 +98,16 @@ impl<'t> Model for WellTyped<'t> {
     ghost invariant = { λ w. IsKnownOf w.checked.now.names w.known.now w.fields.now };
 }
 
-/// A type of a module, as an index (`of`) into the module's table of types (`known`).
+/// A type of a module (`of`), with the module's table of declarations (`known`), which has the
+/// parts of arrays and records.
 #[derive(Clone, Copy)]
 pub struct Shape<'t> {
     pub known: &'t DeclarationTable,
     pub of: TypeId,
 }
 
-/// Checks the types of a module. The result has the faults of its scopes and of its types. Fails only if an allocation
-/// fails.
+/// Checks the types of a module. The result has the faults of the module's scopes and types. Fails
+/// only if an allocation fails.
 pub fn check<'t>(alloc: Global, resolved: &'t Resolved<'t>) -> Result<Checked<'t>, AllocError>
     ensures names { IfOk result (λ c. c.names ≡ resolved.now) }
     ensures checked { IfOk result IsChecked }
@@ -111,23 +116,23 @@ pub fn check<'t>(alloc: Global, resolved: &'t Resolved<'t>) -> Result<Checked<'t
     Ok(Checked::new(resolved, types))
 }
 
-/// Returns the result of checking a module. The result borrows nothing, so that it can be kept next to the module's
-/// bindings.
+/// Returns the result of checking a module. The result borrows nothing, so that it can be kept next
+/// to the module's bindings.
 pub fn types_of<'t>(alloc: Global, resolved: &'t Resolved<'t>) -> Result<ModuleTypes, AllocError>
     ensures { IfOk result (AreTypesOf resolved.now) }
 {
     no_fault_in_modules();
-    // The contract of this call gives the proof the invariant of the module.
+    // The proof needs this call: its contract states the module's invariant.
     let _module = resolved.module();
     let report = report_faults(alloc, resolved)?;
     let fields = fields_from_table(alloc, resolved, &report.known)?;
     types_from_report(resolved, report, fields)
 }
 
-/// Returns the result of checking a module of which only tokens in one body have changed. No token
-/// with an index less than `low` has changed, and `before` is the result before the change. Other
-/// bodies are checked again only if they had faults, and only the fields of that body are searched
-/// for again.
+/// Returns the result of checking a module after tokens of one body changed. No token with an index
+/// less than `low` has changed. `before` is the result before the change. The other bodies are
+/// checked again only if they had faults, or if more than 32 bodies had faults. If the module was
+/// valid before, only that body is searched for fields again.
 pub fn types_after_body_change<'t>(
     alloc: Global,
     resolved: &'t Resolved<'t>,
@@ -149,9 +154,10 @@ pub fn types_after_body_change<'t>(
     types_from_report(resolved, report, fields)
 }
 
-/// Returns the result of checking a module after the statements of one body were replaced, perhaps by a different
-/// number of tokens. If the module was valid, only its declarations and that body are checked again, and only the
-/// fields of that body are searched for again.
+/// Returns the result of checking a module after the statements of one body were replaced, perhaps
+/// by a different number of tokens. If the module was valid before, only its declarations and that
+/// body are checked again, and if possible only that body is searched for fields. Otherwise the
+/// whole module is checked again.
 pub fn types_with_new_body<'t>(
     alloc: Global,
     resolved: &'t Resolved<'t>,
@@ -167,8 +173,8 @@ pub fn types_with_new_body<'t>(
     types_of(alloc, resolved)
 }
 
-/// Returns the result of checking a module after the statements of one body were replaced. The module must have been
-/// valid before.
+/// Returns the result of checking a module after the statements of one body were replaced. The
+/// module must have been valid before.
 fn types_from_new_body<'t>(
     alloc: Global,
     resolved: &'t Resolved<'t>,
@@ -186,7 +192,8 @@ fn types_from_new_body<'t>(
     types_from_report(resolved, report, fields)
 }
 
-/// Returns the result of checking a module, given its report and, if it is well-typed, its fields.
+/// Returns the result of checking a module, given the module's report. If the module is well-typed,
+/// `fields` must have its fields, otherwise it may be any list.
 fn types_from_report<'t>(
     resolved: &'t Resolved<'t>,
     report: Report,
@@ -198,7 +205,7 @@ fn types_from_report<'t>(
 {
     modules_fit();
     no_fault_in_modules();
-    // The contract of this call gives the proof the invariant of the module.
+    // The proof needs this call: its contract states the module's invariant.
     let _module = resolved.module();
     let Report {
         faults,
@@ -214,8 +221,8 @@ fn types_from_report<'t>(
     })
 }
 
-/// Returns the fields of a well-typed module. `known` is the table of its declarations. If there is no table, the
-/// module isn't well-typed and the list is empty.
+/// Returns the lists of the fields of a well-typed module. `known` is the table of the module's
+/// declarations. If there is no table, the module isn't well-typed and the lists are empty.
 fn fields_from_table<'t>(
     alloc: Global,
     resolved: &'t Resolved<'t>,
@@ -224,7 +231,7 @@ fn fields_from_table<'t>(
     requires { IsKnownIfTyped resolved.now known.now }
     ensures { IfOk result (AreFieldsIfTyped resolved.now) }
 {
-    // The contract of this call gives the proof the invariant of the module.
+    // The proof needs this call: its contract states the module's invariant.
     let _module = resolved.module();
     match known {
         None => Ok(FieldList::empty(alloc)),
@@ -235,9 +242,9 @@ fn fields_from_table<'t>(
     }
 }
 
-/// Returns the fields of a module after a change of tokens in one body only. If the module was
-/// well-typed before, only the fields of that body are searched for again. If it isn't well-typed
-/// now, the result may be any list.
+/// Returns the lists of a module's fields after tokens of only one body changed. If the module was
+/// well-typed before, only that body is searched for fields again. If the module isn't well-typed
+/// after the change, the result may be any lists.
 fn fields_after_body_change<'t>(
     alloc: Global,
     resolved: &'t Resolved<'t>,
@@ -267,8 +274,9 @@ fn fields_after_body_change<'t>(
     fields_from_table(alloc, resolved, known)
 }
 
-/// Returns the fields of a well-typed module after the statements of one body were replaced. The module must have been
-/// valid before. Its old fields are reused if possible. If the module isn't well-typed now, the result may be any list.
+/// Returns the lists of a module's fields after the statements of one body were replaced. The
+/// module must have been valid before. Its old fields are reused if possible. If the module isn't
+/// well-typed after the replacement, the result may be any lists.
 fn fields_with_new_body<'t>(
     alloc: Global,
     resolved: &'t Resolved<'t>,
@@ -299,8 +307,8 @@ fn fields_with_new_body<'t>(
     Ok(fields)
 }
 
-/// Returns the first 100 faults of scopes and types, sorted by start, end and code. `of_types` has the faults of types
-/// and the undeclared names; the other faults of scopes are added.
+/// Returns the first 100 faults of scopes and types, sorted by start, end and code. `of_types` has
+/// the faults of types and the undeclared names. The other faults of scopes are added.
 fn first_faults<'t>(
     resolved: &'t Resolved<'t>,
     of_types: Vec<Fault>,
@@ -331,7 +339,7 @@ fn add_declaration_faults(faults: &mut Vec<Fault>, scopes: &[Fault]) -> Result<(
     Ok(())
 }
 
-/// Returns true if the fault is a duplicate declaration or a wrong closing name.
+/// Returns whether the fault is a duplicate declaration or a wrong closing name.
 fn is_declaration_fault(fault: &Fault) -> bool
     ensures { result ≡ is_declaration_fault fault.now }
 {
@@ -341,7 +349,7 @@ fn is_declaration_fault(fault: &Fault) -> bool
 impl<'t> Checked<'t> {
     ghost use Rattle.ob0_types.specs.CheckedModules.{AreTypesOf, IsChecked, checked_module};
 
-    /// Joins a module to the result of checking it, and owns this result.
+    /// Joins a module to the result of checking it. The `Checked` owns this result.
     fn new(resolved: &'t Resolved<'t>, types: ModuleTypes) -> Checked<'t>
         requires { AreTypesOf resolved.now types }
         ensures { result ≡ checked_module resolved.now types }
@@ -352,7 +360,7 @@ impl<'t> Checked<'t> {
         }
     }
 
-    /// Joins a module to the result of checking it, and borrows this result.
+    /// Joins a module to the result of checking it. The `Checked` borrows this result.
     pub fn from_parts(resolved: &'t Resolved<'t>, types: &'t ModuleTypes) -> Checked<'t>
         requires { AreTypesOf resolved.now types.now }
         ensures { result ≡ checked_module resolved.now types.now }
@@ -389,7 +397,8 @@ impl<'t> Checked<'t> {
         self.types().faults.as_slice()
     }
 
-    /// Returns the module as a well-typed one. Returns None if it has a fault.
+    /// Returns the module, with its table of declarations and its fields, as a well-typed module.
+    /// Returns None if the module has a fault.
     pub fn well_typed(&self) -> Option<WellTyped<'_>>
         ensures { MatchOption result (self.now.faults ≡ [] → ⊥) (λ w. w ≡ self.now.names) }
     {
@@ -423,7 +432,7 @@ impl<'t> WellTyped<'t> {
     ghost use Rattle.ob0_language_types.specs.Typing.{type_of_declaration};
     ghost use Rattle.ob0_language_values.specs.Scalars.{scalar_value};
 
-    /// Returns the module with the result of checking it, which has no faults.
+    /// Returns the module with the result of checking it. This result has no faults.
     pub fn checked(&self) -> &'t Checked<'t>
         ensures { result.now.names ≡ self.now }
     {
@@ -438,28 +447,28 @@ impl<'t> WellTyped<'t> {
         self.checked.resolved()
     }
 
-    /// Returns the table of the module's declarations. It has the object of each declaration by its ordinal
-    /// (`DeclarationTable::object`), and the parts of types.
+    /// Returns the table of the module's declarations. It has the object of each declaration by its
+    /// ordinal (`DeclarationTable::object`), and the parts of types.
     pub fn declarations(&self) -> &'t DeclarationTable
         ensures { HasDeclarations (named_tree_of self.now.module_read) result.now }
     {
         self.known
     }
 
-    /// Returns the list of all fields in the module.
+    /// Returns the lists of all fields in the module.
     pub fn fields(&self) -> &'t FieldList
         ensures { AreFieldListsOf self.now result.now }
     {
         self.fields
     }
 
-    /// Returns the value of the constant with this ordinal. Returns None for a declaration that isn't in a CONST
-    /// section, including TRUE and FALSE.
+    /// Returns the value of the constant with this ordinal. Returns None if no CONST section
+    /// declares a constant with this ordinal, for example for TRUE and FALSE.
     pub fn constant(&self, declaration: usize) -> Option<Scalar>
         ensures { option_map scalar_value result
             ≡ value_of_constant (named_tree_of self.now.module_read) declaration }
     {
-        // The contract of this call gives the proof the invariant of the module.
+        // The proof needs this call: its contract states the module's invariant.
         let _module = self.resolved();
         let value = self.declarations().constant(declaration);
         if declaration < PREDECLARED_COUNT {
@@ -469,8 +478,9 @@ impl<'t> WellTyped<'t> {
         }
     }
 
-    /// Returns the type of the declaration with this ordinal. The declaration is a type, a variable, a parameter or a
-    /// constant. Returns None for a procedure, and for a number that isn't the ordinal of a declaration.
+    /// Returns the type of the declaration with this ordinal. The declaration is a type, a
+    /// variable, a parameter or a constant. Returns None for a procedure, and for a number that
+    /// isn't the ordinal of a declaration.
     pub fn shape(&self, declaration: usize) -> Option<Shape<'t>>
         ensures { option_map shape_of result
             ≡ type_of_declaration (declared_object (named_tree_of self.now.module_read) declaration) }
@@ -486,8 +496,8 @@ impl<'t> Shape<'t> {
     ghost use Rattle.ob0_types_table.specs.Parts.{PartsHaveSizes, is_not_faulty, is_known_type, parts_shape};
     ghost use Rattle.ob0_types.specs.DeclaredShapes.{shape_of};
 
-    /// Returns the parts of the type. The types of the parts are in the same table. The result is `Faulty` exactly if
-    /// this isn't a type of the module.
+    /// Returns the parts of the type. The types of the parts are in the same table. The result is
+    /// `Faulty` exactly if this isn't a type of the module.
     pub fn parts(&self) -> Parts<'t>
         ensures shape { parts_shape (shapes_of self.now.known.now) result ≡ shape_of self.now }
         ensures counted { PartsHaveSizes (shapes_of self.now.known.now) result }

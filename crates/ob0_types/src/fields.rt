@@ -1,4 +1,5 @@
-//! The fields of a well-typed module: finds the field at a place, its identifiers, and its declaration.
+//! Finds fields in a well-typed module: the field at a place of the text, the identifiers of a
+//! field, and its declaration.
 
 ghost use Rattle.std.specs.Prelude.{◌≡◌, IfOk, IfSome, length};
 ghost use Rattle.ob0_tree.specs.Order.{AreIdentifierTokens, AreAscending, IsIdentifierToken};
@@ -8,8 +9,8 @@ use crate::checked::WellTyped;
 use ob0_types_fields::FieldName;
 use std::alloc::{AllocError, Global};
 
-/// Returns the field identifier at a place, as a byte offset. The place may be within the identifier or at its end.
-/// Returns None if there is no field.
+/// Returns the field identifier that contains the byte offset `offset` or ends there. Returns None
+/// if there is no such identifier.
 pub fn field_at(well_typed: &WellTyped<'_>, offset: usize) -> Option<FieldName>
     ensures value { result ≡ field_at well_typed.now offset }
     ensures are_identifiers { IfSome result
@@ -19,8 +20,9 @@ pub fn field_at(well_typed: &WellTyped<'_>, offset: usize) -> Option<FieldName>
     well_typed.fields().at(names.tokens(), offset)
 }
 
-/// Returns the tokens of the field with this name in a record, in text order. These are the declaring identifier and
-/// all identifiers that select the field. `owner` is the ordinal of the record.
+/// Returns the tokens of the field with this name in a record, in text order. These are the
+/// declaring identifier and all identifiers that select the field. `owner` is the record's ordinal:
+/// the number of words ARRAY and RECORD in the text before its own word.
 pub fn field_tokens(
     alloc: Global,
     well_typed: &WellTyped<'_>,
@@ -41,8 +43,8 @@ pub fn field_tokens(
     Ok(tokens)
 }
 
-/// Returns the token that declares the field with this name in the record with ordinal `owner`. Returns None if the
-/// record has no such field.
+/// Returns the token that declares the field with this name in the record with the ordinal `owner`.
+/// Returns None if there is no such record or field.
 pub fn field_declaring_token(well_typed: &WellTyped<'_>, owner: usize, name: &str) -> Option<usize>
     ensures { result ≡ field_declaring_token well_typed.now.module_read owner name.now }
 {
@@ -52,8 +54,8 @@ pub fn field_declaring_token(well_typed: &WellTyped<'_>, owner: usize, name: &st
         .declaring_token_of(names.tokens(), owner, name)
 }
 
-/// Returns the position of the field with this name among the fields of a record, counted from 0. `owner` is the
-/// ordinal of the record. Returns None if the record has no such field.
+/// Returns the position of the field with this name among the fields of a record, counted from 0.
+/// `owner` is the record's ordinal. Returns None if there is no such record or field.
 pub fn field_index_in_record(well_typed: &WellTyped<'_>, owner: usize, name: &str) -> Option<usize>
     ensures { result ≡ field_index_in_record well_typed.now.module_read owner name.now }
 {

@@ -1,6 +1,7 @@
-//! Finds the meaning of the identifier at a place: a declaration or a field.
+//! Finds the meaning of the identifier at a place of the text: a declaration or a field.
 //!
-//! The code for hover, declarations, occurrences and renaming matches on the result of `identifier_meaning_at`.
+//! The code for hover, declarations, occurrences and renaming matches on the result of
+//! `identifier_meaning_at`.
 
 ghost use Rattle.std.specs.Prelude.{◌≡◌, IfSome};
 ghost use Rattle.ob0_tree.specs.Order.{IsIdentifierToken};
@@ -26,9 +27,9 @@ pub struct ResolvedIdentifier {
     pub means: IdentifierMeaning,
 }
 
-/// Returns the identifier at a place, as a byte offset, and its meaning. The place may be within the identifier or at
-/// its end. The closing name of a procedure means the procedure. Returns None at the module's name, and if there is no
-/// identifier.
+/// Returns the identifier that contains the byte offset `offset` or ends there, with its meaning.
+/// The closing name of a procedure means the procedure. Returns None at the module's name, and if
+/// there is no such identifier.
 pub fn identifier_meaning_at(
     well_typed: &WellTyped<'_>,
     offset: usize,

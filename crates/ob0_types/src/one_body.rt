@@ -14,17 +14,17 @@ pub(crate) struct Body<'t> {
     pub(crate) statements: &'t Option<Vec<Statement>>,
 }
 
-/// Returns the body that contains a range of tokens, which starts at index `low`. If the range
-/// isn't in one body, the result may be any body of the module.
+/// Returns the body that contains a range of tokens, given the index `low` of the range's first
+/// token. If the range isn't in one body, the result may be any body of the module.
 pub(crate) fn body_containing<'t>(read: &'t Module<'t>, low: usize) -> Body<'t>
     ensures { body_view result ≡ body_in_module low (tree_of read.now) }
 {
     body_in_block(read.block(), read.closing_name(), low)
 }
 
-/// Returns the body of this block, or of a procedure in it, that contains a range of tokens
-/// starting at index `low`. If the range isn't in one body, the result may be any of these bodies.
-/// `own` is the block's closing name.
+/// Returns the body that contains a range of tokens, given the index `low` of the range's first
+/// token. This is the body of this block or of a procedure in the block. If the range isn't in one
+/// body, the result may be any of these bodies. `own` is the block's closing name.
 #[cycle(blocks)]
 fn body_in_block<'t>(b: &'t Block, own: usize, low: usize) -> Body<'t>
     ensures { body_view result ≡ body_in_block low own (block_of b.now) }
@@ -40,8 +40,9 @@ fn body_in_block<'t>(b: &'t Block, own: usize, low: usize) -> Body<'t>
     }
 }
 
-/// Returns the body of this procedure, or of a procedure in it, that contains a range of tokens
-/// starting at index `low`. If the range isn't in one body, the result may be any of these bodies.
+/// Returns the body that contains a range of tokens, given the index `low` of the range's first
+/// token. This is the body of this procedure or of a procedure in it. If the range isn't in one
+/// body, the result may be any of these bodies.
 #[cycle(blocks)]
 fn body_in_procedure<'t>(p: &'t Procedure, low: usize) -> Body<'t>
     ensures { body_view result ≡ body_in_procedure low (procedure_of p.now) }

@@ -1,5 +1,5 @@
--- States when the checker's facts at a place agree with the names and types according to the
--- definitions.
+-- States when the checker's facts at a place agree with the definitions. These facts are the types and the meanings of
+-- names that the checker has found.
 -- Rule: none; for laws: what is known against what names and types are.
 use Rattle.std.specs.Prelude.{◌≡◌, ℕ, Bool, true, false, List, [], ◌∷◌, ◌++◌, Option, Some, None, option_map, option_and_then, is_some, slice_get}
 use Rattle.ob0_language_names.specs.Names.{Name}
@@ -18,8 +18,8 @@ use Rattle.ob0_language_values.specs.Values.{FieldShapes, Shape, Value, array_sh
 use Rattle.ob0_types_check.specs.Known.{Facts, Form, KnownFormal, Meaning, Types, a_constant, a_procedure, a_record, a_scalar, a_type, a_variable, an_array, unknown_form}
 use Rattle.ob0_types_check.specs.KnownDeclarations.{CompositeType, PartTypes, KnownField, of_elements, of_fields}
 
--- Holds if a type's form has the same parts as a shape. `shape` returns the shape of a type, or
--- None if the type is unknown. A scalar's form agrees with every shape.
+-- States that the form of a type has the same parts as a shape. The function `shape` returns the shape of a type, or
+-- None if the type is unknown. A scalar's form agrees with every shape, and the unknown form with none.
 abbrev pub FormAgrees : {T : Type 0} → (T → Option Shape) → Form T → Shape → Type 0
 FormAgrees shape a_scalar s = Unit {0}
 FormAgrees shape (an_array t) s =
@@ -31,8 +31,8 @@ FormAgrees shape (a_record fields) s =
     × ((x : Name) → option_map shape (fields x) ≡ option_map Some (shape_of_field fs x))
 FormAgrees shape unknown_form s = ⊥
 
--- Holds if types agree with their shapes: equal types have the same shape, and a type's form has the parts of its
--- shape.
+-- States that types agree with their shapes. Equal types have the same shape, and the form of a type has the parts of
+-- the type's shape.
 pub record TypesAgree {T : Type 0} (types : Types T) (shape : T → Option Shape) : Type 0 where
   pub integer : shape types.integer ≡ Some integer_shape
   pub boolean : shape types.boolean ≡ Some boolean_shape
@@ -41,7 +41,7 @@ pub record TypesAgree {T : Type 0} (types : Types T) (shape : T → Option Shape
   pub same : (s t : T) → types.same s t ≡ true → shape s ≡ shape t
   pub formed : (t : T) (s : Shape) → shape t ≡ Some s → FormAgrees shape (types.form t) s
 
--- holds if formal parameters agree with the parameters of a signature, one by one
+-- states that formal parameters agree one by one with the parameters of a signature, in mode and type
 abbrev pub FormalsAgree : {T : Type 0}
     → (T → Option Shape)
     → List (KnownFormal T)
@@ -53,9 +53,8 @@ FormalsAgree shape (f ∷ fs) [] = ⊥
 FormalsAgree shape (f ∷ fs) (g ∷ gs) =
     (g.mode ≡ mode_of f.by_place) × (shape f.of ≡ Some g.shape) × FormalsAgree shape fs gs
 
--- Holds if the meaning of a name agrees with the object that the name refers to. A type or variable
--- has the object's shape. A constant has its value, which is a scalar. A procedure has its
--- parameters.
+-- States that the meaning of a name agrees with the object to which the name refers. A type or variable has the
+-- object's shape. A constant has the object's value, which is a scalar. A procedure has the object's parameters.
 abbrev pub MeaningAgrees : {T : Type 0}
     → (T → Option Shape)
     → Meaning T
@@ -69,7 +68,7 @@ MeaningAgrees shape (a_variable t) o =
 MeaningAgrees shape (a_procedure fs) o =
     (signature : Signature) × (signature_of o ≡ Some signature) × FormalsAgree shape fs signature
 
--- returns true for a predeclared procedure
+-- returns whether an object is a predeclared procedure; false for None
 abbrev pub is_standard_procedure : Option (meant.Object Shape Signature) → Bool
 is_standard_procedure None = false
 is_standard_procedure (Some (meant.a_type s)) = false
@@ -78,7 +77,7 @@ is_standard_procedure (Some (meant.a_variable s)) = false
 is_standard_procedure (Some (meant.a_procedure signature)) = false
 is_standard_procedure (Some (meant.a_standard p)) = true
 
--- holds if the meaning of a declaration agrees with its object, or the declaration has neither
+-- states that the meaning of a declaration agrees with its object, or that both are None
 abbrev pub DeclarationAgrees : (TypeId → Option Shape)
     → Option (Meaning TypeId)
     → Option (meant.Object Shape Signature)
@@ -86,7 +85,7 @@ abbrev pub DeclarationAgrees : (TypeId → Option Shape)
 DeclarationAgrees shape None o = o ≡ None
 DeclarationAgrees shape (Some m) o = MeaningAgrees shape m o
 
--- holds if a name has a meaning and this meaning agrees with the object
+-- states that a name has a meaning, and that this meaning agrees with the object
 abbrev pub KnownMeaningAgrees : {T : Type 0}
     → (T → Option Shape)
     → Option (Meaning T)
@@ -95,9 +94,9 @@ abbrev pub KnownMeaningAgrees : {T : Type 0}
 KnownMeaningAgrees shape None o = ⊥
 KnownMeaningAgrees shape (Some m) o = MeaningAgrees shape m o
 
--- Holds if the identifier at a token agrees with its label in another tree (`label`). A looked-up
--- name must have a meaning that agrees with the label's object. A field's label must be spelled
--- like the token. Any other identifier always agrees.
+-- States that the identifier at a token agrees with its label, the name in its place in another tree. `label` returns
+-- the label of a token. A looked-up name must have a meaning that agrees with the label's object. A field's label must
+-- be spelled like the token. An identifier with any other role always agrees.
 abbrev pub TokenAgrees : {T N : Type 0}
     → Facts T
     → (T → Option Shape)
@@ -114,7 +113,7 @@ TokenAgrees facts shape label meaning role.Declaring x = Unit {0}
 TokenAgrees facts shape label meaning role.ClosingName x = Unit {0}
 TokenAgrees facts shape label meaning role.ModuleName x = Unit {0}
 
--- holds if each identifier in the list agrees with its label (`TokenAgrees`)
+-- states that each identifier in the list agrees with its label (`TokenAgrees`)
 abbrev pub TokensAgree : {T N : Type 0}
     → Facts T
     → (T → Option Shape)
@@ -126,8 +125,8 @@ TokensAgree facts shape label meaning [] = Unit {0}
 TokensAgree facts shape label meaning (x ∷ xs) =
     TokenAgrees facts shape label meaning x.0 x.1 × TokensAgree facts shape label meaning xs
 
--- holds if the types at a place agree with their shapes, and the identifiers in a part of the tree
--- agree with their labels
+-- states that the types at a place agree with their shapes, and that the identifiers in the tree `t` agree with their
+-- labels
 pub record Agrees
     {T N : Type 0} (facts : Facts T) (shape : T → Option Shape) (label : ℕ → N) (meaning : TypeMeanings N)
     {s : Sort} (t : Tree ℕ s) : Type 0 where
@@ -148,8 +147,8 @@ as_record boolean_shape = None
 as_record (array_shape k n s) = None
 as_record (record_shape k fs) = Some (record_shape k fs)
 
--- returns the shape of a type, or None if the type is unknown; the list has the shapes of the
--- arrays and records so far, by index
+-- Returns the shape of a type. The list has the shapes of the arrays and records found so far, in order. Returns None
+-- for the unknown type, and if the list has no such array or record.
 abbrev pub shape_in : List Shape → TypeId → Option Shape
 shape_in shapes type.Integer = Some integer_shape
 shape_in shapes type.Boolean = Some boolean_shape
@@ -157,7 +156,7 @@ shape_in shapes (type.Array i) = option_and_then as_array (slice_get shapes i)
 shape_in shapes (type.Record i) = option_and_then as_record (slice_get shapes i)
 shape_in shapes type.Unknown = None
 
--- holds if the fields found so far have the names and shapes of a record's fields, one by one
+-- states that the fields found so far have, one by one, the names and shapes of a record's fields
 abbrev pub FieldsAgree : (TypeId → Option Shape) → List KnownField → FieldShapes → Type 0
 FieldsAgree shape [] no_field_shape = Unit {0}
 FieldsAgree shape [] (next_field_shape x s fs) = ⊥
@@ -165,22 +164,22 @@ FieldsAgree shape (f ∷ fields) no_field_shape = ⊥
 FieldsAgree shape (f ∷ fields) (next_field_shape x s fs) =
     (f.name ≡ x) × (shape f.of ≡ Some s) × FieldsAgree shape fields fs
 
--- holds if the parts of an array or record agree with its shape; `k` is the number of words ARRAY
--- and RECORD in the text before its own
+-- States that the parts of an array or record agree with its shape. `k` is the ordinal of its word ARRAY or RECORD: the
+-- number of such words before this one in the text.
 abbrev pub PartsAgree : (TypeId → Option Shape) → ℕ → PartTypes → Shape → Type 0
 PartsAgree shape k (of_elements n t) s = (u : Shape) × (s ≡ array_shape k n u) × (shape t ≡ Some u)
 PartsAgree shape k (of_fields fields) s =
     (fs : FieldShapes) × (s ≡ record_shape k fs) × FieldsAgree shape fields fs
 
--- holds if an array or record has the parts, the number of scalars and the depth of its shape
+-- states that an array or record has the parts, the number of scalars and the depth of its shape
 pub record CompositeAgrees (shape : TypeId → Option Shape) (m : CompositeType) (s : Shape) : Type 0 where
   pub parts : PartsAgree shape m.ordinal m.parts s
   pub scalars : m.size.scalars ≡ typing.scalars s
   pub depth : m.size.depth ≡ typing.depth s
 
--- Holds if each array and record of the second list agrees with its shape in the third list, one by
--- one. The first list has the shapes of earlier arrays and records. The parts of an array or record
--- may only refer to earlier ones.
+-- States that each array and record in the second list agrees with the shape at the same index of the third list. The
+-- first list has the shapes of the arrays and records before them. The parts of an array or record may only refer to
+-- earlier arrays and records.
 abbrev pub EntriesAgree : List Shape → List CompositeType → List Shape → Type 0
 EntriesAgree known [] [] = Unit {0}
 EntriesAgree known [] (s ∷ ss) = ⊥
@@ -188,6 +187,6 @@ EntriesAgree known (m ∷ ms) [] = ⊥
 EntriesAgree known (m ∷ ms) (s ∷ ss) =
     CompositeAgrees (shape_in known) m s × EntriesAgree (known ++ s ∷ []) ms ss
 
--- holds if each array and record of a table agrees with its shape, one by one
+-- states that each array and record of a table agrees with the shape at the same index of the second list
 abbrev pub TableAgrees : List CompositeType → List Shape → Type 0
 TableAgrees made shapes = EntriesAgree [] made shapes

@@ -28,14 +28,13 @@ use Rattle.ob0_types_check.specs.DeclarationFaults.{KnownHeading}
 use Rattle.ob0_types_check.specs.KnownDeclarations.{CompositeType, Size, KnownDeclarations, KnownField, of_elements, of_fields, same_type}
 use Rattle.ob0_types_check.specs.WrittenTypeFaults.{KnownFields}
 
--- returns the type of an array's elements; unknown if there is no array
+-- returns the element type of an entry that is an array; the unknown type for any other entry and for None
 abbrev pub entry_element_type : Option TypeEntry → TypeId
 entry_element_type None = type.Unknown
 entry_element_type (Some (made.Array a)) = a.element
 entry_element_type (Some (made.Record r)) = type.Unknown
 
--- returns the type of a record's first field with this name; None if there is no record or no such
--- field
+-- returns the type of the first field with this name in a record; None if the entry is no record or has no such field
 abbrev pub entry_field_type : Option TypeEntry → Name → Option TypeId
 entry_field_type None x = None
 entry_field_type (Some (made.Array a)) x = None
@@ -49,8 +48,7 @@ form_in composites (type.Array i) = an_array (entry_element_type (slice_get comp
 form_in composites (type.Record i) = a_record (entry_field_type (slice_get composites i))
 form_in composites type.Unknown = unknown_form
 
--- returns the code's types as a representation of types (`Types`), given the code's list of arrays
--- and records
+-- returns the representation of types (`Types`) by the code's `TypeId`, given the code's list of arrays and records
 abbrev pub known_types : List TypeEntry → Types TypeId
 known_types composites =
     record {
@@ -136,19 +134,19 @@ declarations_in_state s = record {
 abbrev pub heading_in : CheckerState → List formal.FormalParameter → KnownHeading
 heading_in s formals = record { formals = map formal_of formals; following = declarations_in_state s }
 
--- caps both numbers of a size at 2^64 - 1, because the code's operations saturate
+-- caps both numbers of a size at 2^64 - 1, because the code's arithmetic stops there
 abbrev pub capped_size : Size → Size
 capped_size z = record { scalars = min z.scalars (2 ^ 64 - 1); depth = min z.depth (2 ^ 64 - 1) }
 
--- holds if `now` has the fields of `g` and their size, capped at 2^64 - 1, and `s` is the code's
--- state after these fields
+-- States that the code's `now` has the fields of `g` and their size, capped at 2^64 - 1. The code's state `s` is the
+-- state after these fields.
 pub record HasKnownFields (g : KnownFields) (s : CheckerState) (now : gathering.KnownFields) : Type 0 where
   pub fields : fields_in now.fields.items ≡ g.fields
   pub size : size_of now.size ≡ capped_size g.size
   pub following : declarations_in_state s ≡ g.following
 
--- holds if the code has found the fields of `t` (`gathered`), and `after` is `before` followed by
--- the faults of `t`
+-- States that the code has found the fields of `t` (`gathered`). The list `after` is the list `before` followed by the
+-- faults of `t`.
 pub record AddsKnownFields
     (before after : List Fault) (s : CheckerState) (gathered : gathering.KnownFields)
     (t : Reported KnownFields) : Type 0 where

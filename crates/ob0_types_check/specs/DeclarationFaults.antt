@@ -1,6 +1,5 @@
--- The faults of a module's declarations and bodies, in the order in which they are reported: text
--- order. A declaration is known to the text after it; a procedure is known from the end of its
--- heading, so also in its own block.
+-- The faults of a module's declarations and bodies, in the order in which they are reported: text order. A declaration
+-- is known to the text after it. A procedure is known to the text after its heading, which includes its own block.
 -- Rule: docs/LANGUAGE.md, Faults of scopes and types 2 to 11.
 use Rattle.std.specs.Prelude.{ℕ, Bool, true, false, List, [], ◌++◌, map}
 use Rattle.std.specs.List.{filter}
@@ -25,8 +24,8 @@ constant_declared p (declares_constant x e) = do
   v ← reported_constant (facts_at p true) e
   without_fault (define p (a_constant v) x)
 
--- returns the faults of constants, with the state after them; a constant is known to the
--- declarations after it
+-- returns the faults of constant declarations, with the state after them; a constant is known to the declarations after
+-- it
 unfoldable pub reported_constants : KnownDeclarations → Tree ℕ (items constant) → Reported KnownDeclarations
 unfolding constant_declared
 reported_constants p end = without_fault p
@@ -59,8 +58,8 @@ variables_declared p (declares_variable ns t) = do
   u ← reported_type 0 p t
   without_fault (define_all u.following (a_variable u.of) (names_in_list ns))
 
--- returns the faults of variables, with the state after them; a variable is known to the
--- declarations after it
+-- returns the faults of variable declarations, with the state after them; a variable is known to the declarations after
+-- it
 unfoldable pub reported_variables : KnownDeclarations → Tree ℕ (items variable) → Reported KnownDeclarations
 unfolding variables_declared
 reported_variables p end = without_fault p
@@ -73,8 +72,8 @@ pub record KnownHeading : Type 0 where
   pub formals : List (KnownFormal TypeId)
   pub following : KnownDeclarations
 
--- Returns a heading with parameters of one type added. They are also declared as variables of the
--- procedure. If the Bool is true, they are VAR parameters.
+-- Returns a heading to which a parameter of one type is added for each of these name tokens. The parameters are also
+-- declared as variables of the procedure. If the Bool is true, they are VAR parameters.
 abbrev pub with_parameters : KnownHeading → Bool → List ℕ → TypeWithState → KnownHeading
 with_parameters h by_place xs t =
     record {
@@ -94,7 +93,7 @@ reported_parameters h by_place ns t = do
   u ← reported_type 0 h.following t
   without_fault (with_parameters h by_place (names_in_list ns) u)
 
--- returns the faults of one section of parameters, with the heading that includes these parameters
+-- returns the faults of one section of parameters, and the heading with these parameters added
 unfoldable pub reported_section : KnownHeading
     → Tree ℕ (item further_section)
     → Reported KnownHeading
@@ -117,8 +116,7 @@ reported_sections h (more s rest) = do
 abbrev pub state_after_heading : ℕ → KnownHeading → KnownDeclarations
 state_after_heading x h = define h.following (a_procedure h.formals) x
 
--- returns the faults of a body's statements, with the state, which they don't change; a missing
--- body has no faults
+-- returns the faults of a body's statements, with the state unchanged; a missing body has no faults
 unfoldable pub reported_body : KnownDeclarations → Tree ℕ (maybe body) → Reported KnownDeclarations
 unfolding reported_sequence
 reported_body p none = without_fault p

@@ -8,15 +8,16 @@ use Rattle.ob0_tree.specs.Tree.{Tree, block, declares, declares_procedure, end, 
 use Rattle.ob0_scope_table.specs.TokenProperty.{EachTokenHas}
 use Rattle.ob0_scope_table.specs.Resolution.{Resolution, ordinal_in}
 
--- requires a proposition if a test is false, and nothing if it is true
+-- states the proposition `A` if the Bool is false, and nothing if the Bool is true
 abbrev pub Unless : Bool → Type 0 → Type 0
 Unless true A = Unit {0}
 Unless false A = A
 
--- Holds if each token has the property `P`, except in the statements of the blocks whose closing
--- names pass the test `left_out`. The number is the token of the block's own closing name.
+-- States that each token of a tree has the property `P`, except in the statements of some blocks. These are the blocks
+-- whose closing names pass the test `left_out`. In `BlockExceptBodies`, the ℕ is the token of the block's own closing
+-- name.
 abbrev mutual
-  -- holds for a block if `P` holds for each of its tokens, except in statements of blocks whose closing names pass
+  -- states that each token of a block has the property `P`, except in statements of blocks whose closing names pass
   -- `left_out`
   pub BlockExceptBodies : (ℕ → Type 0) → (ℕ → Bool) → ℕ → Tree ℕ block → Type 0
   BlockExceptBodies P left_out own (has_body (declares cs ts vs ps) statements) =
@@ -26,32 +27,32 @@ abbrev mutual
       × ProceduresExceptBodies P left_out ps
       × Unless (left_out own) (EachTokenHas P statements)
 
-  -- holds for procedures if `P` holds for each of their tokens, except in statements of blocks whose closing names pass
-  -- `left_out`
+  -- states that each token of these procedures has the property `P`, except in statements of blocks whose closing names
+  -- pass `left_out`
   pub ProceduresExceptBodies : (ℕ → Type 0) → (ℕ → Bool) → Tree ℕ (items procedure) → Type 0
   ProceduresExceptBodies P left_out end = Unit {0}
   ProceduresExceptBodies P left_out (more p rest) =
       ProcedureExceptBodies P left_out p × ProceduresExceptBodies P left_out rest
 
-  -- holds for a procedure if `P` holds for each of its tokens, except in statements of blocks whose closing names pass
+  -- states that each token of a procedure has the property `P`, except in statements of blocks whose closing names pass
   -- `left_out`
   pub ProcedureExceptBodies : (ℕ → Type 0) → (ℕ → Bool) → Tree ℕ (item procedure) → Type 0
   ProcedureExceptBodies P left_out (declares_procedure x fs b closing) =
       P x × EachTokenHas P fs × BlockExceptBodies P left_out closing b × P closing
 
--- holds for a module if `P` holds for each of its tokens, except in statements of blocks whose closing names pass
+-- states that each token of a module has the property `P`, except in statements of blocks whose closing names pass
 -- `left_out`
 abbrev pub ModuleExceptBodies : (ℕ → Type 0) → (ℕ → Bool) → Tree ℕ module_text → Type 0
 ModuleExceptBodies P left_out (is_module x b closing) = P x × BlockExceptBodies P left_out closing b × P closing
 
--- holds if a token has the same spelling and value in both modules, and is bound to the same declaration
+-- states that a token has the same spelling and value in both modules, and is bound to the same declaration in both
 pub record IsSameTokenAt (old new : Resolution) (token : ℕ) : Type 0 where
   pub written : text_at new.module_read.source token ≡ text_at old.module_read.source token
   pub value : value_at new.module_read.source token ≡ value_at old.module_read.source token
   pub bound : ordinal_in new.ordinals token ≡ ordinal_in old.ordinals token
 
--- Holds if two modules have the same tree and the same number of tokens, and their tokens are alike. Tokens may differ
--- in the statements of the blocks whose closing names pass the test.
+-- States that two modules have the same tree and the same number of tokens, and that each token is the same in both
+-- (`IsSameTokenAt`). Tokens may differ in the statements of the blocks whose closing names pass the test `left_out`.
 pub record AreEqualExceptBodies (left_out : ℕ → Bool) (old new : Resolution) : Type 0 where
   pub tree : tree_of new.module_read ≡ tree_of old.module_read
   pub count : length new.module_read.source.tokens ≡ length old.module_read.source.tokens

@@ -7,7 +7,8 @@ use Rattle.ob0_types_check.specs.Known.{Facts, Operand, Reported}
 use Rattle.ob0_types_check.specs.Operations.{number_operand, add_operands, complement_operand, element_operand, operand_in_parentheses, field_operand, multiply_operands, name_operand, relate_operands, without_fault, sign_operand, ◌>>=◌}
 
 unfoldable mutual
-  -- returns the faults of an expression, and its operand: first its sides, then the relation between them
+  -- returns the faults of an expression, and the resulting operand; the faults of both sides come before the fault of
+  -- the relation between them
   pub reported_expression : {T : Type 0} → Facts T → Tree ℕ expression → Reported (Operand T)
   reported_expression facts (compares a none) = reported_simple facts a
   reported_expression facts (compares a (one (relates r b))) = do
@@ -15,8 +16,7 @@ unfoldable mutual
     y ← reported_simple facts b
     relate_operands facts r x y
 
-  -- returns the faults of a simple expression, and its operand: first its first term, then its sign, then the other
-  -- terms
+  -- returns the faults of a simple expression, in the order first term, sign, other terms, and the resulting operand
   pub reported_simple : {T : Type 0} → Facts T → Tree ℕ simple → Reported (Operand T)
   reported_simple facts (sum s t rest) = do
     x ← reported_term facts t
@@ -35,7 +35,7 @@ unfoldable mutual
     z ← add_operands facts o x y
     reported_addends facts z rest
 
-  -- returns the faults of a term, and its operand: first its first factor, then the other factors
+  -- returns the faults of a term, factor by factor from left to right, and the resulting operand
   pub reported_term : {T : Type 0} → Facts T → Tree ℕ term → Reported (Operand T)
   reported_term facts (product f rest) = do
     x ← reported_factor facts f
@@ -53,8 +53,8 @@ unfoldable mutual
     z ← multiply_operands facts o x y
     reported_multipliers facts z rest
 
-  -- returns the faults of a factor, and its operand: a designator, an integer, an expression in parentheses or a
-  -- negation
+  -- returns the faults of a factor, which is a designator, an integer, an expression in parentheses or a negation, and
+  -- the resulting operand
   pub reported_factor : {T : Type 0} → Facts T → Tree ℕ factor → Reported (Operand T)
   reported_factor facts (designator x path) = do
     base ← name_operand facts x

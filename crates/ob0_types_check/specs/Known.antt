@@ -24,7 +24,7 @@ pub record Types (T : Type 0) : Type 0 where
   pub same : T → T → Bool
   pub form : T → Form T
 
--- a formal parameter: its type, and whether it is passed by its place (VAR) or by its value
+-- a formal parameter: its type, and whether it is passed by reference (VAR) or by value
 pub record KnownFormal (T : Type 0) : Type 0 where
   pub by_place : Bool
   pub of : T
@@ -46,9 +46,9 @@ pub record Facts (T : Type 0) : Type 0 where
   pub object_for : ℕ → Option (Meaning T)
   pub only_constants : Bool
 
--- The result of checking an expression: its type, its value, and its first and last token. The value is missing if the
--- expression isn't constant or has a fault. `is_place` is true if the expression is a name with selectors and may be a
--- variable.
+-- The result of checking an expression: its type (`of`), its value, and its first and last token. The value is None if
+-- the expression isn't constant or has a fault. `is_place` is true if the expression is a name with selectors and may
+-- be a variable.
 pub record Operand (T : Type 0) : Type 0 where
   pub of : T
   pub value : Option Value
@@ -56,7 +56,7 @@ pub record Operand (T : Type 0) : Type 0 where
   pub first : ℕ
   pub last : ℕ
 
--- a result (`known`) and the faults that are reported while it is found
+-- a result (`known`), and the faults that are reported while this result is found
 pub record Reported (A : Type 0) : Type 0 where
   pub known : A
   pub faults : List Fault

@@ -28,24 +28,23 @@ pub data PartTypes : Type 0 where
   of_elements : ℕ → TypeId → PartTypes
   of_fields : List KnownField → PartTypes
 
--- an array or record: its ordinal, which is the number of words ARRAY and RECORD in the text before
--- its own, its parts and its size
+-- An array or record: its ordinal, its parts and its size. The ordinal is the number of words ARRAY and RECORD in the
+-- text before the type's own word.
 pub record CompositeType : Type 0 where
   pub ordinal : ℕ
   pub parts : PartTypes
   pub size : Size
 
--- The state of a walk over declarations. `ordinals` has the ordinal of each identifier's
--- declaration, by token. `declared` has the meaning of each declaration, by ordinal, or None if it
--- isn't found yet. `made` has the arrays and records found so far. Types refer to them by their
--- indexes in this list.
+-- The state of a walk over declarations. `ordinals` has the ordinal of each identifier's declaration, by token.
+-- `declared` has the meaning of each declaration, by ordinal, or None if the meaning isn't found yet. `made` has the
+-- arrays and records found so far. Types refer to arrays and records by their indexes in this list.
 pub record KnownDeclarations : Type 0 where
   pub source : TextWithTokens
   pub ordinals : List (Option ℕ)
   pub declared : List (Option (Meaning TypeId))
   pub made : List CompositeType
 
--- returns true if two types are the same; an array or record equals only the one with its own index
+-- returns whether two types are the same; two arrays, or two records, are the same if they have the same index
 abbrev pub same_type : TypeId → TypeId → Bool
 same_type type.Integer type.Integer = true
 same_type type.Boolean type.Boolean = true
@@ -80,7 +79,7 @@ abbrev pub made_field_type : Option CompositeType → Name → Option TypeId
 made_field_type None x = None
 made_field_type (Some m) x = field_type_in m.parts x
 
--- returns the form of a type: a scalar, an array, a record, or unknown
+-- returns the form of a type, given the arrays and records found so far
 abbrev pub form_at : List CompositeType → TypeId → Form TypeId
 form_at made type.Integer = a_scalar
 form_at made type.Boolean = a_scalar
@@ -88,7 +87,7 @@ form_at made (type.Array i) = an_array (made_element_type (slice_get made i))
 form_at made (type.Record i) = a_record (made_field_type (slice_get made i))
 form_at made type.Unknown = unknown_form
 
--- returns the types found so far as a representation of types
+-- returns the representation of types by `TypeId`, given the arrays and records found so far
 abbrev pub types_so_far : List CompositeType → Types TypeId
 types_so_far made =
     record {
@@ -126,7 +125,7 @@ with_meaning p m (Some k) =
       made = p.made;
     }
 
--- returns the state in which the declaration at a token has this meaning
+-- returns the state in which the declaration at a token has this meaning; unchanged if the token has no ordinal
 abbrev pub define : KnownDeclarations → Meaning TypeId → ℕ → KnownDeclarations
 define p m token = with_meaning p m (ordinal_in p.ordinals token)
 
@@ -135,7 +134,7 @@ abbrev pub define_all : KnownDeclarations → Meaning TypeId → List ℕ → Kn
 define_all p m [] = p
 define_all p m (x ∷ xs) = define_all (define p m x) m xs
 
--- returns the size of INTEGER and BOOLEAN
+-- returns the size of INTEGER and BOOLEAN: one scalar and depth 0
 abbrev pub scalar_size : Size
 scalar_size = record { scalars = 1; depth = 0 }
 
@@ -156,7 +155,7 @@ size_at made (type.Array i) = composite_size (slice_get made i)
 size_at made (type.Record i) = composite_size (slice_get made i)
 size_at made type.Unknown = empty_size
 
--- returns true if a type has at most 65,536 scalars, and its arrays and records are nested at most 100 deep
+-- returns whether a type of this size has at most 65,536 scalars, and arrays and records nested at most 100 deep
 abbrev pub is_within_limits : Size → Bool
 is_within_limits z = nat_le z.scalars max_scalars && nat_le z.depth max_depth
 
@@ -170,7 +169,7 @@ abbrev pub type_at_index : PartTypes → ℕ → TypeId
 type_at_index (of_elements n t) k = type.Array k
 type_at_index (of_fields fields) k = type.Record k
 
--- Appends a new array or record, and returns its type with the new state.
+-- Appends an array or record with this ordinal, these parts and this size. Returns its type with the resulting state.
 abbrev pub made : KnownDeclarations → ℕ → PartTypes → Size → TypeWithState
 made p ordinal parts size = record {
   of = type_at_index parts (length p.made);
@@ -191,7 +190,8 @@ type_too_large p word =
       faults = fault_at_token (facts_at p false) code.TypeTooLarge word;
     }
 
--- appends a new array or record and returns its type, or reports `TypeTooLarge` at its word
+-- appends an array or record and returns its type; if its size isn't within the limits, reports `TypeTooLarge` at its
+-- word ARRAY or RECORD instead
 abbrev pub make_type : KnownDeclarations → ℕ → ℕ → PartTypes → Size → Reported TypeWithState
 make_type p word ordinal parts size =
     if is_within_limits size then without_fault (made p ordinal parts size) else type_too_large p word

@@ -1,4 +1,5 @@
--- Laws about the report of a module: if nothing is reported, the module fits and each declaration is known.
+-- Laws about the report of a module: if nothing is reported, the module is well-typed and the meaning of each
+-- declaration is known.
 -- Rule: none; laws of reported faults.
 use Rattle.std.specs.Prelude.{◌≡◌, ℕ, ◌<◌, ◌≤◌, true, false, List, [], None, length, slice_index_or}
 use Rattle.ob0_language_names.specs.Names.{Name, naming_by_label, naming_by_spelling}
@@ -16,7 +17,7 @@ use Rattle.ob0_types_check.specs.Agreement.{DeclarationAgrees, TableAgrees, is_s
 use Rattle.ob0_types_check.specs.DeclarationFaults.{reported_block, reported_module}
 use Rattle.ob0_types_check.specs.KnownDeclarations.{KnownDeclarations, state_at_start}
 
--- A module fits if no fault of types and no undeclared name is reported.
+-- States that a module is well-typed if no fault of types and no undeclared name is reported for it.
 abbrev pub ModulesFit : Type 0
 ModulesFit =
     (r : Resolution)
@@ -24,10 +25,9 @@ ModulesFit =
     → reported_module r ≡ []
     → fits_over naming_by_spelling (named_tree_of r.module_read) ≡ true
 
--- Holds if the state after a module agrees with its declarations. The arrays and records of the
--- state agree with `shapes`. The meaning at each ordinal agrees with the object of the declaration
--- with this ordinal. The ordinals below 7 are of predeclared names. No other declaration is a
--- standard procedure.
+-- States that the state after a module agrees with the module's declarations. The arrays and records of the state agree
+-- with `shapes`. The meaning at each ordinal agrees with the object of the declaration with this ordinal. The ordinals
+-- below 7 belong to the predeclared names. No other declaration is a standard procedure.
 pub record KnowsDeclarations (p : KnownDeclarations) (m : Tree Name module_text) : Type 0 where
   pub shapes : List Shape
   pub table : TableAgrees p.made shapes
@@ -37,12 +37,12 @@ pub record KnowsDeclarations (p : KnownDeclarations) (m : Tree Name module_text)
   pub predeclared : (k : ℕ) → k < predeclared_count → declared_object m k ≡ bound_object (outermost naming_by_label) k
   pub room : predeclared_count ≤ length p.declared
 
--- holds if a table has the object of each declaration of a module
+-- states that a table has the object of each declaration of a module
 abbrev pub HasDeclarations : Tree Name module_text → Tables → Type 0
 HasDeclarations m t = (k : ℕ) → declared_object_in t k ≡ declared_object m k
 
--- If no fault of types and no undeclared name is reported for a module, the state after it has the meaning of each
--- declaration.
+-- States that the state after a module has the meaning of each declaration if no fault of types and no undeclared name
+-- is reported.
 abbrev pub DeclarationsKnown : Type 0
 DeclarationsKnown =
     (r : Resolution)

@@ -35,17 +35,17 @@ infixl 20 ◌>>=◌
 abbrev pub ◌>>=◌ : {A B : Type 0} → Reported A → (A → Reported B) → Reported B
 t >>= next = with_earlier_faults t.faults (next t.known)
 
--- holds if `x` is the result of `t`, and `after` is the list `before` followed by the faults of `t`
+-- states that `x` is the result of `t`, and that the list `after` is the list `before` followed by the faults of `t`
 pub record ReportsAfter
     {A : Type 0} (before after : List Fault) (x : A) (t : Reported A) : Type 0 where
   pub known : x ≡ t.known
   pub reported : after ≡ before ++ t.faults
 
--- returns the token before this one, or 0 for the first token
+-- returns the index of the token before this one, or 0 for the first token
 abbrev pub token_before : ℕ → ℕ
 token_before token = token - 1
 
--- returns the token after this one; the end of the text is returned unchanged
+-- returns the index of the token after this one; the end of the text is returned unchanged
 abbrev pub token_after : TextWithTokens → ℕ → ℕ
 token_after source token = if nat_lt token (length source.tokens) then token + 1 else token
 
@@ -69,22 +69,20 @@ fault_at_token facts c token = fault_at_tokens facts c token token
 abbrev pub fault_at_operand : {T : Type 0} → Facts T → FaultCode → Operand T → List Fault
 fault_at_operand facts c o = fault_at_tokens facts c o.first o.last
 
--- returns true if two types are equal or one of them is unknown
+-- returns whether two types are equal or one of them is unknown
 abbrev pub fits : {T : Type 0} → Types T → T → T → Bool
 fits types s t = types.same s t || (types.same s types.unknown || types.same t types.unknown)
 
--- Requires the type `wanted` of an operand. The operand is reported if its type is known and
--- differs from a known `wanted`. The result is `wanted` if the operand has this type, otherwise the
--- unknown type.
+-- Requires the type `wanted` of an operand. A mismatch is reported if the operand's type is known and differs from a
+-- known `wanted`. The result is `wanted` if the operand has this type, otherwise the unknown type.
 abbrev pub required_type : {T : Type 0} → Facts T → T → Operand T → Reported T
 required_type facts wanted o = record {
   known = if facts.types.same o.of wanted then wanted else facts.types.unknown;
   faults = if fits facts.types o.of wanted then [] else fault_at_operand facts code.TypeMismatch o;
 }
 
--- Requires the type `wanted` of two operands. The left operand is reported if its type doesn't fit,
--- otherwise the right operand if its type doesn't fit. The result is `wanted` if both have this
--- type, otherwise the unknown type.
+-- Requires the type `wanted` of two operands. A mismatch is reported at the left operand, or at the right operand if
+-- the left operand has none. The result is `wanted` if both operands have this type, otherwise the unknown type.
 abbrev pub required_type_of_both : {T : Type 0} → Facts T → T → Operand T → Operand T → Reported T
 required_type_of_both facts wanted a b =
     if fits facts.types a.of wanted
@@ -132,13 +130,12 @@ relation_operand_type types relation.GreaterEqual left = types.integer
 abbrev pub comparison_type : {T : Type 0} → Types T → T → T
 comparison_type types t = if types.same t types.unknown then types.unknown else types.boolean
 
--- returns the operand for an operation on the operands `a` and `b`, with the type `of` and this
--- value
+-- returns the operand that results from an operation on the operands `a` and `b`, with the type `of` and this value
 abbrev pub joint_operand : {T : Type 0} → T → Option Value → Operand T → Operand T → Operand T
 joint_operand of value a b =
     record { of = of; value = value; is_place = false; first = a.first; last = b.last }
 
--- returns the operand for a sign or `~` before the operand `o`, with the type `of` and this value
+-- returns the operand that results from a sign or `~` before the operand `o`, with the type `of` and this value
 abbrev pub signed_operand : {T : Type 0} → T → Option Value → Operand T → Operand T
 signed_operand of value o =
     record { of = of; value = value; is_place = false; first = token_before o.first; last = o.last }
@@ -177,14 +174,14 @@ relate_operands facts r a b = do
   without_fault (joint_operand (comparison_type facts.types t)
       (apply_to_both (λ x y. outcome_value (relate r x y)) a.value b.value) a b)
 
--- returns the faults of a sign, which requires INTEGER, and the resulting operand
+-- returns the faults of an operand with an optional sign before it, and the resulting operand; a sign requires INTEGER
 abbrev pub sign_operand : {T : Type 0} → Facts T → Option Sign → Operand T → Reported (Operand T)
 sign_operand facts None o = without_fault o
 sign_operand facts (Some s) o = do
   t ← required_type facts facts.types.integer o
   without_fault (signed_operand t (option_and_then (λ x. outcome_value (with_sign (Some s) x)) o.value) o)
 
--- returns the faults of `~`, which requires BOOLEAN, and the resulting operand
+-- returns the faults of `~` before an operand, which must be BOOLEAN, and the resulting operand
 abbrev pub complement_operand : {T : Type 0} → Facts T → Operand T → Reported (Operand T)
 complement_operand facts o = do
   t ← required_type facts facts.types.boolean o
@@ -201,7 +198,7 @@ number_operand facts token =
       last = token;
     }
 
--- returns the operand of an expression in parentheses, given the operand between them
+-- returns the operand of an expression in parentheses, given the operand between the parentheses
 abbrev pub operand_in_parentheses : {T : Type 0} → Facts T → Operand T → Operand T
 operand_in_parentheses facts o =
     record {
@@ -212,12 +209,13 @@ operand_in_parentheses facts o =
       last = token_after facts.source o.last;
     }
 
--- Returns the operand of a name with this type at a token. The name is a variable's or has no known
--- meaning, so the operand counts as a place.
+-- Returns the operand of a name with this type at a token. The name is a variable's or has no known meaning, so
+-- `is_place` is true.
 abbrev pub typed_name_operand : {T : Type 0} → T → ℕ → Operand T
 typed_name_operand of token = record { of = of; value = None; is_place = true; first = token; last = token }
 
--- returns the type of a constant with this value: INTEGER or BOOLEAN, and unknown without a scalar value
+-- returns the type of a constant with this value: INTEGER or BOOLEAN; the unknown type if the value is None or isn't a
+-- scalar
 abbrev pub value_type : {T : Type 0} → Types T → Option Value → T
 value_type types None = types.unknown
 value_type types (Some (number n)) = types.integer
@@ -231,8 +229,8 @@ abbrev pub constant_name_operand : {T : Type 0} → Types T → Option Value →
 constant_name_operand types v token =
     record { of = value_type types v; value = v; is_place = false; first = token; last = token }
 
--- Returns the operand of a name that must refer to a value. A type or a procedure is a fault, and in a constant
--- expression also a variable. Undeclared names are reported elsewhere.
+-- Returns the operand of a name that must refer to a value, given its token and its meaning. A type or a procedure is a
+-- fault. In a constant expression, a variable is also a fault. Undeclared names are reported elsewhere.
 abbrev pub operand_by_meaning : {T : Type 0} → Facts T → ℕ → Option (Meaning T) → Reported (Operand T)
 operand_by_meaning facts token None = without_fault (typed_name_operand facts.types.unknown token)
 operand_by_meaning facts token (Some (a_constant v)) = without_fault (constant_name_operand facts.types v token)
@@ -248,11 +246,11 @@ operand_by_meaning facts token (Some (a_procedure fs)) =
     record
     { known = typed_name_operand facts.types.unknown token; faults = fault_at_token facts code.WrongKind token }
 
--- returns the operand of the name at a token that must refer to a value
+-- returns the operand of the name at a token; the name must refer to a value
 abbrev pub name_operand : {T : Type 0} → Facts T → ℕ → Reported (Operand T)
 name_operand facts token = operand_by_meaning facts token (facts.object_for token)
 
--- returns the operand for the part of a designator up to the token `last`, with the type `of` and
+-- returns the operand of a designator that extends the designator of `o` up to the token `last`, with the type `of` and
 -- no constant value
 abbrev pub part_of : {T : Type 0} → Operand T → T → ℕ → Operand T
 part_of o of last =
@@ -285,9 +283,9 @@ field_operand facts o token = do
   t ← field_type_in_form facts token (facts.types.form o.of)
   without_fault (part_of o t token)
 
--- Returns the type of an element, given the index's operand, the index's type `of`, and the form of
--- the indexed type. The result is unknown if the index isn't INTEGER. If the indexed type is known
--- and not an array, `NotArray` is reported at the `[`.
+-- Returns the type of an element, given the index's operand `i`, the index's type `of`, and the form of the indexed
+-- type. The result is the unknown type if the index isn't INTEGER. If the indexed type is known and not an array,
+-- `NotArray` is reported at the `[`.
 abbrev pub element_type_in_form : {T : Type 0} → Facts T → Operand T → T → Form T → Reported T
 element_type_in_form facts i of (an_array t) =
     without_fault (if facts.types.same of facts.types.integer then t else facts.types.unknown)

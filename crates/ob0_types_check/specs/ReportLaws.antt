@@ -1,4 +1,5 @@
--- Laws about the reports of expressions and statements: they fit if nothing is reported. N is the type of names.
+-- Laws about the reports of expressions and statements: these are well-typed if nothing is reported. `N` is the type of
+-- names.
 -- Rule: none; laws of reported faults.
 use Rattle.std.specs.Prelude.{◌≡◌, ℕ, Bool, true, false, List, [], Option, Some, is_some}
 use Rattle.ob0_tree.specs.Places.{value_at}
@@ -20,9 +21,9 @@ abbrev pub allowed_meanings : {N : Type 0} → Bool → TypeMeanings N → TypeM
 allowed_meanings true meaning = constant_meanings meaning
 allowed_meanings false meaning = meaning
 
--- Holds if an operand has the type of its expression, and its value, or None if the expression
--- isn't constant or its evaluation fails. A value must have the operand's type. If the operand is a
--- place, the expression must be a variable with its selectors.
+-- States that an operand has the type and the value of its expression. The value is None if the expression isn't
+-- constant or its evaluation fails. Otherwise the value has the operand's type. If the operand's `is_place` is true,
+-- the expression is a variable or parameter with its selectors.
 pub record OperandFits
     {T N P : Type 0} (shape : T → Option Shape) (meaning : Meanings N Shape P) (o : Operand T)
     (e : Tree N expression) : Type 0 where
@@ -33,7 +34,7 @@ pub record OperandFits
   pub scalar : (v : Value) → o.value ≡ Some v → value_type v ≡ Some of
   pub placed : o.is_place ≡ true → variable_type meaning (lone_designator e) ≡ Some of
 
--- If no fault is reported for an expression, its operand agrees with the expression.
+-- States that if no fault is reported for an expression, the operand found agrees with the expression.
 abbrev pub ExpressionsFit : Type 0 → Type 0
 ExpressionsFit N =
     (p : KnownDeclarations) (only_constants : Bool) (shapes : List Shape) (label : ℕ → N) (meaning : TypeMeanings N)
@@ -43,7 +44,7 @@ ExpressionsFit N =
     → OperandFits (shape_in shapes) (allowed_meanings only_constants meaning)
     (reported_expression (facts_at p only_constants) e).known (mapped label (value_at p.source) e)
 
--- holds if a constant's right side has a value, which is a scalar and the reported value
+-- states that a constant's right side has a value, that this value is a scalar, and that it is the reported value
 pub record ConstantFits
     {N : Type 0} (meaning : TypeMeanings N) (reported : Option Value) (e : Tree N expression)
     : Type 0 where
@@ -52,7 +53,7 @@ pub record ConstantFits
   pub given : constant_value meaning e ≡ Some value
   pub scalar : is_some (value_type value) ≡ true
 
--- If no fault is reported for a constant's right side, the reported value is the value of that expression.
+-- States that the value found for a constant is the value of the constant's right side if no fault is reported there.
 abbrev pub ConstantsFit : Type 0 → Type 0
 ConstantsFit N =
     (p : KnownDeclarations) (shapes : List Shape) (label : ℕ → N) (meaning : TypeMeanings N) (e : Tree ℕ expression)
@@ -61,8 +62,7 @@ ConstantsFit N =
     → ConstantFits meaning (reported_constant (facts_at p true) e).known
     (mapped label (value_at p.source) e)
 
--- holds if the reported length of an array is the value of the length's expression, and is a valid
--- length
+-- states that the reported length of an array is the value of the length's expression, and is a valid length
 pub record LengthFits
     {N : Type 0} (meaning : TypeMeanings N) (reported : Option ℕ) (e : Tree N expression) : Type 0 where
   pub value : Value
@@ -71,8 +71,8 @@ pub record LengthFits
   pub given : constant_value meaning e ≡ Some value
   pub counted : array_length value ≡ Some length
 
--- If no fault is reported for an array's length, the reported length is the value of the length's
--- expression.
+-- States that the length found for an array is the value of the length's expression if no fault is reported for the
+-- length.
 abbrev pub ReportedLengthsAgree : Type 0 → Type 0
 ReportedLengthsAgree N =
     (p : KnownDeclarations) (shapes : List Shape) (label : ℕ → N) (meaning : TypeMeanings N) (e : Tree ℕ expression)
@@ -82,7 +82,7 @@ ReportedLengthsAgree N =
     (reported_expression (facts_at p true) e >>= length_of (facts_at p false)).known
     (mapped label (value_at p.source) e)
 
--- Statements are well-typed if no fault is reported for them.
+-- States that statements are well-typed if no fault is reported for them.
 abbrev pub StatementsFit : Type 0 → Type 0
 StatementsFit N =
     (p : KnownDeclarations) (shapes : List Shape) (label : ℕ → N) (meaning : TypeMeanings N)
@@ -91,7 +91,7 @@ StatementsFit N =
     → reported_sequence (facts_at p false) statements ≡ []
     → sequence_fits meaning (mapped label (value_at p.source) statements) ≡ true
 
--- If each array and record agrees with its shape, every type agrees with its shape.
+-- States that every type agrees with its shape if each array and record found does.
 abbrev pub TableTypesAgree : Type 0
 TableTypesAgree =
     (made : List CompositeType) (shapes : List Shape)

@@ -47,8 +47,8 @@ report_body_if true own w statements =
 unfoldable mutual
   unfolding reported_constants reported_types reported_variables reported_sections reported_body
 
-  -- Returns the faults of a block's declarations, and of its statements if its closing name `own`
-  -- passes the test `wanted`. Procedures inside the block are tested one by one.
+  -- Returns the faults of a block's declarations, and of its statements if the block's closing name `own` passes the
+  -- test `wanted`. The procedures inside the block are tested one by one.
   pub reported_block_with : (ℕ → Bool) → ℕ → WalkProgress → Tree ℕ block → Reported WalkProgress
   reported_block_with wanted own w (has_body (declares cs ts vs ps) statements) = do
     with_constants ← reported_constants w.so_far (section_constants cs)
@@ -80,7 +80,7 @@ reported_module_with wanted r =
     reported_block_with wanted r.module_read.closing (record { so_far = state_at_start r; faulty = [] })
     (module_block (tree_of r.module_read))
 
--- returns true for every closing name
+-- returns true for every closing name, so that all bodies are walked
 abbrev pub every_body : ℕ → Bool
 every_body closing = true
 
@@ -88,29 +88,29 @@ every_body closing = true
 abbrev pub faulty_bodies : Resolution → List ℕ
 faulty_bodies r = (reported_module_with every_body r).known.faulty
 
--- returns true if the closing name is in the list
+-- returns whether the closing name is in the list
 abbrev pub is_among : List ℕ → ℕ → Bool
 is_among bodies closing = list_any (λ k. nat_eq k closing) bodies
 
--- holds if each closing name in the list passes the test
+-- states that each closing name in the list passes the test
 abbrev pub AllPass : (ℕ → Bool) → List ℕ → Type 0
 AllPass test [] = Unit {0}
 AllPass test (closing ∷ others) = (test closing ≡ true) × AllPass test others
 
--- returns true if the body with this closing name has to be walked
+-- returns whether the body of the block with this closing name has to be walked
 abbrev pub includes_body : BodiesToWalk → ℕ → Bool
 includes_body w closing = w.every_body || is_among w.these.now closing
 
--- Holds if the module has an older version whose faulty bodies are all wanted, and both versions
--- are alike except in the statements of wanted bodies.
+-- States that an older version of the module exists whose faulty bodies are all wanted. Both versions are equal except
+-- in the statements of wanted bodies.
 pub record IncludesFaultyBodies (wanted : ℕ → Bool) (r : Resolution) : Type 0 where
   pub old : Resolution
   pub resolved : IsResolution old
   pub faulty : AllPass wanted (faulty_bodies old)
   pub alike : AreEqualExceptBodies wanted old r
 
--- Walking only the wanted bodies gives the same report as walking all bodies, if the wanted ones include every body
--- that had a fault or changed.
+-- States that walking only the wanted bodies gives the same report as walking all bodies. The wanted bodies must
+-- include every body that had a fault or changed.
 abbrev pub SomeBodiesSuffice : Type 0
 SomeBodiesSuffice =
     (wanted : ℕ → Bool) (r : Resolution)
@@ -118,8 +118,8 @@ SomeBodiesSuffice =
     → IncludesFaultyBodies wanted r
     → reported_module_with wanted r ≡ reported_module_with every_body r
 
--- Holds if a report has the faults of the module `r` and the closing names of its bodies with
--- faults. It has the objects of all declarations exactly if there are no faults.
+-- States that a report has the faults of the module `r` and the closing names of the bodies with faults. The report has
+-- a table with the objects of all declarations exactly if there are no faults.
 pub record IsReportOf (r : Resolution) (report : Report) : Type 0 where
   pub faults : report.faults.items ≡ reported_module r
   pub known : MatchOption report.known (reported_module r ≡ [] → ⊥)
@@ -130,7 +130,8 @@ pub record IsReportOf (r : Resolution) (report : Report) : Type 0 where
 abbrev pub walked_in : CheckerState → List ℕ → WalkProgress
 walked_in s faulty = record { so_far = declarations_in_state s; faulty = faulty }
 
--- holds if the walk over a module has ended with its faults, its final state and its bodies with faults
+-- states that a walk has ended with the faults of the module `r`, the state after the module, and the bodies with
+-- faults
 pub record HasWalked
     (r : Resolution) (found : List Fault) (s : CheckerState) (faulty : List ℕ) : Type 0 where
   pub faults : found ≡ reported_module r

@@ -32,8 +32,7 @@ target_type_by_meaning facts token (Some (a_procedure fs)) =
     record { known = facts.types.unknown; faults = fault_at_token facts code.WrongKind token }
 target_type_by_meaning facts token None = without_fault facts.types.unknown
 
--- returns the type of the assigned name at a token, with its fault if it isn't a variable's or
--- parameter's
+-- returns the type of the assigned name at a token, with a fault if the name isn't a variable's or parameter's
 abbrev pub target_name_type : {T : Type 0} → Facts T → ℕ → Reported T
 target_name_type facts token = target_type_by_meaning facts token (facts.object_for token)
 
@@ -57,8 +56,8 @@ abbrev pub reported_assignment : {T : Type 0}
     → List Fault
 reported_assignment facts target e = target.faults ++ reported_required facts target.known.of e
 
--- Requires that an argument has the type of its parameter. For a VAR parameter, it must also be a
--- variable with its selectors. If it isn't, only `NotVariable` is reported.
+-- Requires that an argument has the type of its parameter. An argument for a VAR parameter must also be a variable with
+-- its selectors. Otherwise only `NotVariable` is reported, and the result is the unknown type.
 abbrev pub required_of_argument : {T : Type 0} → Facts T → KnownFormal T → Operand T → Reported T
 required_of_argument facts f o =
     if f.by_place && not o.is_place
@@ -74,8 +73,8 @@ unfoldable pub reported_argument : {T : Type 0}
 unfolding reported_expression
 reported_argument facts f e = (reported_expression facts e >>= required_of_argument facts f).faults
 
--- returns the faults of arguments, each checked with the parameter at its index; surplus arguments
--- or parameters are ignored
+-- returns the faults of arguments, each checked against the parameter at the same index; surplus arguments or
+-- parameters are ignored
 abbrev pub reported_arguments : {T : Type 0}
     → Facts T
     → List (KnownFormal T)
@@ -91,10 +90,9 @@ abbrev pub reported_untyped_arguments : {T : Type 0} → Facts T → List (Tree 
 reported_untyped_arguments facts [] = []
 reported_untyped_arguments facts (e ∷ es) = (reported_expression facts e).faults ++ reported_untyped_arguments facts es
 
--- Returns the faults of a call of the name at token `p`, given the name's meaning. A procedure
--- needs as many arguments as it has parameters; otherwise only their number is reported. If the
--- name isn't a procedure's, the arguments may have any type. An undeclared name is reported
--- elsewhere.
+-- Returns the faults of a call of the name at token `p`, given the name's meaning. A procedure needs as many arguments
+-- as it has parameters. Otherwise only `ArgumentCount` is reported. If the name isn't a procedure's, the arguments may
+-- have any type. An undeclared name is reported elsewhere.
 abbrev pub reported_call_by_meaning : {T : Type 0}
     → Facts T
     → ℕ
@@ -154,7 +152,7 @@ unfoldable mutual
       reported_condition facts e
       ++ (reported_sequence facts statements ++ reported_elsifs facts rest)
 
-  -- returns the faults of the ELSE part; none if it is missing
+  -- returns the faults of the ELSE part; an empty list if there is no such part
   pub reported_else : {T : Type 0} → Facts T → Tree ℕ (maybe else_part) → List Fault
   reported_else facts none = []
   reported_else facts (one (else_branch statements)) = reported_sequence facts statements

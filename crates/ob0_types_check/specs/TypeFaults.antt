@@ -9,9 +9,8 @@ use Rattle.ob0_types_check.specs.ExpressionFaults.{reported_expression}
 use Rattle.ob0_types_check.specs.Known.{Facts, Meaning, Operand, Reported, a_constant, a_procedure, a_type, a_variable}
 use Rattle.ob0_types_check.specs.Operations.{required_type, fault_at_operand, fault_at_token, without_fault, ◌>>=◌}
 
--- Returns the type that a name refers to, given its token and its meaning. Another meaning is
--- reported as `WrongKind`. An undeclared name is reported elsewhere. The type is unknown in both
--- cases.
+-- Returns the type to which a name refers, given its token and its meaning. A name that isn't a type's is reported as
+-- `WrongKind`. An undeclared name is reported elsewhere. In both cases the result is the unknown type.
 abbrev pub type_by_meaning : {T : Type 0} → Facts T → ℕ → Option (Meaning T) → Reported T
 type_by_meaning facts token (Some (a_type t)) = without_fault t
 type_by_meaning facts token (Some (a_constant v)) =
@@ -22,7 +21,7 @@ type_by_meaning facts token (Some (a_procedure fs)) =
     record { known = facts.types.unknown; faults = fault_at_token facts code.WrongKind token }
 type_by_meaning facts token None = without_fault facts.types.unknown
 
--- returns the type that the name at a token refers to; another meaning is reported as `WrongKind`
+-- returns the type to which the name at a token refers; a name that isn't a type's is reported as `WrongKind`
 abbrev pub type_named_at : {T : Type 0} → Facts T → ℕ → Reported T
 type_named_at facts token = type_by_meaning facts token (facts.object_for token)
 

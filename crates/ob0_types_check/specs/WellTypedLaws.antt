@@ -1,5 +1,5 @@
--- Laws about well-typed modules and well-typed parts of modules: no fault of types is reported. N
--- is the type of names.
+-- Laws about well-typed modules and well-typed parts of modules: no fault of types is reported for them. `N` is the
+-- type of names.
 -- Rule: docs/LANGUAGE.md, Types 8; laws of reported faults.
 use Rattle.std.specs.Prelude.{◌≡◌, ℕ, Bool, true, false, [], List, Option, Some, None, option_and_then, is_some, slice_get}
 use Rattle.std.specs.List.{filter}
@@ -20,7 +20,7 @@ use Rattle.ob0_types_check.specs.StatementFaults.{reported_sequence, reported_ta
 use Rattle.ob0_types_check.specs.TypeFaults.{length_of, reported_constant}
 use Rattle.ob0_types_check.specs.Agreement.{Agrees, shape_in}
 
--- No fault is reported for an expression that has a type.
+-- States that no fault is reported for an expression that has a type.
 abbrev pub NoFaultInExpressions : Type 0 → Type 0
 NoFaultInExpressions N =
     (p : KnownDeclarations) (only_constants : Bool) (shapes : List Shape) (label : ℕ → N) (meaning : TypeMeanings N)
@@ -30,7 +30,7 @@ NoFaultInExpressions N =
     ≡ true
     → (reported_expression (facts_at p only_constants) e).faults ≡ []
 
--- No fault is reported for a constant expression that has a value.
+-- States that no fault is reported for a constant expression that has a value.
 abbrev pub NoFaultInConstants : Type 0 → Type 0
 NoFaultInConstants N =
     (p : KnownDeclarations) (shapes : List Shape) (label : ℕ → N) (meaning : TypeMeanings N) (e : Tree ℕ expression)
@@ -38,7 +38,7 @@ NoFaultInConstants N =
     → is_some (constant_value meaning (mapped label (value_at p.source) e)) ≡ true
     → (reported_constant (facts_at p true) e).faults ≡ []
 
--- No fault is reported for a valid array length.
+-- States that no fault is reported for a valid array length.
 abbrev pub NoFaultInLengths : Type 0 → Type 0
 NoFaultInLengths N =
     (p : KnownDeclarations) (shapes : List Shape) (label : ℕ → N) (meaning : TypeMeanings N) (e : Tree ℕ expression)
@@ -48,7 +48,8 @@ NoFaultInLengths N =
     ≡ true
     → (reported_expression (facts_at p true) e >>= length_of (facts_at p false)).faults ≡ []
 
--- No fault is reported for an assignment's target that is a variable or parameter with its selectors.
+-- States that no fault is reported for an assignment's target that is a variable or parameter with well-typed
+-- selectors.
 abbrev pub NoFaultInTargets : Type 0 → Type 0
 NoFaultInTargets N =
     (p : KnownDeclarations) (shapes : List Shape) (label : ℕ → N) (meaning : TypeMeanings N) (x : ℕ)
@@ -57,20 +58,20 @@ NoFaultInTargets N =
     → is_some (variable_type meaning (Some (label x, mapped label (value_at p.source) path))) ≡ true
     → (reported_target (facts_at p false) x path).faults ≡ []
 
--- returns the ordinal of the word ARRAY or RECORD that makes a type; None for a scalar type
+-- returns the ordinal of the word ARRAY or RECORD that makes a type; None for INTEGER and BOOLEAN
 abbrev pub constructor_ordinal : Shape → Option ℕ
 constructor_ordinal integer_shape = None
 constructor_ordinal boolean_shape = None
 constructor_ordinal (array_shape k n s) = Some k
 constructor_ordinal (record_shape k fs) = Some k
 
--- holds if no two entries of the list are made by the same word ARRAY or RECORD
+-- states that no two shapes in the list are made by the same word ARRAY or RECORD
 abbrev pub HaveDistinctConstructors : List Shape → Type 0
 HaveDistinctConstructors shapes =
     (i j k : ℕ) (s t : Shape) → slice_get shapes i ≡ Some s → slice_get shapes j ≡ Some t
     → constructor_ordinal s ≡ Some k → constructor_ordinal t ≡ Some k → i ≡ j
 
--- No fault is reported for well-typed statements, if each word ARRAY and RECORD makes one type.
+-- States that no fault is reported for well-typed statements if no two types are made by the same word ARRAY or RECORD.
 abbrev pub NoFaultInStatements : Type 0 → Type 0
 NoFaultInStatements N =
     (p : KnownDeclarations) (shapes : List Shape) (label : ℕ → N) (meaning : TypeMeanings N)
@@ -80,7 +81,7 @@ NoFaultInStatements N =
     → sequence_fits meaning (mapped label (value_at p.source) statements) ≡ true
     → reported_sequence (facts_at p false) statements ≡ []
 
--- Every name of a well-typed module is bound.
+-- States that every name of a well-typed module is bound.
 abbrev pub NamesBound : Type 0
 NamesBound =
     (r : Resolution)
@@ -88,7 +89,7 @@ NamesBound =
     → fits_over naming_by_spelling (named_tree_of r.module_read) ≡ true
     → filter is_undeclared_fault r.faults ≡ []
 
--- No undeclared name and no fault of types is reported for a well-typed module.
+-- States that no undeclared name and no fault of types is reported for a well-typed module.
 abbrev pub NoFaultInModules : Type 0
 NoFaultInModules =
     (r : Resolution)

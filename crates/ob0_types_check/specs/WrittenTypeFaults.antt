@@ -17,9 +17,9 @@ use Rattle.ob0_types_check.specs.TypeFaults.{length_of, type_named_at}
 abbrev pub array_size : ℕ → Size → Size
 array_size n z = record { scalars = z.scalars * n; depth = z.depth + 1 }
 
--- Returns the ordinal of the next word ARRAY or RECORD, that is, the number of such words before
--- it. Each word makes one type, and inner types are made first. So, if nothing is reported, the
--- ordinal is the number of types made so far plus `around`, the number of words around it.
+-- Returns the ordinal of the next word ARRAY or RECORD, that is, the number of such words before it. Each word makes
+-- one type, and inner types are made first. So, if nothing is reported, the ordinal is the number of types made so far
+-- plus `around`, the number of types around the word.
 abbrev pub next_type_ordinal : ℕ → KnownDeclarations → ℕ
 next_type_ordinal around p = length p.made + around
 
@@ -43,12 +43,12 @@ pub record KnownFields : Type 0 where
 abbrev pub no_known_fields : KnownDeclarations → KnownFields
 no_known_fields p = record { fields = []; size = empty_size; following = p }
 
--- returns the size of two parts next to each other
+-- returns the size of two parts together: the sum of their scalars and the greater of their depths
 abbrev pub sum_of_sizes : Size → Size → Size
 sum_of_sizes z w = record { scalars = z.scalars + w.scalars; depth = max z.depth w.depth }
 
--- Returns the fields so far with one more field of this type added, whose name is at the token. The
--- size of its type is added to the total size.
+-- Returns the fields so far with one more field of this type added, whose name is at the given token. The size of the
+-- field's type is added to the total size.
 abbrev pub with_known_field : TypeId → KnownFields → ℕ → KnownFields
 with_known_field t g token =
     record {
@@ -72,20 +72,19 @@ with_field_group g xs t =
 abbrev pub record_size : Size → Size
 record_size z = record { scalars = max z.scalars 1; depth = z.depth + 1 }
 
--- returns the first name of a list
+-- returns the token of the first name in a list
 abbrev pub first_name : Tree ℕ names → ℕ
 first_name (listed x rest) = x
 
--- Returns the token before a group of fields, which is RECORD or a semicolon. `following` is the
--- token between this group and the next one. It is used only if the group is empty.
+-- Returns the token before a group of fields, which is RECORD or a semicolon. `following` is the token between this
+-- group and the next one. `following` is used only if the group is empty.
 abbrev pub token_before_group : Tree ℕ fields → ℕ → ℕ
 token_before_group (some_fields ns t) following = token_before (first_name ns)
 token_before_group no_fields following = token_before following
 
--- Returns the token before these groups of fields. For all groups of a record, it is the word
--- RECORD. Between this token and the first field's name there are only semicolons, one for each
--- empty group. Without any field the result is 0, but a record without fields is never too large,
--- so nothing is reported there.
+-- Returns the token before these groups of fields. For all groups of a record, this token is the word RECORD. Between
+-- this token and the first field's name there are only semicolons, one for each empty group. If there are no fields,
+-- the result is 0. A record without fields is never too large, so nothing is reported at that token.
 abbrev pub record_keyword : Tree ℕ (items further_fields) → ℕ
 record_keyword end = 0
 record_keyword (more (then_fields g) rest) = token_before_group g (record_keyword rest)
@@ -95,7 +94,7 @@ record_keyword (more (then_fields g) rest) = token_before_group g (record_keywor
 abbrev pub made_record_type : ℕ → ℕ → KnownFields → Reported TypeWithState
 made_record_type word ordinal g = make_type g.following word ordinal (of_fields g.fields) (record_size g.size)
 
--- Returns the faults of a type that is inside `around` words ARRAY and RECORD.
+-- Returns the faults of a type. `around` is the number of arrays and records that enclose the type.
 unfoldable mutual
   unfolding reported_expression
 

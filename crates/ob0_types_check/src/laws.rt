@@ -1,4 +1,5 @@
-//! The laws that contracts cite. Each function does nothing; its contract is the law.
+//! States laws about the report of a module. Each function does nothing. The function's contract is
+//! the law.
 
 ghost use Rattle.ob0_types_check.specs.ModuleLaws.{DeclarationsKnown, ModulesFit};
 ghost use Rattle.ob0_types_check.specs.ReportLaws.{ConstantsFit, ExpressionsFit, ReportedLengthsAgree, StatementsFit, TableTypesAgree};
@@ -6,19 +7,20 @@ ghost use Rattle.ob0_types_check.specs.SomeBodies.{SomeBodiesSuffice};
 ghost use Rattle.ob0_types_check.specs.WellTypedLaws.{NamesBound, NoFaultInConstants, NoFaultInExpressions, NoFaultInLengths, NoFaultInModules, NoFaultInStatements, NoFaultInTargets};
 ghost use Rattle.ob0_language_names.specs.Names.{Name};
 
-/// Proves that if no fault is reported for an expression, the reported type and value are its type and value by the
-/// definitions.
+/// Proves that the type and value found for an expression agree with the definitions if no fault is
+/// reported for the expression.
 pub fn expressions_fit()
     ensures { ExpressionsFit Name }
 {}
 
-/// Proves that if no fault is reported for a constant's right side, the reported value is the value of that expression.
+/// Proves that if no fault is reported for a constant's right side, the value found is the value of
+/// that expression.
 pub fn constants_fit()
     ensures { ConstantsFit Name }
 {}
 
-/// Proves that if no fault is reported for an array's length, the reported length is the value of the length's
-/// expression.
+/// Proves that if no fault is reported for an array's length, the length found is the value of the
+/// length's expression.
 pub fn lengths_fit()
     ensures { ReportedLengthsAgree Name }
 {}
@@ -28,18 +30,20 @@ pub fn statements_fit()
     ensures { StatementsFit Name }
 {}
 
-/// Proves that if each array and record in the table agrees with its shape, every type agrees with its shape.
+/// Proves that every type agrees with its shape if each array and record in the table does. A shape
+/// is a type as the definitions see it, with all its parts.
 pub fn table_types_agree()
     ensures { TableTypesAgree }
 {}
 
-/// Proves that a module is well-typed if no fault of types and no undeclared name is reported for it.
+/// Proves that a module is well-typed if no fault of types and no undeclared name is reported for
+/// it.
 pub fn modules_fit()
     ensures { ModulesFit }
 {}
 
-/// Proves that if no fault of types and no undeclared name is reported for a module, the walk has found the meaning of
-/// each declaration.
+/// Proves that the walk over a module has found the meaning of each declaration if it reports no
+/// fault of types and no undeclared name.
 pub fn declarations_known()
     ensures { DeclarationsKnown }
 {}
@@ -59,14 +63,14 @@ pub fn no_fault_in_lengths()
     ensures { NoFaultInLengths Name }
 {}
 
-/// Proves that no fault is reported for the target of an assignment if it is a variable or parameter with its
-/// selectors.
+/// Proves that no fault is reported for an assignment's target if the target is a variable or
+/// parameter with well-typed selectors.
 pub fn no_fault_in_targets()
     ensures { NoFaultInTargets Name }
 {}
 
-/// Proves that no fault is reported for well-typed statements if each word ARRAY and RECORD makes
-/// only one type.
+/// Proves that no fault is reported for well-typed statements if no two types are made by the same
+/// word ARRAY or RECORD.
 pub fn no_fault_in_statements()
     ensures { NoFaultInStatements Name }
 {}

@@ -1,7 +1,9 @@
-//! Reports the type errors of a module and their places (docs/LANGUAGE.md, Faults of scopes and
-//! types). If there is none, the report has the declarations.
+//! Reports the type errors and undeclared names of a module, with their places (docs/LANGUAGE.md,
+//! Faults of scopes and types). If there are none, the report has the table of the module's
+//! declarations.
 //!
-//! The laws state that nothing is reported exactly if every name is bound and all types fit.
+//! The laws state that nothing is reported exactly if the module is well-typed. Every name of a
+//! well-typed module is bound.
 #![tactic(auto)]
 
 pub mod laws;

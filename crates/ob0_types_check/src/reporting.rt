@@ -1,53 +1,61 @@
-//! Reports the type errors of a module in one walk. If there are none, the walk has also found the meaning of each
-//! declaration.
+//! Reports the type errors of a module in one walk over its tree. If there are none, the walk has
+//! also found the meaning of each declaration.
 //!
-//! An expression or type with a fault has an unknown type. An unknown type causes no further fault.
+//! The type of an expression with a fault is unknown. A type that is written with a fault is
+//! unknown, as a whole or in parts. An unknown type causes no further fault.
 //!
-//! No other code decides whether a module fits. The laws connect this walk with the definitions. A module that doesn't
-//! fit has a fault (`modules_fit`), and a well-typed module has none (`no_fault_in_modules`). If a module has no
-//! faults, the walk has found every declaration (`declarations_known`).
+//! No other code decides whether a module is well-typed. The laws connect this walk with the
+//! definitions. A module that isn't well-typed has a reported fault (`modules_fit`), and a
+//! well-typed module has none (`no_fault_in_modules`). If a module has no faults, the walk has
+//! found the meaning of every declaration (`declarations_known`).
 //!
-//! The definitions give the faults of each production, in order, with codes and spans. They also
-//! give the result of the production, for example the type of an expression. A `Reported` is such a
-//! result with its faults. Its `>>=` puts the faults of one step before the faults of the next.
-//! Statements have faults but no result. A function that returns a value has one clause,
-//! `ReportsAfter before after x t`. It states that the function returns the result `x` of `t` and
-//! appends the faults of `t`. An operand carries its value if it is constant. So one walk over an
-//! expression finds its type, its value, whether it can be a place, and its first and last token.
+//! The definitions give the faults of each production of the grammar, in order, with codes and
+//! spans. They also give the result of the production, for example the type of an expression. A
+//! `Reported` is such a result with its faults. The operator `>>=` puts the faults of one step
+//! before the faults of the next step. Statements have faults but no result. The contract of a
+//! function that returns a value has one clause, `ReportsAfter before after x t`. The clause states
+//! that the function returns the result `x` of `t` and appends the faults of `t`. An operand has a
+//! value if its expression is constant. So one walk over an expression finds its type, its value,
+//! whether it may be a variable, and its first and last token.
 //!
-//! The definitions work over any representation of types that has an unknown type (`Types`). One is
-//! the code's `TypeId` with its table (`known_types`). Another is `Option Shape`, with None for
-//! unknown, which needs no table.
+//! The definitions work over any representation of types that has an unknown type (`Types`). One
+//! such representation is the code's `TypeId`, which refers to arrays and records by their indexes
+//! in a list (`known_types`). Another is `Option Shape`, which needs no list and in which None is
+//! the unknown type.
 //!
-//! The faults of written types, declarations and blocks depend on a state, `KnownDeclarations`. It has the
-//! meanings of the declarations, by ordinal, and a list of the arrays and records with their parts.
-//! `declarations_in_state` views the code's `CheckerState` as such a state, so the definitions of expressions and
-//! statements don't mention `CheckerState`. `CheckerState` and the list of faults are separate values.
-//! Expressions and statements take `&self` and the list; declarations take a `Reporter`, which has
-//! both.
+//! The faults of written types, declarations and blocks depend on a state, `KnownDeclarations`.
+//! This state has the meanings of the declarations, by ordinal, and a list of the arrays and
+//! records with their parts. `declarations_in_state` converts the code's `CheckerState` to such a
+//! state, so the definitions of expressions and statements don't mention `CheckerState`.
+//! `CheckerState` and the list of faults are separate values. The functions for expressions and
+//! statements take `&self` and the list. The functions for declarations take a `Reporter`, which
+//! has both.
 //!
 //! The trees of the definitions don't contain the tokens ARRAY and RECORD. So definitions and code
-//! find these tokens in the same way. ARRAY is the token before its length. Between RECORD and the
-//! name of its first field there are only semicolons, one for each group without fields before that
-//! name (`record_keyword`). Every token has neighbours: at the end of the text `token_after` returns
-//! the same token. Every fault has a place: `span_at` gives the start of the text if there is no
-//! token.
+//! find these tokens in the same way. ARRAY is the token before the array's length. Between RECORD
+//! and the name of the first field there are only semicolons, one for each empty group of fields
+//! (`record_keyword`). Every token has a next token, because `token_after` returns the end of the
+//! text unchanged. Every fault has a place, because `span_at` returns the start of the text if
+//! there is no token.
 //!
 //! A body declares nothing. So if only the tokens of one body changed, the facts at every other
 //! place are unchanged. Any other body that had no faults still has none (`some_bodies_suffice`).
 //! `report_some_bodies` therefore walks the declarations, the changed body and the bodies that had
-//! faults, and skips all others. The walk returns the list of bodies with faults.
+//! faults, and skips all others. The report lists the bodies with faults, for the next change.
 //!
-//! If the statements of one body are new and everything else fits, only these statements can have
-//! faults (`NewBody` of the proofs). `report_one_body` walks the declarations and that body.
+//! If the statements of one body were replaced and the rest is well-typed, only these statements
+//! can have faults (`NewBody` of the proofs). `report_one_body` walks the declarations and that
+//! body.
 //!
-//! The walk has no counter of ARRAY and RECORD words. Each word makes one type, and inner types are
-//! made first. So, if nothing is reported, a word's ordinal is the number of types made so far plus
-//! the number of words around it (`next_type_ordinal`). A sum that doesn't fit 64 bits is reported as
-//! out of memory, so the definition needs no cap. No text is long enough for that.
+//! The ordinal of a word ARRAY or RECORD is the number of such words before it in the text. The
+//! walk doesn't count these words. Each word makes one type, and inner types are made first. So, if
+//! nothing is reported, a word's ordinal is the number of types made so far plus the number of
+//! types around the word (`next_type_ordinal`). If this sum doesn't fit 64 bits, the function fails
+//! as if memory had run out, so the definition needs no upper limit. No text is long enough for
+//! such a sum.
 //!
-//! Undeclared names are copied from the faults of scopes. The walk itself reports nothing at such a
-//! name.
+//! The faults at undeclared names are copied from the faults of scopes. The walk itself reports
+//! nothing at such a name.
 
 mod checker_state;
 mod declarations;
@@ -73,19 +81,21 @@ use ob0_scope_table::Resolved;
 use ob0_types_table::DeclarationTable;
 use std::alloc::{AllocError, Global};
 
-/// The report of a module: its faults or, if it has none, its declarations. It also has the bodies
-/// in which a fault of types is reported.
+/// The report of a module: its faults, its declarations if there are no faults, and the bodies in
+/// which a fault of types is reported.
 #[derive(Drop)]
 pub struct Report {
-    /// The undeclared names in text order, and then the faults of types.
+    /// The faults at undeclared names in text order, and then the faults of types.
     pub faults: Vec<Fault>,
     /// The table of declarations, or None if there is a fault.
     pub known: Option<DeclarationTable>,
-    /// The closing names of the bodies in which a fault of types is reported, as token indexes in text order.
+    /// The bodies in which a fault of types is reported, in text order. Each body is given by the
+    /// token index of its block's closing name.
     pub faulty: Vec<usize>,
 }
 
-/// The bodies to walk: all bodies, or only the bodies with these closing names.
+/// The bodies to walk: all bodies, or only those in `these`. A body is given by the token index of
+/// its block's closing name.
 #[derive(Clone, Copy)]
 struct BodiesToWalk<'b> {
     every_body: bool,
@@ -93,7 +103,7 @@ struct BodiesToWalk<'b> {
 }
 
 impl<'b> BodiesToWalk<'b> {
-    /// Returns true if the body of the block with this closing name is to be walked.
+    /// Returns whether the body of the block with this closing name is to be walked.
     fn includes_body(&self, closing: usize) -> bool
         ensures { result ≡ includes_body self.now closing }
     {
@@ -102,8 +112,8 @@ impl<'b> BodiesToWalk<'b> {
 }
 
 /// Returns the report of a module: its undeclared names in text order and then its faults of types.
-/// If there are none, the report has the declarations. Duplicate declarations and wrong closing
-/// names aren't reported here.
+/// If there are no faults, the report has the module's declarations. Duplicate declarations and
+/// wrong closing names aren't reported here.
 pub fn report_faults<'t>(alloc: Global, resolved: &'t Resolved<'t>) -> Result<Report, AllocError>
     ensures { IfOk result (IsReportOf resolved.now) }
 {
@@ -116,8 +126,8 @@ pub fn report_faults<'t>(alloc: Global, resolved: &'t Resolved<'t>) -> Result<Re
 }
 
 /// Returns the same report as `report_faults`, but walks only the declarations and these bodies,
-/// given by their closing names. They must include every body that changed and every body that had
-/// a fault of types before the change.
+/// given by their closing names. These bodies must include every body that changed and every body
+/// that had a fault of types before the change.
 pub fn report_some_bodies<'t>(
     alloc: Global,
     resolved: &'t Resolved<'t>,
@@ -127,7 +137,7 @@ pub fn report_some_bodies<'t>(
     ensures { IfOk result (IsReportOf resolved.now) }
 {
     some_bodies_suffice();
-    // The contract of this call gives the proof the invariant of the module.
+    // The proof needs this call: its contract states the module's invariant.
     let _module = resolved.module();
     let these = BodiesToWalk {
         every_body: false,
@@ -136,8 +146,8 @@ pub fn report_some_bodies<'t>(
     report_wanted_bodies(alloc, resolved, &these)
 }
 
-/// Returns the same report as `report_faults`, but walks only the declarations and the statements of the block with
-/// this closing name. The module must fit without these statements.
+/// Returns the same report as `report_faults`, but walks only the declarations and the statements
+/// of the block with this closing name. The module must be well-typed without these statements.
 pub fn report_one_body<'t>(
     alloc: Global,
     resolved: &'t Resolved<'t>,
@@ -146,7 +156,7 @@ pub fn report_one_body<'t>(
     requires { FitsWithout resolved.now closing }
     ensures { IfOk result (IsReportOf resolved.now) }
 {
-    // The contract of this call gives the proof the invariant of the module.
+    // The proof needs this call: its contract states the module's invariant.
     let _module = resolved.module();
     let bodies = [closing];
     let only = BodiesToWalk {
@@ -156,8 +166,8 @@ pub fn report_one_body<'t>(
     report_wanted_bodies(alloc, resolved, &only)
 }
 
-/// Returns the report of a module, walking only the declarations and the wanted bodies. No other body may have a fault
-/// of types.
+/// Returns the report of a module, walking only the declarations and the wanted bodies. The other
+/// bodies must have no faults of types.
 fn report_wanted_bodies<'t>(
     alloc: Global,
     resolved: &'t Resolved<'t>,
@@ -200,8 +210,8 @@ struct Reporter<'t> {
 }
 
 impl<'t> Reporter<'t> {
-    /// Returns the state at the start of a module. Only the predeclared names have a meaning, and only the undeclared
-    /// names are reported.
+    /// Returns the state at the start of a module. Only the predeclared names have a meaning, and
+    /// the only faults are the undeclared names.
     fn new(alloc: Global, resolved: &'t Resolved<'t>) -> Result<Reporter<'t>, AllocError>
         ensures checker_state { IfOk result (λ t. declarations_in_state t.checker_state ≡ state_at_start resolved.now) }
         ensures faults { IfOk result
@@ -221,7 +231,8 @@ impl<'t> Reporter<'t> {
         })
     }
 
-    /// Returns the report when the walk has ended. The table of declarations is made only if there is no fault.
+    /// Returns the report after the walk has ended. The table of declarations is made only if there
+    /// is no fault.
     fn into_report(
         self,
         resolved: &'t Resolved<'t>,
@@ -231,7 +242,7 @@ impl<'t> Reporter<'t> {
         ensures { IfOk result (IsReportOf resolved.now) }
     {
         declarations_known();
-        // The contract of this call gives the proof the invariant of the module.
+        // The proof needs this call: its contract states the module's invariant.
         let _module = resolved.module();
         let Reporter {
             alloc,
@@ -255,7 +266,7 @@ impl<'t> Reporter<'t> {
     }
 }
 
-/// Returns the undeclared names among the faults of scopes, in text order.
+/// Returns the faults at undeclared names from the module's faults of scopes, in text order.
 fn unbound_names(alloc: Global, resolved: &Resolved) -> Result<Vec<Fault>, AllocError>
     ensures { IfOk result (λ faults. faults.items ≡ filter is_undeclared_fault resolved.now.faults) }
 {

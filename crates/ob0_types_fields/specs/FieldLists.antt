@@ -1,4 +1,4 @@
--- The lists of a module's field identifiers, before and after a change of the text.
+-- The lists of a module's field identifiers, and how these lists change when the text changes.
 -- Rule: none; for contracts: fields in lists.
 use Rattle.std.specs.Prelude.{◌≡◌, ◌==◌, ◌+◌, ◌-◌, ◌^◌, ℕ, List, [], ◌∷◌, ◌++◌, length, min, nat_le, nat_lt, set, if◌then◌else◌}
 use Rattle.std.specs.List.{filter}
@@ -12,17 +12,18 @@ use Rattle.ob0_types_fields.specs.declared.field_name.FieldName.{FieldName}
 use Rattle.ob0_types_fields.specs.Identifiers.{declared_fields, field_identifiers, tokens_of}
 use Rattle.ob0_types_fields.specs.Owned.{fields_in_module, meanings_by_token}
 
--- the identifiers of a module's fields: those that declare a field (`declared`), and all of them
--- (`all`)
+-- two lists of field identifiers of a module: `declared` has the identifiers that declare a field,
+-- `all` also has the identifiers that select a field
 pub record FieldLists : Type 0 where
   pub declared : List FieldName
   pub all : List FieldName
 
--- returns the list `all` if a field is declared, otherwise an empty list
+-- returns the list `all` if the list `declared` isn't empty, otherwise an empty list
 abbrev pub all_if_declared : List FieldName → List FieldName → List FieldName
 all_if_declared declared all = if length declared == 0 then [] else all
 
--- returns the lists that the code's walks make, given the table of the module's declarations
+-- returns the two lists of field identifiers that the code's walks over a module make; `t` is the
+-- table of the module's declarations
 abbrev pub field_lists_of : Tables → Resolution → FieldLists
 field_lists_of t r = record {
   declared = declared_fields r.module_read;
@@ -31,19 +32,20 @@ field_lists_of t r = record {
       (fields_in_module (meanings_by_token (declared_object_in t) r) (tree_of r.module_read));
 }
 
--- holds if `declared` has the module's identifiers that declare a field, and `all` has all its
--- field identifiers
+-- states that `declared` is the list of the module's identifiers that declare a field, and `all` is
+-- the list of its field identifiers
 abbrev pub AreFieldListsOf : Resolution → FieldLists → Type 0
 AreFieldListsOf r f = (f.declared ≡ declared_fields r.module_read) × (f.all ≡ field_identifiers r)
 
--- returns the first list after its items from index `k` onwards are overwritten by the items of the
--- second list
+-- returns the first list after its items are overwritten by the items of the second list, starting
+-- at index `k` of the first list; items that would lie after its end are ignored
 abbrev pub overwritten_fields : List FieldName → ℕ → List FieldName → List FieldName
 overwritten_fields xs k [] = xs
 overwritten_fields xs k (y ∷ ys) = overwritten_fields (set xs k y) (k + 1) ys
 
--- Holds if `all` consists of `before`, then old fields at the same tokens as the fields in
--- `others`, and then `after`. The tokens of `all` must be in strictly ascending order.
+-- States that the list `all` consists of `before`, then old fields at the same tokens as the fields
+-- in `others`, and then `after`. Also states that the tokens of `all` are in strictly ascending
+-- order.
 pub record HasOthersWithin (all before others after : List FieldName) : Type 0 where
   pub old : List FieldName
   pub top : ℕ
@@ -51,24 +53,24 @@ pub record HasOthersWithin (all before others after : List FieldName) : Type 0 w
   pub is : all ≡ before ++ (old ++ after)
   pub same : tokens_of all ≡ tokens_of (before ++ (others ++ after))
 
--- returns the fields of a list whose tokens come before a token
+-- returns the fields of a list whose tokens come before the token with index `token`
 abbrev pub fields_before : ℕ → List FieldName → List FieldName
 fields_before token xs = filter (λ x. nat_lt x.token token) xs
 
--- returns the fields of a list whose tokens are at or after a token
+-- returns the fields of a list whose tokens are at or after the token with index `token`
 abbrev pub fields_from : ℕ → List FieldName → List FieldName
 fields_from token xs = filter (λ x. nat_le token x.token) xs
 
--- Returns a token's index after a change, given its index before. The change must have kept this
--- token. The result is at most 2^64 - 1.
+-- Returns the index of an unchanged token in the new text, given its index `i` in the old text. `s`
+-- specifies the unchanged tokens. The result is at most 2^64 - 1.
 abbrev pub new_token_index : SameTokens → ℕ → ℕ
 new_token_index s i = min (moved_token_index s i) (2 ^ 64 - 1)
 
--- returns a field identifier with the index that its token has after a change
+-- returns an old field identifier with the index that its token has in the new text
 abbrev pub moved_field : SameTokens → FieldName → FieldName
 moved_field s x = record { token = new_token_index s x.token; owner = x.owner }
 
--- returns the old index of a token that lies after the changed tokens, given its new index; at most
--- 2^64 - 1
+-- returns the index in the old text of a token that lies after the changed tokens, given its index
+-- `i` in the new text; the result is at most 2^64 - 1
 abbrev pub old_token_index : SameTokens → ℕ → ℕ
 old_token_index s i = min (i - s.new_suffix + s.old_suffix) (2 ^ 64 - 1)

@@ -1,5 +1,5 @@
 -- The type that each ARRAY and RECORD of a module constructs, and the field that an identifier
--- belongs to, with its type.
+-- belongs to, with the field's type.
 -- Rule: docs/LANGUAGE.md, Types 1 (each ARRAY and RECORD is a type of its own);
 -- docs/PROTOCOL.md, Requests on documents 4.
 use Rattle.std.specs.Prelude.{◌≡◌, ℕ, true, is_some, List, [], ◌∷◌, ◌++◌, get_or, Option, None, option_and_then, option_map}
@@ -20,14 +20,15 @@ use Rattle.ob0_types_fields.specs.declared.field_name.FieldName.{FieldName}
 use Rattle.ob0_types_fields.specs.Identifiers.{field_identifiers}
 use Rattle.ob0_types_fields.specs.Owned.{meanings_by_token}
 
--- returns the first name of a list
+-- returns the first name of a list of names
 abbrev pub first_name_listed : {N : Type 0} → Tree N names → N
 first_name_listed (listed x rest) = x
 
 -- Returns the types that the words ARRAY and RECORD of a tree construct, in text order, with None
 -- for an unknown type. `m` has the meanings of names. If the tree is a written type, `t` is the
--- type that it denotes. If it is a group of fields, `t` is the record's type. Otherwise `t` isn't
--- used. Names that are declared together have the same type, so only the first is looked up.
+-- type that the written type denotes. If the tree is a group of fields, `t` is the type of their
+-- record. Otherwise `t` isn't used. Names that are declared together have the same type, so only
+-- the first name is looked up.
 abbrev pub constructed_types : {N P : Type 0} {s : Sort}
     → Meanings N Shape P
     → Option Shape
@@ -61,8 +62,10 @@ constructed_types m t (has_body ds b) = constructed_types m t ds
 constructed_types m t (is_module name b closing) = constructed_types m t b
 constructed_types m t other = []
 
--- returns the type that the ARRAY or RECORD with ordinal `k` constructs, given the objects of
--- declarations; None if the type is unknown or there is no such word
+-- Returns the type that the ARRAY or RECORD with ordinal `k` constructs. Its ordinal is the number
+-- of words ARRAY and RECORD before it in the module. `objects` gives the object of each
+-- declaration, by the declaration's ordinal. Returns None if the type is unknown or there is no
+-- such word.
 abbrev pub constructed_type_by_objects : (ℕ → Option (Object Shape Signature))
     → Resolution
     → ℕ
@@ -70,19 +73,21 @@ abbrev pub constructed_type_by_objects : (ℕ → Option (Object Shape Signature
 constructed_type_by_objects objects r k =
     get_or (constructed_types (meanings_by_token objects r) None (tree_of r.module_read)) k None
 
--- the place of a field in its record, with the shape of the field's type
+-- a field, identified by its place in its record, with the shape of the field's type
 pub record TypedField : Type 0 where
   pub field : FieldId
   pub shape : Shape
 
--- returns the field with this name in a record type, with the field's type; None if there is none
+-- returns the field with the name `x` in the record type `s`, with the field's type; None if `s`
+-- isn't a record type or has no such field
 abbrev pub typed_field_with_name : Shape → Name → Option TypedField
 typed_field_with_name s x =
     option_and_then (λ f. option_map (λ t. record { field = f; shape = t }) (field_type s x))
     (field_selected s x)
 
--- returns the field that an identifier belongs to, with the field's type, given the objects of
--- declarations; the field is looked up in its RECORD; None if it isn't found
+-- Returns the field that an identifier belongs to, with the field's type. The field is looked up in
+-- its RECORD. `objects` gives the object of each declaration, by the declaration's ordinal. Returns
+-- None if the field isn't found.
 abbrev pub typed_field_by_objects : (ℕ → Option (Object Shape Signature))
     → Resolution
     → FieldName
@@ -96,7 +101,8 @@ typed_field_by_objects objects r x =
 abbrev pub typed_field : Resolution → FieldName → Option TypedField
 typed_field r x = typed_field_by_objects (declared_object (named_tree_of r.module_read)) r x
 
--- For each field identifier of a well-typed module, the field and its type are found.
+-- States that `typed_field` finds the field and its type for each field identifier of a well-typed
+-- module.
 abbrev pub FieldsHaveTypes : Type 0
 FieldsHaveTypes =
     (r : Resolution) → IsResolution r → WellTyped (named_tree_of r.module_read)

@@ -1,5 +1,5 @@
--- The identifiers of fields: those that declare a field in a record, and those that select one. The
--- trees in this file have the index of a token for each name.
+-- Field identifiers: the identifiers that declare or select a field of a record. In the trees of this file, each name
+-- is given by the index of its token.
 -- Rule: docs/PROTOCOL.md, Requests on documents 4 to 6.
 use Rattle.std.specs.Prelude.{◌≡◌, ℕ, ◌+◌, ◌==◌, ◌&&◌, Bool, true, not, is_some, List, [], ◌∷◌, ◌++◌, length, map, Option, Some, None, if◌then◌else◌}
 use Rattle.std.specs.List.{All, list_any, position_from}
@@ -20,16 +20,17 @@ use Rattle.ob0_types_fields.specs.declared.field_name.FieldName.{FieldName}
 use Rattle.ob0_types_fields.specs.Owned.{fields_with_owners, fields_in_sections, fields_in_types, fields_in_variables, owners_in_resolution}
 use Rattle.ob0_language_fields.specs.Renaming.{with_renamed_field, is_duplicate_field}
 
--- returns the identifiers of fields in a module, in text order
+-- returns the identifiers in a module that declare or select a field, in text order
 abbrev pub field_identifiers : Resolution → List FieldName
 field_identifiers r = fields_with_owners (owners_in_resolution r)
 
--- returns true if an identifier belongs to the field `x` of the record with ordinal `k`
+-- returns whether the identifier `found` belongs to the field `x` of the record with ordinal `k`; a record's ordinal is
+-- the number of words ARRAY and RECORD before the record
 abbrev pub belongs_to_field : TextWithTokens → ℕ → Name → FieldName → Bool
 belongs_to_field source k x found = (found.owner == k) && same_name (text_at source found.token) x
 
--- returns the tokens of those identifiers in a list that belong to the field `x` of the record with
--- ordinal `k`
+-- returns the token indexes of the identifiers in a list that belong to the field `x` of the record with ordinal `k`; a
+-- record's ordinal is the number of words ARRAY and RECORD before the record
 abbrev pub tokens_of_field : TextWithTokens → ℕ → Name → List FieldName → List ℕ
 tokens_of_field source k x [] = []
 tokens_of_field source k x (found ∷ rest) =
@@ -37,35 +38,36 @@ tokens_of_field source k x (found ∷ rest) =
     then found.token ∷ tokens_of_field source k x rest
     else tokens_of_field source k x rest
 
--- returns the tokens of all identifiers in a module that belong to the field `x` of the record with
--- ordinal `k`
+-- returns the token indexes of all identifiers in a module that belong to the field `x` of the record with ordinal `k`;
+-- a record's ordinal is the number of words ARRAY and RECORD before the record
 abbrev pub field_tokens : Resolution → ℕ → Name → List ℕ
 field_tokens r k x = tokens_of_field r.module_read.source k x (field_identifiers r)
 
--- returns the first identifier in the list that contains a byte offset or ends there; None if there
--- is none
+-- returns the first identifier in the list that contains the byte offset `offset` or ends there; None if there is none
 abbrev pub field_at_offset : TextWithTokens → ℕ → List FieldName → Option FieldName
 field_at_offset source offset [] = None
 field_at_offset source offset (x ∷ xs) =
     if is_on offset (span_at source x.token) then Some x else field_at_offset source offset xs
 
--- returns the token of each identifier
+-- returns the token index of each identifier in a list
 abbrev pub tokens_of : List FieldName → List ℕ
 tokens_of xs = map (λ x. x.token) xs
 
--- Holds if all identifiers are tokens of the text, in strictly ascending order.
+-- States that the token indexes of the listed identifiers are strictly ascending and less than the text's number of
+-- tokens.
 abbrev pub AreInTextOrder : TextWithTokens → List FieldName → Type 0
 AreInTextOrder source xs = AreAscending 0 (tokens_of xs) (length source.tokens)
 
--- returns the first field identifier of a module that contains a byte offset or ends there; None if
--- there is none
+-- returns the first field identifier of a module that contains the byte offset `offset` or ends there; None if there is
+-- none
 abbrev pub field_at : Resolution → ℕ → Option FieldName
 field_at r offset = field_at_offset r.module_read.source offset (field_identifiers r)
 
 -- ---- declaring identifiers; `k` is the ordinal of the first ARRAY or RECORD of the part
 
 abbrev mutual
-  -- returns the fields that the declarations of a block declare; `k` is the ordinal of its first ARRAY or RECORD
+  -- returns the fields that the declarations of a block declare, in text order; `k` is the ordinal of the block's first
+  -- ARRAY or RECORD
   pub declared_in_block : ℕ → Tree ℕ block → List FieldName
   declared_in_block k (has_body (declares cs ts vs ps) statements) =
       fields_in_types k (section_types ts)
@@ -73,33 +75,34 @@ abbrev mutual
       (section_variables vs)
       ++ declared_in_procedures (constructor_after_variables k (has_body (declares cs ts vs ps) statements)) ps)
 
-  -- returns the fields that procedures declare, in text order
+  -- returns the fields that procedures declare, in text order; `k` is the ordinal of their first ARRAY or RECORD
   pub declared_in_procedures : ℕ → Tree ℕ (items procedure) → List FieldName
   declared_in_procedures k end = []
   declared_in_procedures k (more p rest) =
       declared_in_procedure k p ++ declared_in_procedures (k + procedure_constructor_count p) rest
 
-  -- returns the fields that a procedure declares: its parameters' fields, then its block's fields
+  -- returns the fields that a procedure declares: its parameters' fields, then its block's fields; `k` is the ordinal
+  -- of the procedure's first ARRAY or RECORD
   pub declared_in_procedure : ℕ → Tree ℕ (item procedure) → List FieldName
   declared_in_procedure k (declares_procedure x fs b closing) =
       fields_in_sections k (formal_sections fs)
       ++ declared_in_block (constructor_after_formals k (declares_procedure x fs b closing)) b
 
--- returns all fields that a module declares
+-- returns the identifiers that declare a field in a module, in text order
 abbrev pub declared_fields : ParsedModule → List FieldName
 declared_fields m = declared_in_block 0 (module_block (tree_of m))
 
--- returns the first token of a list; None if the list is empty
+-- returns the first token index of a list; None if the list is empty
 abbrev pub first : List ℕ → Option ℕ
 first [] = None
 first (token ∷ tokens) = Some token
 
--- returns the token that declares the field `x` of the record with ordinal `k`; None if the record
--- has no such field
+-- returns the index of the token that declares the field `x` of the record with ordinal `k`; None if the record has no
+-- such field
 abbrev pub field_declaring_token : ParsedModule → ℕ → Name → Option ℕ
 field_declaring_token m k x = first (tokens_of_field m.source k x (declared_fields m))
 
--- returns the tokens of those identifiers in a list that belong to the record with ordinal `k`
+-- returns the token indexes of the field identifiers in a list that belong to the record with ordinal `k`
 abbrev pub field_tokens_of_record : ℕ → List FieldName → List ℕ
 field_tokens_of_record k [] = []
 field_tokens_of_record k (found ∷ rest) =
@@ -114,8 +117,8 @@ field_index_in_record m k x =
 
 -- ---- laws
 
--- Renaming the field `f` of the record with ordinal `k` in a well-typed module gives the name `new`
--- to the identifiers at the field's tokens. All other names are unchanged.
+-- States that renaming the field `f` of the record with ordinal `k` in a well-typed module changes only the identifiers
+-- at the field's tokens. These identifiers get the name `new`.
 abbrev pub RenamingChangesFieldTokens : Type 0
 RenamingChangesFieldTokens =
     (r : Resolution) (k : ℕ) (f new : Name)
@@ -126,16 +129,16 @@ RenamingChangesFieldTokens =
     then new
     else text_at r.module_read.source i) (value_at r.module_read.source) (tree_of r.module_read)
 
--- The new name `new` for the field `f` of a record is a duplicate exactly if two conditions hold:
--- `new` differs from `f`, and a token declares a field `new` of the record.
+-- States that the new name `new` for the field `f` of a record is a duplicate exactly if two conditions hold: `new`
+-- differs from `f`, and a token declares a field `new` of the same record.
 abbrev pub DuplicateHasDeclaringToken : Type 0
 DuplicateHasDeclaringToken =
     (m : ParsedModule) (k : ℕ) (f new : Name)
     → is_duplicate_field (named_tree_of m) k f new
     ≡ (not (same_name new f) && is_some (field_declaring_token m k new))
 
--- Each field identifier of a well-typed module has a declaration: there is a token that declares a
--- field with the same name in the same record.
+-- States that each field identifier of a well-typed module has a declaration: a token declares a field with the same
+-- name in the same record.
 abbrev pub FieldsAreDeclared : Type 0
 FieldsAreDeclared =
     (r : Resolution) → IsResolution r → WellTyped (named_tree_of r.module_read)
@@ -143,8 +146,8 @@ FieldsAreDeclared =
     (λ x. is_some (field_declaring_token r.module_read x.owner (text_at r.module_read.source x.token))
     ≡ true) (field_identifiers r)
 
--- returns the tokens of the identifiers that have the role of a field name: they declare a field in
--- a record, or they select one
+-- returns the token indexes of the identifiers that have the role of a field name: they declare a field in a record, or
+-- they select a field
 abbrev pub field_role_tokens : List (Role × ℕ) → List ℕ
 field_role_tokens [] = []
 field_role_tokens ((role.FieldName, token) ∷ rest) = token ∷ field_role_tokens rest
@@ -153,8 +156,8 @@ field_role_tokens ((role.LookedUp, token) ∷ rest) = field_role_tokens rest
 field_role_tokens ((role.ClosingName, token) ∷ rest) = field_role_tokens rest
 field_role_tokens ((role.ModuleName, token) ∷ rest) = field_role_tokens rest
 
--- The field identifiers of a well-typed module are exactly the identifiers that have the role of a
--- field name by the grammar, in text order.
+-- States that the field identifiers of a well-typed module are exactly the identifiers that are field names according
+-- to the grammar, in text order.
 abbrev pub FieldsMatchGrammar : Type 0
 FieldsMatchGrammar =
     (r : Resolution) → IsResolution r → WellTyped (named_tree_of r.module_read)

@@ -1,6 +1,6 @@
--- The identifiers of a text, in text order, each with its owner. The owner of a field identifier is
--- the ordinal of the field's record; any other identifier has none. The trees in this file have the
--- index of a token for each name.
+-- The identifiers of a text, in text order, each with its owner. The owner of a field identifier is the ordinal of the
+-- field's record: the number of words ARRAY and RECORD before the record. Any other identifier has no owner. In the
+-- trees of this file, each name is given by the index of its token.
 -- Rule: docs/LANGUAGE.md, Scopes 7.
 use Rattle.std.specs.Prelude.{◌≡◌, ℕ, suc, ◌+◌, List, [], ◌∷◌, ◌++◌, map, Some, None, Option, option_and_then, option_map, length, replicate, set}
 use Rattle.ob0_tree.specs.declared.tree.Role.{Role}
@@ -21,16 +21,16 @@ use Rattle.ob0_language_values.specs.Values.{Shape, integer_shape}
 use Rattle.ob0_types_fields.specs.declared.field_name.FieldName.{FieldName}
 use Rattle.ob0_types_fields.specs.Owners.{IsOwnerTable}
 
--- returns the tokens of these identifiers, each without an owner
+-- returns the token indexes of the identifiers in a list, each without an owner
 abbrev pub unowned_identifiers : List (Role × ℕ) → List (ℕ × Option ℕ)
 unowned_identifiers xs = map (λ x. (x.1, None)) xs
 
--- returns the identifiers of a tree that has no fields, each without an owner
+-- returns the token indexes of the identifiers in a tree that has no fields, each without an owner
 abbrev pub identifiers_without_owners : {s : Sort} → Tree ℕ s → List (ℕ × Option ℕ)
 identifiers_without_owners t = unowned_identifiers (identifiers role.Declaring t)
 
--- returns the type of a designator after one more selector, given the type `s` before this
--- selector; None if the selector doesn't fit the type
+-- returns the type of a designator including one more selector; `s` is the type before this selector; returns None if
+-- the selector doesn't fit that type
 abbrev pub type_after_selector : {P : Type 0} {i : Item}
     → Meanings ℕ Shape P
     → Option Shape
@@ -40,14 +40,14 @@ type_after_selector m s (field x) = option_and_then (λ t. field_type t (m.writt
 type_after_selector m s (index e) = option_and_then (λ t. element_type t integer_shape) s
 type_after_selector m s _ = s
 
--- returns the ordinal of the record in which the name `x` selects a field, given the type before
--- the selector; None if that type has no such field
+-- returns the ordinal of the record in which the name `x` selects a field; the first argument is the type before the
+-- selector; returns None if that type is unknown or has no field `x`
 abbrev pub owner : Option Shape → Name → Option ℕ
 owner None x = None
 owner (Some s) x = option_map (λ f. f.ordinal) (field_selected s x)
 
--- Returns the identifiers of a statement or a part of a statement, with their owners. If the part
--- is a selector or a list of selectors, `s` is the type before it.
+-- Returns the identifiers of a statement or a part of a statement, with their owners. If the part is a selector or a
+-- list of selectors, `s` is the type of the designator before this part.
 abbrev pub owners_in_tree : {P : Type 0} {s : Sort}
     → Meanings ℕ Shape P
     → Option Shape
@@ -87,8 +87,8 @@ owners_in_tree m s (else_branch a) = owners_in_tree m None a
 owners_in_tree m s (begins a) = owners_in_tree m None a
 owners_in_tree m s t = identifiers_without_owners t
 
--- Returns the identifiers of a type with their owners. `k` is the ordinal of the first ARRAY or
--- RECORD of the part, and `r` is the ordinal of the record that a group belongs to.
+-- Returns the identifiers of a type or of a part of a type, with their owners. `k` is the ordinal of the first ARRAY or
+-- RECORD of this part. `r` is the ordinal of the record that a group of fields belongs to.
 abbrev mutual
   -- returns the identifiers of a written type: its name, the identifiers in an array's length and
   -- element type, or the identifiers in a record's groups of fields
@@ -104,7 +104,8 @@ abbrev mutual
   owners_in_group r k no_fields = []
   owners_in_group r k (some_fields ns t) = map (λ x. (x, Some r)) (names_in_list ns) ++ owners_in_type k t
 
-  -- returns the identifiers of further groups of fields of the record `r`, with their owners
+  -- returns the identifiers in a record's groups of fields after the first group, with their owners; the record has
+  -- ordinal `r`
   pub owners_in_groups : ℕ → ℕ → Tree ℕ (items further_fields) → List (ℕ × Option ℕ)
   owners_in_groups r k end = []
   owners_in_groups r k (more (then_fields g) rest) =
@@ -142,7 +143,7 @@ abbrev pub owners_in_section : ℕ → Tree ℕ section → List (ℕ × Option 
 owners_in_section k (value_section ns u) = identifiers_without_owners ns ++ owners_in_type k u
 owners_in_section k (variable_section ns u) = identifiers_without_owners ns ++ owners_in_type k u
 
--- returns the identifiers of further sections of parameters with their owners; `k` is the ordinal
+-- returns the identifiers of the sections of parameters after the first section, with their owners; `k` is the ordinal
 -- of their first ARRAY or RECORD
 abbrev pub owners_in_sections : ℕ → Tree ℕ (items further_section) → List (ℕ × Option ℕ)
 owners_in_sections k end = []
@@ -157,10 +158,11 @@ owners_in_formals k (one no_formals) = []
 owners_in_formals k (one (some_formals f fs)) =
     owners_in_section k f ++ owners_in_sections (k + constructor_count (section_type f)) fs
 
--- Returns the identifiers of a block or of procedures, with their owners. `k` is the ordinal of the
--- first ARRAY or RECORD of the part.
+-- Returns the identifiers of a block or of procedures, with their owners. `k` is the ordinal of the first ARRAY or
+-- RECORD of the block or the procedures.
 abbrev mutual
-  -- returns the identifiers of a block: of its declarations, and then of its statements
+  -- returns the identifiers of a block with their owners: first the identifiers in its declarations, then the
+  -- identifiers in its statements
   pub owners_in_block : {P : Type 0} → Meanings ℕ Shape P → ℕ → Tree ℕ block → List (ℕ × Option ℕ)
   owners_in_block m k (has_body (declares cs ts vs ps) statements) =
       (identifiers_without_owners cs ++ (owners_in_type_section k ts
@@ -168,7 +170,7 @@ abbrev mutual
       ++ owners_in_procedures m (constructor_after_variables k (has_body (declares cs ts vs ps) statements)) ps)))
       ++ owners_in_tree m None statements
 
-  -- returns the identifiers of the procedures of a block, in text order
+  -- returns the identifiers of the procedures of a block with their owners, in text order
   pub owners_in_procedures : {P : Type 0}
       → Meanings ℕ Shape P
       → ℕ
@@ -178,7 +180,8 @@ abbrev mutual
   owners_in_procedures m k (more p rest) =
       owners_in_procedure m k p ++ owners_in_procedures m (k + procedure_constructor_count p) rest
 
-  -- returns the identifiers of a procedure: its name, its parameters, its block and its closing name
+  -- returns the identifiers of a procedure with their owners: its name, then the identifiers in its parameters and its
+  -- block, then its closing name
   pub owners_in_procedure : {P : Type 0}
       → Meanings ℕ Shape P
       → ℕ
@@ -190,15 +193,15 @@ abbrev mutual
       ++ (owners_in_block m (constructor_after_formals k (declares_procedure x fs b closing)) b
       ++ ((closing, None) ∷ [])))
 
--- returns the identifiers of a module with their owners
+-- returns the identifiers of a module with their owners, in text order
 abbrev pub owners_in_module : {P : Type 0}
     → Meanings ℕ Shape P
     → Tree ℕ module_text
     → List (ℕ × Option ℕ)
 owners_in_module m (is_module x b closing) = (x, None) ∷ (owners_in_block m 0 b ++ ((closing, None) ∷ []))
 
--- Returns the meanings of the names in a resolved module; a name is given by its token. `objects`
--- has the object of each ordinal. A token that isn't bound has no object.
+-- Returns the meanings of the names in a resolved module. Each name is given by the index of its token. `objects` gives
+-- the object of the declaration with an ordinal. A token that isn't bound to a declaration has no object.
 abbrev pub meanings_by_token : (ℕ → Option (Object Shape Signature))
     → Resolution
     → Meanings ℕ Shape Signature
@@ -209,20 +212,20 @@ meanings_by_token objects r =
       written = λ token. text_at r.module_read.source token;
     }
 
--- returns the identifiers of a resolved module with their owners
+-- returns the identifiers of a resolved module with their owners, in text order
 abbrev pub owners_in_resolution : Resolution → List (ℕ × Option ℕ)
 owners_in_resolution r =
     owners_in_module (meanings_by_token (declared_object (named_tree_of r.module_read)) r)
     (tree_of r.module_read)
 
--- holds if the table gives each listed token the owner that the list has for it
+-- states that, for each token in the list, the table and the list give the same owner
 abbrev pub GivesListedOwners : (ℕ → Option ℕ) → List (ℕ × Option ℕ) → Type 0
 GivesListedOwners table [] = Unit {0}
 GivesListedOwners table (x ∷ xs) = (table x.0 ≡ x.1) × GivesListedOwners table xs
 
--- Suppose that a table has, for each identifier of a well-typed module, the owner that the list
--- `owners_in_resolution` has. Then it has the owners of all fields of the module (`IsOwnerTable`).
--- The reason is that a name has, at each place, the object of its declaration.
+-- States that a table has the owners of all fields of a well-typed module (`IsOwnerTable`) if it agrees with the list
+-- `owners_in_resolution`. For each identifier in the list, the table and the list must give the same owner. This holds
+-- because at each place a name means the object of its declaration.
 abbrev pub ListedOwnersAreComplete : Type 0
 ListedOwnersAreComplete =
     (r : Resolution) (owners : List (Option ℕ))
@@ -237,13 +240,14 @@ fields_with_owners [] = []
 fields_with_owners ((x, None) ∷ xs) = fields_with_owners xs
 fields_with_owners ((x, Some k) ∷ xs) = record { token = x; owner = k } ∷ fields_with_owners xs
 
--- returns the table after the owner of each of these fields is entered at the field's token
+-- returns the table after the owner of each of the listed field identifiers is entered at the index of the identifier's
+-- token
 abbrev pub table_with_owners : List (Option ℕ) → List FieldName → List (Option ℕ)
 table_with_owners table [] = table
 table_with_owners table (f ∷ fs) = table_with_owners (set table f.token (Some f.owner)) fs
 
--- If the field identifiers of a well-typed module are entered in a table without owners, the table
--- has the owners of all fields of this module. It has one entry for each token.
+-- States that a table has the owners of all fields of a well-typed module after the module's field identifiers are
+-- entered in it. Before that, the table has one entry for each token and no owners.
 abbrev pub FieldsGiveAllOwners : Type 0
 FieldsGiveAllOwners =
     (r : Resolution)
@@ -260,9 +264,10 @@ abbrev pub field_if_owned : ℕ → Option ℕ → List FieldName
 field_if_owned x None = []
 field_if_owned x (Some k) = record { token = x; owner = k } ∷ []
 
--- Returns the fields that statements select.
+-- Returns the field identifiers in statements.
 abbrev mutual
-  -- returns the fields in a statement or a part of a statement, in text order
+  -- returns the field identifiers in a statement or a part of a statement, in text order; parts without fields give an
+  -- empty list
   pub fields_in_tree : {P : Type 0} {s : Sort} → Meanings ℕ Shape P → Tree ℕ s → List FieldName
   fields_in_tree m none = []
   fields_in_tree m (one a) = fields_in_tree m a
@@ -297,8 +302,7 @@ abbrev mutual
   fields_in_tree m (begins a) = fields_in_tree m a
   fields_in_tree m t = []
 
-  -- returns the fields in a designator's selectors, in text order; `s` is the type before the first
-  -- selector
+  -- returns the field identifiers in a designator's selectors, in text order; `s` is the type before the first selector
   pub fields_in_path : {P : Type 0}
       → Meanings ℕ Shape P
       → Option Shape
@@ -311,26 +315,28 @@ abbrev mutual
   fields_in_path m s (more (index e) rest) =
       fields_in_tree m e ++ fields_in_path m (option_and_then (λ t. element_type t integer_shape) s) rest
 
--- returns the fields of the record `r` that the names at these tokens declare
+-- returns the names at these tokens as field identifiers of the record with ordinal `r`
 abbrev pub fields_at_tokens : ℕ → List ℕ → List FieldName
 fields_at_tokens r xs = map (λ x. record { token = x; owner = r }) xs
 
--- Returns the fields that a written type declares. `k` is the ordinal of the first ARRAY or RECORD
--- of the part, and `r` is the ordinal of the record that a group belongs to.
+-- Returns the fields that a written type or a part of it declares. `k` is the ordinal of the first ARRAY or RECORD of
+-- this part. `r` is the ordinal of the record that a group of fields belongs to.
 abbrev mutual
-  -- returns the fields that a written type declares; an array's length declares none
+  -- returns the fields that a written type declares, in text order; an array's length declares no fields
   pub fields_in_type : ℕ → Tree ℕ written_type → List FieldName
   fields_in_type k (named_type x) = []
   fields_in_type k (array_type e t) = fields_in_type (suc k) t
   fields_in_type k (record_type g rest) =
       fields_in_group k (suc k) g ++ fields_in_groups k (suc k + group_constructor_count g) rest
 
-  -- returns the fields of a group, which belong to the record `r`, and the fields that their type declares
+  -- returns the fields of a group, which belong to the record with ordinal `r`, then the fields that the group's type
+  -- declares
   pub fields_in_group : ℕ → ℕ → Tree ℕ fields → List FieldName
   fields_in_group r k no_fields = []
   fields_in_group r k (some_fields ns t) = fields_at_tokens r (names_in_list ns) ++ fields_in_type k t
 
-  -- returns the fields that further groups of the record `r` declare
+  -- returns the fields that a record's groups of fields after the first group declare, in text order; the record has
+  -- ordinal `r`
   pub fields_in_groups : ℕ → ℕ → Tree ℕ (items further_fields) → List FieldName
   fields_in_groups r k end = []
   fields_in_groups r k (more (then_fields g) rest) =
@@ -358,7 +364,7 @@ fields_in_sections k (more (then_section f) fs) =
     fields_in_type k (section_type f) ++ fields_in_sections (k + constructor_count (section_type f)) fs
 
 abbrev mutual
-  -- returns the fields that a block declares and selects; `k` is the ordinal of its first ARRAY or RECORD
+  -- returns the fields that a block declares and selects; `k` is the ordinal of the block's first ARRAY or RECORD
   pub fields_in_block : {P : Type 0} → Meanings ℕ Shape P → ℕ → Tree ℕ block → List FieldName
   fields_in_block m k (has_body (declares cs ts vs ps) statements) =
       (fields_in_types k (section_types ts)
@@ -378,8 +384,8 @@ abbrev mutual
   fields_in_procedures m k (more p rest) =
       fields_in_procedure m k p ++ fields_in_procedures m (k + procedure_constructor_count p) rest
 
-  -- returns the fields of a procedure: its parameters' fields, then its block's fields; `k` is the
-  -- ordinal of its first ARRAY or RECORD
+  -- returns the fields of a procedure: its parameters' fields, then its block's fields; `k` is the ordinal of the
+  -- procedure's first ARRAY or RECORD
   pub fields_in_procedure : {P : Type 0}
       → Meanings ℕ Shape P
       → ℕ
@@ -389,11 +395,11 @@ abbrev mutual
       fields_in_sections k (formal_sections fs)
       ++ fields_in_block m (constructor_after_formals k (declares_procedure x fs b closing)) b
 
--- returns the fields that a module declares and selects
+-- returns the field identifiers of a module that a walk over its tree finds, in text order
 abbrev pub fields_in_module : {P : Type 0} → Meanings ℕ Shape P → Tree ℕ module_text → List FieldName
 fields_in_module m (is_module x b closing) = fields_in_block m 0 b
 
--- The code's walk finds exactly the identifiers of a module that have an owner.
+-- States that the code's walk over a module finds exactly the identifiers that have an owner, in the same order.
 abbrev pub WalkFindsAllFields : Type 0
 WalkFindsAllFields =
     (r : Resolution)

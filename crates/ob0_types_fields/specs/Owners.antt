@@ -1,4 +1,5 @@
--- Tables that give the record of each field identifier of a text, by the identifier's token.
+-- Tables that give the record of each field identifier of a text. The index into a table is the
+-- index of the identifier's token.
 -- Rule: none; for contracts: which record a field's token belongs to.
 use Rattle.std.specs.Prelude.{◌≡◌, ℕ, Bool, ◌&&◌, List, Option, Some, None, if◌then◌else◌}
 use Rattle.ob0_scan.specs.TextWithTokens.{TextWithTokens}
@@ -11,15 +12,16 @@ use Rattle.ob0_language_names.specs.Scopes.{same_ordinal}
 use Rattle.ob0_language_fields.specs.Fields.{FieldRenaming, rename_fields_in_module}
 use Rattle.ob0_language_fields.specs.Renaming.{with_renamed_field}
 
--- Returns the new name of a field: `l k x` for the field `x` of the record with ordinal `k`. If the
--- record isn't known, the name is unchanged.
+-- Returns a renaming of fields. The field `x` of the record with ordinal `k` gets the name `l k x`.
+-- If the record isn't known (None), the field keeps its name.
 abbrev pub field_names_by_record : (ℕ → Name → Name) → FieldRenaming
 field_names_by_record l None x = x
 field_names_by_record l (Some k) x = l k x
 
--- Holds if the table has, at each token that declares or selects a field, the ordinal of the
--- field's record. This is stated by renaming: for any new names `l` of fields, renaming the fields
--- of the module is the same as renaming each token according to the table.
+-- States that the table `owners` has, at each token that declares or selects a field, the ordinal
+-- of the field's record. The statement is made by renaming: for any new names `l` of fields, two
+-- trees are equal. One is the module's tree with its fields renamed. The other is the module's tree
+-- with the name at each token renamed according to the table.
 abbrev pub IsOwnerTable : ParsedModule → List (Option ℕ) → Type 0
 IsOwnerTable m owners =
     (l : ℕ → Name → Name)
@@ -27,13 +29,15 @@ IsOwnerTable m owners =
     ≡ mapped (λ i. field_names_by_record l (ordinal_in owners i) (text_at m.source i)) (value_at m.source)
     (tree_of m)
 
--- returns true if the token declares or selects the field `f` of the record with ordinal `r`
+-- returns whether the token with index `i` declares or selects the field `f` of the record with
+-- ordinal `r`, according to the table `owners`
 abbrev pub is_token_of_field : TextWithTokens → List (Option ℕ) → ℕ → Name → ℕ → Bool
 is_token_of_field source owners r f i =
     same_ordinal (ordinal_in owners i) r && same_name (text_at source i) f
 
--- Renaming the field `f` of the record `r` gives the name `new` to the identifiers at the field's
--- tokens and changes nothing else. The field's tokens are given by a table of owners.
+-- States that renaming the field `f` of the record with ordinal `r` to `new` changes only the
+-- identifiers at the field's tokens. These identifiers get the name `new`. The table `owners`
+-- determines which tokens belong to the field.
 abbrev pub RenamingFollowsOwners : Type 0
 RenamingFollowsOwners =
     (m : ParsedModule) (owners : List (Option ℕ)) (r : ℕ) (f new : Name) → IsOwnerTable m owners

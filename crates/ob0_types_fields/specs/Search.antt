@@ -15,31 +15,35 @@ use Rattle.ob0_types_fields.specs.declared.field_types.TypedField as code
 use Rattle.ob0_types_fields.specs.FieldTypes.{TypedField}
 use Rattle.ob0_types_fields.specs.Owned.{meanings_by_token}
 
--- the state of a search: the type that was found, or the number of words ARRAY and RECORD still to skip
+-- the state of a search: the type that was found (None if it is unknown), or the number of words ARRAY and RECORD still
+-- to skip
 pub data SearchState : Type 0 where
   is_found : Option Shape → SearchState
   is_after : ℕ → SearchState
 
--- returns the state of the search after one more ARRAY or RECORD, which constructs the type `t`
+-- returns the state of the search after one more ARRAY or RECORD; this word constructs the type `t`, or an unknown type
+-- if `t` is None
 abbrev pub after_constructor : SearchState → Option Shape → SearchState
 after_constructor (is_found found) t = is_found found
 after_constructor (is_after n) t = if n == 0 then is_found t else is_after (n - 1)
 
--- returns the state of the search after several words ARRAY and RECORD, which construct these types
+-- returns the state of the search after several words ARRAY and RECORD; the list has the types that these words
+-- construct, with None for an unknown type
 abbrev pub after_constructors : SearchState → List (Option Shape) → SearchState
 after_constructors s [] = s
 after_constructors s (t ∷ ts) = after_constructors (after_constructor s t) ts
 
--- returns the found type; None if the search has found no word or a word with an unknown type
+-- returns the found type; None if the word isn't found yet or constructs an unknown type
 abbrev pub found_type : SearchState → Option Shape
 found_type (is_found found) = found
 found_type (is_after n) = None
 
--- returns the meanings of names according to the walk's table; each name is given by its token
+-- returns the meanings of names according to the walk's table of declarations; each name is given by the index of its
+-- token
 abbrev pub constructor_walk_meanings : ConstructorWalk → Meanings ℕ Shape Signature
 constructor_walk_meanings w = meanings_by_token (declared_object_in w.known.now) w.resolved.now
 
--- returns the shape of a type of the walk's table; None for None
+-- returns the shape of a type in the walk's table of declarations; None if there is no type
 abbrev pub shape_in_walk : ConstructorWalk → Option TypeId → Option Shape
 shape_in_walk w of = option_map (type_shape (shapes_of w.known.now)) of
 
@@ -49,8 +53,8 @@ abbrev pub search_view : List Shape → Search → SearchState
 search_view shapes (search.Found of) = is_found (option_map (type_shape shapes) of)
 search_view shapes (search.Before n) = is_after n
 
--- converts a state of the code's search to a state of the definitions, with the shapes of the
--- walk's table
+-- converts a state of the code's search to a state of the definitions; the shapes of arrays and records are taken from
+-- the walk's table of declarations
 abbrev pub search_view_in_walk : ConstructorWalk → Search → SearchState
 search_view_in_walk w s = search_view (shapes_of w.known.now) s
 

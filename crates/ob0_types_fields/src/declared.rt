@@ -14,7 +14,8 @@ use ob0_tree::{
 };
 use std::alloc::AllocError;
 
-/// Appends a field for each of the listed names. They belong to the record with ordinal `owner`.
+/// Appends one field identifier for each of the listed names. The fields belong to the record with
+/// ordinal `owner`.
 fn add_named_fields(
     found: &mut FieldNameList,
     owner: usize,
@@ -32,8 +33,8 @@ fn add_named_fields(
     Ok(())
 }
 
-/// Returns the ordinal of the next word ARRAY or RECORD, and then adds 1 to `made`. The ordinal is
-/// `made`, the number of such words so far. Returns an error if the sum doesn't fit 64 bits; no
+/// Returns the ordinal of the next word ARRAY or RECORD: the old value of `made`, the number of
+/// such words so far. Then adds 1 to `made`. Returns an error if the sum doesn't fit in 64 bits. No
 /// text is long enough for that.
 fn take_next_ordinal(made: &mut usize) -> Result<usize, AllocError>
     ensures { MatchResult result (λ n. (n ≡ made.old) × (made.new ≡ made.old + 1))
@@ -49,8 +50,8 @@ fn take_next_ordinal(made: &mut usize) -> Result<usize, AllocError>
     }
 }
 
-/// Appends the fields that a written type declares. `made` counts the words ARRAY and RECORD before
-/// the type. The words in the type are added to it.
+/// Appends the fields that a written type declares. `made` counts the words ARRAY and RECORD that
+/// precede the type in the module. On return, `made` also counts the words in the type.
 #[cycle(types)]
 pub(crate) fn add_type_fields(
     found: &mut FieldNameList,
@@ -73,7 +74,8 @@ pub(crate) fn add_type_fields(
 }
 
 /// Appends the fields that a record type declares, including the fields of records inside it.
-/// `made` counts the words ARRAY and RECORD before the type. The words in the type are added to it.
+/// `made` counts the words ARRAY and RECORD that precede the type in the module. On return, `made`
+/// also counts the words in the type.
 #[cycle(types)]
 fn add_record_fields(
     found: &mut FieldNameList,
@@ -92,9 +94,10 @@ fn add_record_fields(
     Ok(())
 }
 
-/// Appends the fields of one group, and the fields that the group's type declares. `owner` is the
-/// ordinal of the group's record. `made` counts the words ARRAY and RECORD before the group. The
-/// words in the group are added to it.
+/// Appends the fields of one group (`x, y: T`), then the fields that the group's type declares.
+/// `owner` is the ordinal of the record that contains the group. `made` counts the words ARRAY and
+/// RECORD that precede the group in the module. On return, `made` also counts the words in the
+/// group.
 #[cycle(types)]
 fn add_group_fields(
     found: &mut FieldNameList,
@@ -117,8 +120,9 @@ fn add_group_fields(
     }
 }
 
-/// Appends the fields that the TYPE section of a block declares. `made` counts the words ARRAY and
-/// RECORD before the section. The words in the section are added to it.
+/// Appends the fields that the TYPE section of a block declares. Appends nothing if the block has
+/// no such section. `made` counts the words ARRAY and RECORD that precede the section in the
+/// module. On return, `made` also counts the words in the section.
 pub(crate) fn add_type_section_fields(
     found: &mut FieldNameList,
     made: &mut usize,
@@ -139,8 +143,9 @@ pub(crate) fn add_type_section_fields(
     Ok(())
 }
 
-/// Appends the fields that the VAR section of a block declares. `made` counts the words ARRAY and
-/// RECORD before the section. The words in the section are added to it.
+/// Appends the fields that the VAR section of a block declares. Appends nothing if the block has no
+/// such section. `made` counts the words ARRAY and RECORD that precede the section in the module.
+/// On return, `made` also counts the words in the section.
 pub(crate) fn add_variable_section_fields(
     found: &mut FieldNameList,
     made: &mut usize,
@@ -162,8 +167,9 @@ pub(crate) fn add_variable_section_fields(
     Ok(())
 }
 
-/// Appends the fields that formal parameters declare. `made` counts the words ARRAY and RECORD
-/// before the parameters. The words in the parameters are added to it.
+/// Appends the fields that the types of formal parameters declare. Appends nothing if there is no
+/// parameter list. `made` counts the words ARRAY and RECORD that precede the parameters in the
+/// module. On return, `made` also counts the words in the parameters.
 pub(crate) fn add_formal_fields(
     found: &mut FieldNameList,
     made: &mut usize,

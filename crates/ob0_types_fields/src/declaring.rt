@@ -11,7 +11,8 @@ use ob0_tree::{Block, Procedure};
 use std::alloc::AllocError;
 
 /// Appends the fields that a block and its procedures declare. `made` counts the words ARRAY and
-/// RECORD before the block. The words in the block are added to it.
+/// RECORD that precede the block in the module. On return, `made` also counts the words in the
+/// block.
 #[cycle(blocks)]
 pub(crate) fn add_block_declared_fields(
     found: &mut FieldNameList,
@@ -32,7 +33,8 @@ pub(crate) fn add_block_declared_fields(
 }
 
 /// Appends the fields that a procedure declares in its parameters and its block. `made` counts the
-/// words ARRAY and RECORD before the procedure. The words in the procedure are added to it.
+/// words ARRAY and RECORD that precede the procedure in the module. On return, `made` also counts
+/// the words in the procedure.
 #[cycle(blocks)]
 fn add_procedure_declared_fields(
     found: &mut FieldNameList,

@@ -1,22 +1,23 @@
 //! Lists of the fields of a module, and look-ups in these lists.
 //!
-//! `check` of `ob0_types` makes the lists once for each module. It walks the declarations first. If
-//! no field is declared, the walk over the whole module is skipped, because every selected field is
-//! declared (`fields_are_declared`). So a module without RECORD costs only the walk over its
-//! declarations. The laws about fields require that the module is well-typed.
+//! `check` of `ob0_types` makes the lists once for each module. `check` walks the declarations
+//! first. If no field is declared, the walk over the whole module is skipped, because every
+//! selected field is declared (`fields_are_declared`). So a module without RECORD costs only the
+//! walk over its declarations. The laws about fields require that the module is well-typed.
 //!
-//! If tokens of one body changed, but not their kinds, the body's fields are found again
-//! (`FieldList::with_changed_body`). They are at the same tokens as before, because the grammar
-//! determines which identifiers are fields (`fields_match_grammar`). So each replaces an old one,
-//! and no other field moves.
+//! If tokens of one body have changed, but not their kinds, the body's fields are found again
+//! (`FieldList::with_changed_body`). These fields are at the same tokens as before, because the
+//! grammar determines which identifiers are fields (`fields_match_grammar`). So each found field
+//! replaces an old one, and no other field moves.
 //!
 //! If the statements of one body were replaced, perhaps by a different number of tokens, the body's
-//! fields are also found again (`FieldList::with_replaced_body`). The fields before the body are kept.
-//! The fields after it are moved to the new indexes of their tokens.
+//! fields are also found again (`FieldList::with_replaced_body`). The fields before the body are
+//! kept. The fields after the body get the new indexes of their tokens.
 //!
-//! A list doesn't contain its text, so it may be used with another text. A token that a text
-//! doesn't have gets the empty span at the text's start. So the clause of `FieldList::at` has a
-//! premise (`AreInTextOrder`), which a module's fields satisfy (`fields_ascend`).
+//! A list doesn't contain its text, so a caller may use the list with another text. A token index
+//! that this text doesn't have gets the empty span at the text's start. So the contract of
+//! `FieldList::at` has a premise (`AreInTextOrder`). A module's fields satisfy this premise
+//! (`fields_ascend`).
 
 ghost use Rattle.std.specs.Prelude.{◌≡◌, ◌++◌, List, [], false, true, map, nat_lt, IfOk, OnOk};
 ghost use Rattle.std.specs.List.{position_from};
@@ -44,7 +45,8 @@ use ob0_types_table::DeclarationTable;
 use std::alloc::{AllocError, Global};
 use std::marker::Model;
 
-/// The field identifiers of a module, in text order: those that declare a field, and all of them.
+/// Two lists of field identifiers of a module, each in text order. `declared` has the identifiers
+/// that declare a field. `all` also has the identifiers that select a field.
 #[derive(Drop)]
 pub struct FieldList {
     declared: FieldNameList,
@@ -60,7 +62,7 @@ impl Model for FieldList {
 }
 
 impl FieldList {
-    /// Returns an empty list.
+    /// Returns two empty lists.
     pub fn empty(alloc: Global) -> FieldList
         ensures { result.all ≡ [] }
     {
@@ -70,8 +72,9 @@ impl FieldList {
         }
     }
 
-    /// Returns the lists of a module's fields, using the table of its declarations. If no field is
-    /// declared, both lists are empty, and the search for selected fields is skipped.
+    /// Returns the two lists of a module's field identifiers. `known` is the table of the module's
+    /// declarations. If no field is declared, both lists are empty, and the search for selected
+    /// fields is skipped.
     pub fn of<'a, 't>(
         alloc: Global,
         known: &'a DeclarationTable,
@@ -84,9 +87,9 @@ impl FieldList {
         Ok(FieldList { declared, all })
     }
 
-    /// Returns the lists for a text in which tokens of one body's statements have changed, but not
-    /// the number of tokens. The fields that these statements select are found again and replace
-    /// the old fields at the same tokens.
+    /// Returns the two lists for a changed text. In one body's statements some tokens differ from
+    /// the old text, but the number of tokens is the same. The fields that these statements select
+    /// are found again. They replace the old fields at the same tokens.
     pub fn with_changed_body<'a, 't>(
         self,
         alloc: Global,
@@ -110,11 +113,11 @@ impl FieldList {
         Ok(FieldList { declared, all })
     }
 
-    /// Returns the lists for a text in which the statements of one body were replaced. `place` is
-    /// the place of the new body, and `same` has the unchanged tokens. Fields before the body's
-    /// first identifier are kept. Fields from the block's closing name onwards are moved to the new
-    /// indexes of their tokens, which are at most 2^64 - 1. The fields in the new statements are
-    /// found by a walk.
+    /// Returns the two lists for a changed text, in which the statements of one body were replaced.
+    /// `place` is the place of the body in the changed text, and `same` specifies the unchanged
+    /// tokens. Fields before the body's first identifier are kept. Fields after the body get the
+    /// new indexes of their tokens, which are at most 2^64 - 1. A walk finds the fields in the new
+    /// statements.
     pub fn with_replaced_body<'a, 't>(
         self,
         alloc: Global,
@@ -146,8 +149,9 @@ impl FieldList {
         Ok(FieldList { declared, all })
     }
 
-    /// Returns the field identifier that contains a byte offset or ends there. Returns None if
-    /// there is none. `tokens` must be the tokens of the text that has these fields.
+    /// Returns the first field identifier that contains the byte offset `offset` or ends there.
+    /// Returns None if there is none. `tokens` must be the tokens of the text that has these
+    /// fields.
     pub fn at(&self, tokens: &Tokens, offset: usize) -> Option<FieldName>
         ensures { AreInTextOrder tokens.now self.now.all
             → result ≡ field_at_offset tokens.now offset self.now.all }
@@ -155,8 +159,10 @@ impl FieldList {
         field_at_offset(tokens, offset, &self.all)
     }
 
-    /// Returns the tokens of the field `name` of the record with ordinal `owner`, in text order.
-    /// These are the identifier that declares the field and the identifiers that select it.
+    /// Returns the token indexes of all identifiers that declare or select the field `name` of the
+    /// record with ordinal `owner`. The indexes are in text order. The list is empty if there are
+    /// none. A record's ordinal is the number of words ARRAY and RECORD before the record in the
+    /// text.
     pub fn tokens(
         &self,
         alloc: Global,
@@ -170,16 +176,19 @@ impl FieldList {
         tokens_of_field(alloc, tokens, &self.all, owner, name)
     }
 
-    /// Returns the token that declares the field `name` of the record with ordinal `owner`. Returns
-    /// None if the record has no such field.
+    /// Returns the index of the token that declares the field `name` of the record with ordinal
+    /// `owner`. A record's ordinal is the number of words ARRAY and RECORD before the record in the
+    /// text. Returns None if the record has no such field.
     pub fn declaring_token_of(&self, tokens: &Tokens, owner: usize, name: &str) -> Option<usize>
         ensures { result ≡ first (tokens_of_field tokens.now owner name.now self.now.declared) }
     {
         first_token_of_field(tokens, &self.declared, owner, name)
     }
 
-    /// Returns the position, counted from 0, of the field `name` among the fields of the record
-    /// with ordinal `owner`. Returns None if the record has no such field.
+    /// Returns the position of the field `name` among the fields that the record with ordinal
+    /// `owner` declares. Positions are counted from 0. A record's ordinal is the number of words
+    /// ARRAY and RECORD before the record in the text. Returns None if the record has no such
+    /// field.
     pub fn index_in_record(&self, tokens: &Tokens, owner: usize, name: &str) -> Option<usize>
         ensures { result
             ≡ position_from (λ token. same_name (text_at tokens.now token) name.now) 0
@@ -189,8 +198,8 @@ impl FieldList {
     }
 }
 
-/// Replaces fields of a list by the fields in `found`, if both are at the same tokens and the
-/// replaced fields follow each other in the list.
+/// Replaces fields of the list `all` by the fields in `found`. A replaced field has the same token
+/// as the field that replaces it. The replaced fields must be consecutive in `all`.
 fn replace_at_tokens(all: &mut FieldNameList, found: &[FieldName])
     ensures { (before after : List FieldName) → HasOthersWithin all.old.items before found.now after
         → all.new.items ≡ before ++ (found.now ++ after) }
@@ -204,8 +213,8 @@ fn replace_at_tokens(all: &mut FieldNameList, found: &[FieldName])
     }
 }
 
-/// Returns the number of fields whose tokens come before a token, in a list that is sorted by
-/// token.
+/// Returns the number of fields in the list `all` whose tokens come before `token`. The list must
+/// be sorted by token.
 fn count_before(all: &[FieldName], token: usize) -> usize
     ensures { IsNonDecreasingBy (λ x. x.token) all.now
         → IsPartitionPoint (λ x. nat_lt x.token token ≡ true)
@@ -214,8 +223,8 @@ fn count_before(all: &[FieldName], token: usize) -> usize
     all.partition_point(|field| field.token < token)
 }
 
-/// Overwrites fields of a list by the fields in `found`, starting at the index `start`. Fields that
-/// would lie after the end of the list are ignored.
+/// Overwrites the fields of the list `all` by the fields in `found`, starting at index `start` of
+/// `all`. Fields in `found` that would lie after the end of `all` are ignored.
 fn overwrite_from(all: &mut FieldNameList, start: usize, found: &[FieldName])
     ensures { all.new.items ≡ overwritten_fields all.old.items start found.now }
 {
@@ -228,8 +237,8 @@ fn overwrite_from(all: &mut FieldNameList, start: usize, found: &[FieldName])
     }
 }
 
-/// Returns a token's index after a change, given its index before. The change must have kept this
-/// token. The result is at most 2^64 - 1.
+/// Returns the index of an unchanged token in the new text, given its index `token` in the old
+/// text. `same` specifies the unchanged tokens. The result is at most 2^64 - 1.
 fn new_token_index(token: usize, same: SameTokens) -> usize
     ensures { result ≡ new_token_index same token }
 {
@@ -242,8 +251,8 @@ fn new_token_index(token: usize, same: SameTokens) -> usize
     }
 }
 
-/// Returns the old index of a token that lies after the changed tokens, given its new index. The
-/// result is at most 2^64 - 1.
+/// Returns the index in the old text of a token that lies after the changed tokens, given its index
+/// `token` in the new text. The result is at most 2^64 - 1.
 fn old_token_index(token: usize, same: SameTokens) -> usize
     ensures { result ≡ old_token_index same token }
 {
@@ -252,7 +261,7 @@ fn old_token_index(token: usize, same: SameTokens) -> usize
         .saturating_add(same.old_suffix)
 }
 
-/// Appends the fields whose tokens come before a token.
+/// Appends to `found` the items of the list `fields` whose tokens come before `token`.
 fn add_before(
     found: &mut FieldNameList,
     fields: &[FieldName],
@@ -268,7 +277,8 @@ fn add_before(
     Ok(())
 }
 
-/// Appends the fields whose tokens are at or after a token, with the new indexes of their tokens.
+/// Appends to `found` the items of the list `fields` whose tokens are at or after `token`. Each
+/// appended item has the index of its token in the new text.
 fn add_moved(
     found: &mut FieldNameList,
     fields: &[FieldName],
@@ -290,7 +300,8 @@ fn add_moved(
     Ok(())
 }
 
-/// Returns the fields that a module declares, each with the ordinal of its record.
+/// Returns the identifiers that declare the fields of a module, in text order, each with the
+/// ordinal of its record.
 fn declared_fields(alloc: Global, resolved: &Resolved<'_>) -> Result<FieldNameList, AllocError>
     ensures { IfOk result (λ found. found.items ≡ declared_fields resolved.now.module_read) }
 {
@@ -300,8 +311,8 @@ fn declared_fields(alloc: Global, resolved: &Resolved<'_>) -> Result<FieldNameLi
     Ok(found)
 }
 
-/// Returns all field identifiers of the module. If `declared` is empty, returns an empty list
-/// without a walk over the module.
+/// Returns all field identifiers of a module, in text order. `declared` has the identifiers that
+/// declare a field. If `declared` is empty, returns an empty list without a walk over the module.
 fn all_fields<'a, 't>(
     alloc: Global,
     known: &'a DeclarationTable,

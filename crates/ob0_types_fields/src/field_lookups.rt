@@ -1,4 +1,4 @@
-//! Look-ups in a list of field identifiers: by place, and by record and name.
+//! Look-ups in a list of field identifiers: by byte offset, and by record and name.
 
 ghost use Rattle.std.specs.Prelude.{◌≡◌, ◌≤◌, IfOk, None, Some, false, if◌then◌else◌, length, nat_lt, true};
 ghost use Rattle.std.specs.List.{position_from};
@@ -14,9 +14,9 @@ use ob0_scan::{Span, Tokens};
 use ob0_scope_table::{has_spelling, token_span};
 use std::alloc::{AllocError, Global};
 
-/// Returns the first identifier that contains a byte offset or ends there, or None if there is
-/// none. The search is binary, because only the first identifier that doesn't end before the offset
-/// can be the result. The identifiers must be in text order.
+/// Returns the first identifier in the list `found` that contains the byte offset `offset` or ends
+/// there. Returns None if there is none. The list must be in text order. A binary search finds the
+/// first identifier that doesn't end before the offset. No later identifier can be the result.
 pub(crate) fn field_at_offset(
     tokens: &Tokens,
     offset: usize,
@@ -24,7 +24,7 @@ pub(crate) fn field_at_offset(
 ) -> Option<FieldName>
     ensures { AreInTextOrder tokens.now found.now → result ≡ field_at_offset tokens.now offset found.now }
 {
-    // The contract of this call gives the proof the invariant of the tokens.
+    // The proof uses the invariant of the tokens, which this call's contract states.
     let _scanned = tokens.text();
     match found.get(count_ended_before(tokens, offset, found)) {
         Some(field) => field_if_at_offset(tokens, offset, *field),
@@ -32,8 +32,8 @@ pub(crate) fn field_at_offset(
     }
 }
 
-/// Returns the number of identifiers that end before a byte offset, if the list is sorted by the
-/// ends of its identifiers.
+/// Returns the number of identifiers in the list `found` that end before the byte offset `offset`.
+/// The list must be sorted by the ends of its identifiers.
 fn count_ended_before(tokens: &Tokens, offset: usize, found: &[FieldName]) -> usize
     ensures bound { result ≤ length found.now }
     ensures point { IsNonDecreasingBy (λ x. (span_at tokens.now x.token).end) found.now
@@ -43,7 +43,8 @@ fn count_ended_before(tokens: &Tokens, offset: usize, found: &[FieldName]) -> us
     found.partition_point(|field| (token_span(tokens, field.token).end as usize) < offset)
 }
 
-/// Returns an identifier if it contains a byte offset or ends there, otherwise None.
+/// Returns the identifier `field` if it contains the byte offset `offset` or ends there, otherwise
+/// None.
 fn field_if_at_offset(tokens: &Tokens, offset: usize, field: FieldName) -> Option<FieldName>
     ensures { result ≡ (if is_on offset (span_at tokens.now field.token) then Some field else None) }
 {
@@ -54,16 +55,16 @@ fn field_if_at_offset(tokens: &Tokens, offset: usize, field: FieldName) -> Optio
     }
 }
 
-/// Returns true if the byte offset lies within the span or at its end.
+/// Returns whether the byte offset `offset` lies within the span or at the span's end.
 fn is_on(offset: usize, span: Span) -> bool
     ensures { result ≡ is_on offset span }
 {
     span.start as usize <= offset && offset <= span.end as usize
 }
 
-/// Returns the position, counted from 0, of the field `name` among the fields in the list that
-/// belong to the record with ordinal `owner`. Returns None if that record has no field with this
-/// name.
+/// Returns the position of the field `name` among the items of the list `fields` that belong to the
+/// record with ordinal `owner`, counted from 0. A record's ordinal is the number of words ARRAY and
+/// RECORD before the record in the text. Returns None if no such item has this name.
 pub(crate) fn position_in_record(
     tokens: &Tokens,
     fields: &[FieldName],
@@ -86,8 +87,9 @@ pub(crate) fn position_in_record(
     None
 }
 
-/// Returns the tokens, in list order, of the identifiers that belong to the field `name` of the
-/// record with ordinal `owner`.
+/// Returns the token indexes of all identifiers in the list `fields` that belong to the field
+/// `name` of the record with ordinal `owner`. The indexes are in the order of the list. A record's
+/// ordinal is the number of words ARRAY and RECORD before the record in the text.
 pub(crate) fn tokens_of_field(
     alloc: Global,
     tokens: &Tokens,
@@ -107,8 +109,9 @@ pub(crate) fn tokens_of_field(
     Ok(found)
 }
 
-/// Returns the token of the first identifier in the list that belongs to the field `name` of the
-/// record with ordinal `owner`. Returns None if there is none.
+/// Returns the token index of the first identifier in the list `fields` that belongs to the field
+/// `name` of the record with ordinal `owner`. A record's ordinal is the number of words ARRAY and
+/// RECORD before the record in the text. Returns None if there is no such identifier.
 pub(crate) fn first_token_of_field(
     tokens: &Tokens,
     fields: &[FieldName],
@@ -125,7 +128,8 @@ pub(crate) fn first_token_of_field(
     None
 }
 
-/// Returns true if the identifier has this name and belongs to the record with ordinal `owner`.
+/// Returns whether the identifier `field` has the spelling `name` and belongs to the record with
+/// ordinal `owner`.
 fn belongs_to_field(tokens: &Tokens, field: FieldName, owner: usize, name: &str) -> bool
     ensures { result ≡ belongs_to_field tokens.now owner name.now field }
 {

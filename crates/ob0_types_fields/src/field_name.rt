@@ -1,11 +1,12 @@
 //! Identifiers of fields.
 
-/// An identifier that declares or selects a field, with the field's record.
+/// A field identifier: an identifier that declares or selects a field of a record.
 #[derive(Clone, Copy)]
 pub struct FieldName {
-    /// The index of the identifier's token.
+    /// The index of the identifier among the tokens of the text, from 0.
     pub token: usize,
-    /// The ordinal of the record among the words ARRAY and RECORD of the text.
+    /// The ordinal of the field's record: the number of words ARRAY and RECORD that precede the
+    /// record's word RECORD in the text.
     pub owner: usize,
 }
 

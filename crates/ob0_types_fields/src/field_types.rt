@@ -1,14 +1,17 @@
-//! Finds the field of an identifier, with the field's type, in the RECORD that declares the field.
+//! Finds the field that an identifier belongs to, with the field's type, in the RECORD that
+//! declares the field.
 //!
-//! The types of fields aren't stored. The list of fields has the ordinal of each field's record,
-//! and the type is looked up in the RECORD with this ordinal (`typed_field`). To find that RECORD,
-//! a walk visits the module's declarations and counts the words ARRAY and RECORD (`constructed_types`).
-//! It takes the types of declared names from the table, so no array length is evaluated again. Its
-//! contracts don't depend on the ordinals in the table.
+//! The types of fields aren't stored. A field identifier has the ordinal of its record: the number
+//! of words ARRAY and RECORD before the record. The field's type is looked up in the RECORD with
+//! this ordinal (`typed_field`). To find that RECORD, a walk visits the module's declarations and
+//! counts the words ARRAY and RECORD (`constructed_types`). The walk takes the types of declared
+//! names from the table of declarations, so no array length is evaluated again. The walk's
+//! contracts don't depend on the ordinals in that table.
 //!
-//! Each function of the walk takes the state of the search and returns the state after its part of
-//! the module (`Search`). So all their contracts have the same form (`after_constructors`). When the type is
-//! found, the remaining procedures are skipped.
+//! Each function of the walk visits one part of the module. It takes the state of the search before
+//! this part and returns the state after this part (`Search`). So all the functions' contracts have
+//! the same form (`after_constructors`). When the type is found, the remaining procedures are
+//! skipped.
 
 ghost use Rattle.std.specs.Prelude.{◌≡◌, List, None, option_and_then, option_map};
 ghost use Rattle.ob0_tree.specs.View.{block_of, fields_of, formals_of, procedure_of, record_type_of, section_of, type_of, types_of, variables_of};
@@ -27,16 +30,16 @@ use ob0_tree::{
 };
 use ob0_types_table::{DeclarationTable, FieldId, TypeId};
 
-/// A field of a record, with its type.
+/// A field of a record, with the field's type.
 #[derive(Clone, Copy)]
 pub struct TypedField {
     pub field: FieldId,
     pub of: TypeId,
 }
 
-/// Returns the field that an identifier belongs to, with the field's type. The field is looked up
-/// in its RECORD, using the table of declarations. Returns None if that RECORD or the field isn't
-/// found.
+/// Returns the field that an identifier belongs to, with the field's type. Looks for the field in
+/// the record whose ordinal is `identifier.owner`. `known` is the table of the module's
+/// declarations. Returns None if this record or the field isn't found.
 pub fn typed_field<'a, 't>(
     known: &'a DeclarationTable,
     resolved: &'a Resolved<'t>,
@@ -52,8 +55,9 @@ pub fn typed_field<'a, 't>(
     Some(TypedField { field, of })
 }
 
-/// Returns the type that the ARRAY or RECORD with this ordinal constructs. Returns None if the
-/// module has no such word or its type is unknown.
+/// Returns the type that the ARRAY or RECORD with the ordinal `ordinal` constructs. The words ARRAY
+/// and RECORD of a module are numbered together from 0, in text order. Returns None if the module
+/// has no such word or the constructed type is unknown.
 fn constructed_type<'a, 't>(
     known: &'a DeclarationTable,
     resolved: &'a Resolved<'t>,
@@ -69,18 +73,18 @@ fn constructed_type<'a, 't>(
     }
 }
 
-/// The state of the search for the ARRAY or RECORD with a given ordinal.
+/// The state of a search for the word ARRAY or RECORD with a given ordinal.
 #[derive(Clone, Copy)]
 enum Search {
-    /// The number of words ARRAY and RECORD still to skip.
+    /// The word isn't found yet: this many words ARRAY and RECORD must be skipped first.
     Before(usize),
-    /// The type that the word constructs, or None if its type is unknown.
+    /// The word is found: the type that it constructs, or None if this type is unknown.
     Found(Option<TypeId>),
 }
 
 impl Search {
-    /// Returns the search after one more word ARRAY or RECORD, which constructs the type `of`, or an unknown type if
-    /// `of` is None.
+    /// Returns the state of the search after one more word ARRAY or RECORD. This word constructs
+    /// the type `of`, or an unknown type if `of` is None.
     fn pass_constructor(self, of: Option<TypeId>) -> Search
         ensures { (shapes : List Shape)
             → search_view shapes result
@@ -99,7 +103,7 @@ impl Search {
     }
 }
 
-/// The module in which an ARRAY or RECORD is searched, with the table of its declarations.
+/// The module in which an ARRAY or RECORD is searched, with the table of the module's declarations.
 #[derive(Clone, Copy)]
 struct ConstructorWalk<'a, 't> {
     known: &'a DeclarationTable,
@@ -107,8 +111,9 @@ struct ConstructorWalk<'a, 't> {
 }
 
 impl<'a, 't> ConstructorWalk<'a, 't> {
-    /// Returns the type of the declaration whose name is at a token: a type, a variable, a
-    /// parameter or a constant. Returns None for any other declaration.
+    /// Returns the type that the name at the token `token` means, or the type of the variable,
+    /// parameter or constant that the name means. Returns None if the name is unbound or means
+    /// anything else, or if the type is unknown.
     fn declared_type(&self, token: usize) -> Option<TypeId>
         ensures { shape_in_walk self.now result
             ≡ type_of_declaration ((constructor_walk_meanings self.now).object_for token) }
@@ -117,7 +122,7 @@ impl<'a, 't> ConstructorWalk<'a, 't> {
         self.known.declared_type(ordinal)
     }
 
-    /// Returns the element type of an array type. Returns None if the type isn't an array.
+    /// Returns the element type of the array type `of`. Returns None if `of` isn't an array type.
     fn element(&self, of: Option<TypeId>) -> Option<TypeId>
         ensures { shape_in_walk self.now result
             ≡ option_and_then (λ a. element_type a integer_shape) (shape_in_walk self.now of) }
@@ -125,8 +130,9 @@ impl<'a, 't> ConstructorWalk<'a, 't> {
         self.known.element(of?)
     }
 
-    /// Returns the type of the field that has the name at token `name` in the record type `of`.
-    /// Returns None if `of` is no record type with such a field.
+    /// Returns the type of a field in the record type `of`. The field's name is the identifier at
+    /// token `name`. Returns None if `of` isn't a record type with such a field, or if the field's
+    /// type is unknown.
     fn field(&self, of: Option<TypeId>, name: usize) -> Option<TypeId>
         ensures { shape_in_walk self.now result
             ≡ option_and_then (λ r. field_type r ((constructor_walk_meanings self.now).written name))
@@ -136,8 +142,8 @@ impl<'a, 't> ConstructorWalk<'a, 't> {
             .field_type(of?, text_at(self.resolved.tokens(), name))
     }
 
-    /// Returns the search after the words ARRAY and RECORD of a written type. `of` is the type that this written type
-    /// denotes, or None if it is unknown.
+    /// Returns the state of the search after the words ARRAY and RECORD of the written type `t`.
+    /// `of` is the type that `t` denotes, or None if this type is unknown.
     #[cycle(types)]
     fn search_type(&self, search: Search, of: Option<TypeId>, t: &WrittenType) -> Search
         ensures { search_view_in_walk self.now result
@@ -153,8 +159,9 @@ impl<'a, 't> ConstructorWalk<'a, 't> {
         }
     }
 
-    /// Returns the search after the word RECORD of a record type and the words inside it. `of` is the record's type, or
-    /// None if it is unknown.
+    /// Returns the state of the search after all words ARRAY and RECORD of a record type, including
+    /// its first word. `of` is the type that the record type denotes, or None if this type is
+    /// unknown.
     #[cycle(types)]
     fn search_record(&self, search: Search, of: Option<TypeId>, r: &RecordType) -> Search
         ensures { search_view_in_walk self.now result
@@ -168,8 +175,8 @@ impl<'a, 't> ConstructorWalk<'a, 't> {
         search
     }
 
-    /// Returns the search after the types of a group of fields. `of` is the type of the record, or None if it is
-    /// unknown.
+    /// Returns the state of the search after the type of a group of fields (`x, y: T`). `of` is the
+    /// type of the record that contains the group, or None if this type is unknown.
     #[cycle(types)]
     fn search_group(&self, search: Search, of: Option<TypeId>, f: &Fields) -> Search
         ensures { search_view_in_walk self.now result
@@ -234,7 +241,7 @@ impl<'a, 't> ConstructorWalk<'a, 't> {
         search
     }
 
-    /// Returns the search after the type of one section of parameters.
+    /// Returns the state of the search after the type of one section of parameters.
     fn search_section(&self, search: Search, s: &ParameterSection) -> Search
         ensures { search_view_in_walk self.now result
             ≡ after_constructors (search_view_in_walk self.now search)
@@ -243,7 +250,7 @@ impl<'a, 't> ConstructorWalk<'a, 't> {
         self.search_type(search, self.declared_type(s.names.first), &s.written)
     }
 
-    /// Returns the search after all declarations of a block, including its procedures.
+    /// Returns the state of the search after all declarations of a block, including its procedures.
     #[cycle(blocks)]
     fn search_block(&self, search: Search, b: &Block) -> Search
         ensures { search_view_in_walk self.now result

@@ -1,9 +1,10 @@
-//! Walks a module to collect its field identifiers: those that declare a field in a record, and
-//! those that select one.
+//! Walks a module to collect its field identifiers: the identifiers that declare or select a field
+//! of a record.
 //!
-//! One loop visits the selectors of a designator, from left to right, and carries the type of the
-//! designator so far. It also visits the expressions of indexes, so fields are found in text order.
-//! Constants and array lengths aren't visited, because they select no fields.
+//! One loop visits the selectors of a designator from left to right. The loop carries the type of
+//! the part of the designator before the next selector. The expression in an index is visited when
+//! its selector is, so fields are found in text order. Constants and array lengths aren't visited,
+//! because they select no fields.
 //!
 //! Little work is done for parts that select nothing. An expression with a single factor is treated
 //! as that factor. The type of a designator without selectors isn't looked up. A selected name is
@@ -37,8 +38,9 @@ pub(crate) struct FieldWalk<'a, 't> {
 }
 
 impl<'a, 't> FieldWalk<'a, 't> {
-    /// Returns the type of the variable, parameter or constant that the name at a token is bound to. Returns None if
-    /// the name is unbound, or is bound to a constant with a fault or to something else.
+    /// Returns the type of the variable, parameter or constant that the name at the token `token`
+    /// is bound to. Returns None if the name is unbound, bound to a constant with an error, or
+    /// bound to anything else.
     fn value_type(&self, token: usize) -> Option<TypeId>
         ensures { option_map (type_shape (shapes_of self.now.known.now)) result
             ≡ object_type ((field_walk_meanings self.now).object_for token) }
@@ -54,8 +56,9 @@ impl<'a, 't> FieldWalk<'a, 't> {
         }
     }
 
-    /// Appends the field that a name selects from a value of type `base`, and returns the field's type. If there is no
-    /// such field, appends nothing and returns None.
+    /// Appends the field that the name at token `name` selects from a value of type `base`, and
+    /// returns the field's type. If there is no such field or `base` is None (unknown), appends
+    /// nothing and returns None.
     fn add_selected_field(
         &self,
         found: &mut FieldNameList,
@@ -84,8 +87,8 @@ impl<'a, 't> FieldWalk<'a, 't> {
         }
     }
 
-    /// Appends the field that a name selects from this record, and returns the field's type. If there is no such field,
-    /// appends nothing and returns None.
+    /// Appends the field that the name at token `name` selects from the record `shape`, and returns
+    /// the field's type. If the record has no such field, appends nothing and returns None.
     fn add_record_selection(
         &self,
         found: &mut FieldNameList,
@@ -111,7 +114,8 @@ impl<'a, 't> FieldWalk<'a, 't> {
         }
     }
 
-    /// Returns the element type of an array type. Returns None if the type isn't an array.
+    /// Returns the element type of the array type `base`. Returns None if `base` is unknown (None)
+    /// or isn't an array type.
     fn element(&self, base: Option<TypeId>) -> Option<TypeId>
         ensures { option_map (type_shape (shapes_of self.now.known.now)) result
             ≡ option_and_then (λ z. element_type z integer_shape)
@@ -123,7 +127,7 @@ impl<'a, 't> FieldWalk<'a, 't> {
         }
     }
 
-    /// Appends the fields that an expression selects.
+    /// Appends the field identifiers in an expression, in text order.
     #[cycle(expressions)]
     fn add_expression_fields(
         &self,
@@ -215,9 +219,9 @@ impl<'a, 't> FieldWalk<'a, 't> {
         Ok(())
     }
 
-    /// Appends the fields of one selector: the field that it selects, or the fields in its index.
-    /// Returns the type of the designator up to and including this selector. `base` is the type
-    /// before it.
+    /// Appends the field identifiers in one selector: the selected field, or the fields in an
+    /// index's expression. `base` is the type of the designator before this selector. Returns the
+    /// type of the designator including this selector, or None if this type is unknown.
     #[cycle(expressions)]
     fn add_selector_fields(
         &self,
@@ -352,7 +356,8 @@ impl<'a, 't> FieldWalk<'a, 't> {
         Ok(())
     }
 
-    /// Appends the fields that the statements of a block select.
+    /// Appends the fields that the statements of a block select, in text order. Appends nothing if
+    /// there are no statements.
     pub(crate) fn add_body_fields(
         &self,
         found: &mut FieldNameList,
@@ -367,9 +372,9 @@ impl<'a, 't> FieldWalk<'a, 't> {
         }
     }
 
-    /// Appends the fields of a block: first the fields of its declarations and procedures, then the
-    /// fields that its statements select. `made` counts the words ARRAY and RECORD before the
-    /// block. The words in the block are added to it.
+    /// Appends the field identifiers in a block: first the identifiers in its declarations and
+    /// procedures, then the identifiers in its statements. `made` counts the words ARRAY and RECORD
+    /// that precede the block in the module. On return, `made` also counts the words in the block.
     #[cycle(blocks)]
     pub(crate) fn add_block_fields(
         &self,
@@ -392,7 +397,8 @@ impl<'a, 't> FieldWalk<'a, 't> {
     }
 
     /// Appends the fields that a procedure declares and selects. `made` counts the words ARRAY and
-    /// RECORD before the procedure. The words in the procedure are added to it.
+    /// RECORD that precede the procedure in the module. On return, `made` also counts the words in
+    /// the procedure.
     #[cycle(blocks)]
     fn add_procedure_fields(
         &self,

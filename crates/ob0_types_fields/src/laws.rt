@@ -6,20 +6,21 @@ ghost use Rattle.ob0_types_fields.specs.Owned.{WalkFindsAllFields, ListedOwnersA
 ghost use Rattle.ob0_types_fields.specs.Owners.{RenamingFollowsOwners};
 
 /// Proves that a table has the owners of all fields of a well-typed module if it agrees with the
-/// list `owners_in_resolution` at the token of each identifier. That list is computed from the
-/// objects of declarations.
+/// list `owners_in_resolution`. At the token of each identifier, the table and the list must give
+/// the same owner. The list is computed from the objects of declarations.
 pub fn listed_owners_are_complete()
     ensures { ListedOwnersAreComplete }
 {}
 
-/// Proves that a table has the owners of all fields of a well-typed module after the module's field
-/// identifiers are entered in an empty table.
+/// Proves that a table has the owners of all fields of a well-typed module once the module's field
+/// identifiers are entered in it. Before that, the table must have one entry for each token and no
+/// owners.
 pub fn fields_give_all_owners()
     ensures { FieldsGiveAllOwners }
 {}
 
-/// Proves that two lists are equal: the identifiers of a module that have an owner, and the fields
-/// that the code's walk finds.
+/// Proves that two lists are equal: the identifiers of a module that have an owner, and the field
+/// identifiers that the code's walk finds.
 pub fn walk_finds_all_fields()
     ensures { WalkFindsAllFields }
 {}
@@ -31,7 +32,8 @@ pub fn renaming_changes_field_tokens()
 {}
 
 /// Proves that a new name for a field is a duplicate exactly if two conditions hold. The new name
-/// differs from the field's name, and a token declares a field of the record with the new name.
+/// differs from the field's name, and a token declares a field with the new name in the same
+/// record.
 pub fn duplicate_has_declaring_token()
     ensures { DuplicateHasDeclaringToken }
 {}
@@ -42,19 +44,21 @@ pub fn fields_are_declared()
     ensures { FieldsAreDeclared }
 {}
 
-/// Proves that the field identifiers of a well-typed module are exactly the identifiers that have
-/// the role of a field name by the grammar, in text order.
+/// Proves that the field identifiers of a well-typed module are exactly the identifiers that are
+/// field names according to the grammar, in text order.
 pub fn fields_match_grammar()
     ensures { FieldsMatchGrammar }
 {}
 
-/// Proves that for each field identifier of a well-typed module, the field and its type are found.
+/// Proves that the function `typed_field` of the definitions finds the field and the type of each
+/// field identifier of a well-typed module.
 pub fn fields_have_types()
     ensures { FieldsHaveTypes }
 {}
 
 /// Proves that renaming a field gives the new name to the identifiers at the field's tokens and
-/// changes nothing else. The field's tokens are given by a table with the record of each token.
+/// changes nothing else. A table with the record of each token determines which tokens belong to
+/// the field.
 pub fn renaming_follows_owners()
     ensures { RenamingFollowsOwners }
 {}

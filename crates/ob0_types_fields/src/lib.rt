@@ -1,4 +1,5 @@
-//! Finds the identifiers of fields in a module, and the record that declares each field.
+//! Finds the identifiers in a module that declare or select a field, and the record that declares
+//! each field.
 #![tactic(auto)]
 
 mod declared;

@@ -27,14 +27,14 @@ abbrev pub designator_of_term : {N : Type 0} → Tree N term → Option (N × Tr
 designator_of_term (product f end) = designator_of_factor f
 designator_of_term _ = None
 
--- returns the name and the selectors of a simple expression without sign and operator that is only
--- a designator; None for any other
+-- returns the name and the selectors of a simple expression that is only a designator, without sign and operator; None
+-- for any other simple expression
 abbrev pub designator_of_simple : {N : Type 0}
     → Tree N simple
     → Option (N × Tree N (items selector))
 designator_of_simple (sum None t end) = designator_of_term t
 designator_of_simple _ = None
 
--- returns the trees of these expressions, in order, with the label of each name
+-- returns the trees of these expressions, in order, in which each name is replaced by its label
 abbrev pub labelled_expressions : Resolution → List Expression → List (Tree Label expression)
 labelled_expressions r es = map (λ e. tree_with_labels r (expression_of e)) es

@@ -8,8 +8,8 @@ use Rattle.ob0_types_table.specs.declared.field_table.FirstField.{FirstField}
 use Rattle.ob0_types_table.specs.declared.known.Field.{Field}
 use Rattle.ob0_types_table.specs.declared.types.TypeId.{TypeId}
 
--- returns the first field in a list with the name `x`; its position is its index in the list plus
--- `k`
+-- Returns the first field with the name `x` in a list, with its type and its position. The position is the field's
+-- index in the list plus `k`. Returns None if there is no such field.
 abbrev pub first_field_from : ℕ → List Field → Name → Option FirstField
 first_field_from k [] x = None
 first_field_from k (f ∷ fs) x =
@@ -23,12 +23,12 @@ first_field_type [] x = None
 first_field_type (f ∷ fs) x =
     if same_name x (string_bytes f.name) then Some f.of else first_field_type fs x
 
--- holds if the map has, for each name, the first field with this name; its position is its index in
--- the list plus `k`
+-- States that the map has, for each name, the first field with this name in the list. The position that the map has for
+-- the field is the field's index in the list plus `k`.
 pub record IsFieldIndexFrom
     (map : BTreeMap (String Global) FirstField) (k : ℕ) (fields : List Field) : Type 0 where
   pub found : (x : Name) → get_by_text map x ≡ first_field_from k fields x
 
--- holds if the map has, for each name, the first field with this name, with its index in the list
+-- states that the map has, for each name, the first field with this name, and its index in the list
 abbrev pub IsFieldIndex : BTreeMap (String Global) FirstField → List Field → Type 0
 IsFieldIndex map fields = IsFieldIndexFrom map 0 fields

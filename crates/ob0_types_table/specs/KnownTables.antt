@@ -8,8 +8,8 @@ use Rattle.ob0_language_types.specs.Expressions.{Object}
 use Rattle.ob0_types_table.specs.Tables.{object_view, extended_shapes}
 use Rattle.ob0_language_types.specs.WellTyped.{Signature}
 
--- a table: the entries of the arrays and records, and the object of each declaration, by ordinal;
--- None if it has no object
+-- a table: the entries of the arrays and records, and the object of each declaration, by ordinal, or None if the
+-- declaration has no object
 pub record Tables : Type 0 where
   pub shapes : List code.TypeEntry
   pub objects : List (Option declaration.Object)
@@ -18,6 +18,6 @@ pub record Tables : Type 0 where
 abbrev pub shapes_of : Tables → List Shape
 shapes_of t = extended_shapes [] t.shapes
 
--- returns the object of the declaration with this ordinal; None if there is none
+-- returns the object of the declaration with this ordinal, as an object of the definitions; None if there is none
 abbrev pub declared_object_in : Tables → ℕ → Option (Object Shape Signature)
 declared_object_in t k = option_and_then (object_view (shapes_of t)) (slice_index_or t.objects k None)

@@ -19,8 +19,7 @@ parts_shape shapes (parts.Array a) = entry_shape shapes (made.Array a)
 parts_shape shapes (parts.Record r) = entry_shape shapes (made.Record r.now)
 parts_shape shapes parts.Faulty = faulty_shape
 
--- holds if the parts of an array or a record have the number of scalars and the depth of its shape;
--- always holds for other types
+-- states that an array or record has the number of scalars and the depth of its shape; states nothing for other types
 abbrev pub PartsHaveSizes : List Shape → Parts → Type 0
 PartsHaveSizes shapes parts.Integer = Unit {0}
 PartsHaveSizes shapes parts.Boolean = Unit {0}
@@ -30,19 +29,19 @@ PartsHaveSizes shapes (parts.Record r) =
     HasSizeOfShape (made.Record r.now) (entry_shape shapes (made.Record r.now))
 PartsHaveSizes shapes parts.Faulty = Unit {0}
 
--- returns true for an entry made by an ARRAY of the text
+-- returns whether there is an entry and it is an array's
 abbrev pub is_array_entry : Option TypeEntry → Bool
 is_array_entry None = false
 is_array_entry (Some (made.Array a)) = true
 is_array_entry (Some (made.Record r)) = false
 
--- returns true for an entry made by a RECORD of the text
+-- returns whether there is an entry and it is a record's
 abbrev pub is_record_entry : Option TypeEntry → Bool
 is_record_entry None = false
 is_record_entry (Some (made.Array a)) = false
 is_record_entry (Some (made.Record r)) = true
 
--- returns true for a type of the module: INTEGER, BOOLEAN, or a type made by an ARRAY or RECORD of the text
+-- returns whether a type is one of the module's types: INTEGER, BOOLEAN, or an array or record in the module's table
 abbrev pub is_known_type : Tables → TypeId → Bool
 is_known_type t type.Integer = true
 is_known_type t type.Boolean = true
@@ -50,7 +49,7 @@ is_known_type t (type.Array i) = is_array_entry (slice_get t.shapes i)
 is_known_type t (type.Record i) = is_record_entry (slice_get t.shapes i)
 is_known_type t type.Unknown = false
 
--- returns true unless the type is faulty
+-- returns whether the type isn't faulty
 abbrev pub is_not_faulty : Parts → Bool
 is_not_faulty parts.Integer = true
 is_not_faulty parts.Boolean = true

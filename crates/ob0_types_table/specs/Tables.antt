@@ -19,8 +19,8 @@ use Rattle.ob0_language_types.specs.Expressions.{Object, StandardProcedure, a_co
 use Rattle.ob0_language_types.specs.Typing.{depth, scalars}
 use Rattle.ob0_language_types.specs.WellTyped.{FormalParameter, Mode, Signature, by_place, by_value}
 
--- Returns the shape of a faulty type: a record whose ordinal is the greatest length of a text. A
--- text has fewer words ARRAY and RECORD than that, so no type of a module has this shape.
+-- Returns the shape of a faulty type: a record without fields, whose ordinal is the greatest length of a text in bytes.
+-- No text has so many words ARRAY and RECORD, so no type of a module has this shape.
 abbrev pub faulty_shape : Shape
 faulty_shape = record_shape max_text no_field_shape
 
@@ -65,31 +65,31 @@ abbrev pub extended_shapes : List Shape → List code.TypeEntry → List Shape
 extended_shapes known [] = known
 extended_shapes known (m ∷ ms) = extended_shapes (known ++ entry_shape known m ∷ []) ms
 
--- holds if the type refers to no entry of the table, or to one of the first `n` entries
+-- states that the type refers to no entry of the table, or to one of the first `n` entries
 abbrev pub IsTypeAmongEntries : ℕ → TypeId → Type 0
 IsTypeAmongEntries n (type.Array i) = i < n
 IsTypeAmongEntries n (type.Record i) = i < n
 IsTypeAmongEntries n _ = Unit {0}
 
--- holds if the element type of an array, or the type of each field of a record, refers to no entry
--- except the first `n`
+-- states that the element type of an array, or the type of each field of a record, refers to no entry except the first
+-- `n`
 abbrev pub PartsAreAmongEntries : ℕ → code.TypeEntry → Type 0
 PartsAreAmongEntries n (made.Array a) = IsTypeAmongEntries n a.element
 PartsAreAmongEntries n (made.Record r) = All (λ f. IsTypeAmongEntries n f.of) r.fields
 
--- holds if an entry has the number of scalars and the depth of its shape
+-- states that an entry has the number of scalars and the depth of the shape `s`
 abbrev pub HasSizeOfShape : code.TypeEntry → Shape → Type 0
 HasSizeOfShape (made.Array a) s = (a.scalars ≡ scalars s) × (a.depth ≡ depth s)
 HasSizeOfShape (made.Record r) s = (r.scalars ≡ scalars s) × (r.depth ≡ depth s)
 
--- holds if an entry refers only to the entries before it, which have the shapes `shapes`, and has
--- the number of scalars and the depth of its shape
+-- States that an entry refers only to the entries before it, and has the number of scalars and the depth of its shape.
+-- The entries before it have the shapes `shapes`.
 pub record IsEntry (shapes : List Shape) (m : code.TypeEntry) : Type 0 where
   pub parts : PartsAreAmongEntries (length shapes) m
   pub counted : HasSizeOfShape m (entry_shape shapes m)
 
--- holds if each entry of the list refers only to earlier ones and has the size of its shape;
--- `known` has the shapes of the entries before the list
+-- States that each entry of the list refers only to earlier entries and has the size of its shape. `known` has the
+-- shapes of the entries that precede the list in the table.
 abbrev pub AreEntriesInOrder : List Shape → List code.TypeEntry → Type 0
 AreEntriesInOrder known [] = Unit {0}
 AreEntriesInOrder known (m ∷ ms) =

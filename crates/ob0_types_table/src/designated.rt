@@ -1,5 +1,5 @@
-//! Recognizes expressions that consist of only a designator. No other expression can be a VAR
-//! argument.
+//! Recognizes expressions that consist of only a designator, which is a name with selectors. No
+//! other expression can be a VAR argument.
 
 ghost use Rattle.std.specs.Prelude.{◌≡◌, option_map};
 ghost use Rattle.ob0_tree.specs.View.{compound_of, expression_of, factor_of, simple_of, term_of};
@@ -8,8 +8,8 @@ ghost use Rattle.ob0_language_types.specs.Typing.{lone_designator};
 
 use ob0_tree::{CompoundExpression, Designator, Expression, Factor, SimpleExpression, Term};
 
-/// Returns the designator of an expression that is only a designator, without sign, operators or parentheses. Returns
-/// None for any other expression.
+/// Returns the designator of an expression that is only a designator, without sign, operators or
+/// parentheses. Returns None for any other expression.
 pub fn lone_designator(e: &Expression) -> Option<&Designator>
     ensures { option_map (λ d. designator_parts d.now) result
         ≡ lone_designator (expression_of e.now) }
@@ -20,7 +20,8 @@ pub fn lone_designator(e: &Expression) -> Option<&Designator>
     }
 }
 
-/// Returns the designator of a compound expression that is only a designator. Returns None for any other expression.
+/// Returns the designator of a compound expression that is only a designator. Returns None for any
+/// other expression.
 fn designator_of_compound(c: &CompoundExpression) -> Option<&Designator>
     ensures { option_map (λ d. designator_parts d.now) result
         ≡ lone_designator (compound_of c.now) }
@@ -31,7 +32,8 @@ fn designator_of_compound(c: &CompoundExpression) -> Option<&Designator>
     }
 }
 
-/// Returns the designator of a simple expression that is only a designator. Returns None for any other expression.
+/// Returns the designator of a simple expression that is only a designator. Returns None for any
+/// other expression.
 fn designator_of_simple(s: &SimpleExpression) -> Option<&Designator>
     ensures { option_map (λ d. designator_parts d.now) result
         ≡ designator_of_simple (simple_of s.now) }

@@ -1,4 +1,4 @@
-//! Adds entries to the table of a text's types.
+//! Adds entries to the table of a module's arrays and records.
 
 ghost use Rattle.std.specs.Prelude.{◌≡◌, ◌++◌, ◌∷◌, [], length, IfOk, OnOk, OnErr};
 ghost use Rattle.ob0_types_table.specs.Tables.{type_of_entry};

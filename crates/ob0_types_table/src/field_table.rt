@@ -1,7 +1,8 @@
 //! The fields of a record, found by name in logarithmic time.
 //!
 //! In contracts, the value of a table is only the list of its fields. The map isn't part of this
-//! value: by the table's invariant it has, for each name, the first field in the list (`IsFieldIndex`).
+//! value, because the table's invariant determines the map: it has, for each name, the first field
+//! with this name in the list (`IsFieldIndex`).
 
 ghost use Rattle.std.specs.Prelude.{◌≡◌, List, IfOk, option_map};
 ghost use Rattle.ob0_language_values.specs.Values as shape;
@@ -24,7 +25,7 @@ struct FirstField {
     of: TypeId,
 }
 
-/// The fields of a record in order, with a map to the first field of each name.
+/// The fields of a record in order, with a map from each name to the first field with this name.
 #[derive(Drop)]
 pub struct FieldTable {
     fields: Vec<Field>,
@@ -82,7 +83,7 @@ impl FieldTable {
         self.fields.as_slice()
     }
 
-    /// Returns the type of the first field with this name. Returns None if there is none.
+    /// Returns the type of the first field with this name. Returns None if there is no such field.
     pub fn find(&self, name: &str) -> Option<TypeId>
         ensures first { result ≡ first_field_type self.now name.now }
         ensures shape { (shapes : List shape.Shape)
@@ -95,7 +96,8 @@ impl FieldTable {
         }
     }
 
-    /// Returns the position of the first field with this name, counted from 0. Returns None if there is none.
+    /// Returns the position in the record of the first field with this name, counted from 0.
+    /// Returns None if there is no such field.
     pub fn index_of_name(&self, name: &str) -> Option<usize>
         ensures { (shapes : List shape.Shape)
             → result ≡ position_of_field (field_shapes shapes self.now) name.now }

@@ -3,8 +3,8 @@
 //! A type refers to the entry of an array or record by the entry's index. An entry refers only to
 //! earlier entries (`AreEntriesInOrder`), so `shapes_of` can compute the shapes of the entries from
 //! first to last. In contracts, the value of a `DeclarationTable` is its two lists. The shapes
-//! aren't part of this value but functions of it, because the definitions' `Shape` isn't a type of
-//! the code.
+//! aren't part of this value, because the definitions' `Shape` isn't a type of the code. The shapes
+//! are computed from it.
 
 ghost use Rattle.std.specs.Prelude.{◌≡◌, List, option_map};
 ghost use Rattle.ob0_language_values.specs.Values as shape;
@@ -29,8 +29,9 @@ pub struct Field {
     pub of: TypeId,
 }
 
-/// Identifies a field: `ordinal` is the ordinal of its record among the words ARRAY and RECORD of
-/// the text, and `index` is its position among the record's fields. Both are counted from 0.
+/// Identifies a field. `ordinal` is the number of words ARRAY and RECORD in the text before the
+/// word RECORD of the field's record. `index` is the field's position among the record's fields,
+/// counted from 0.
 #[derive(Clone, Copy, PartialEq, Eq)]
 pub struct FieldId {
     pub ordinal: usize,
@@ -38,7 +39,8 @@ pub struct FieldId {
 }
 
 /// The type `ARRAY length OF element`. `ordinal` is the number of words ARRAY and RECORD in the
-/// text before this one. `scalars` and `depth` are the size of the whole type.
+/// text before this word ARRAY. `scalars` is the number of scalars in the whole type, and `depth`
+/// is the depth to which its arrays and records are nested.
 #[derive(Clone, Copy)]
 pub struct ArrayShape {
     pub ordinal: usize,
@@ -49,7 +51,8 @@ pub struct ArrayShape {
 }
 
 /// The type `RECORD fields END`. `ordinal` is the number of words ARRAY and RECORD in the text
-/// before this one. `scalars` and `depth` are the size of the whole type.
+/// before this word RECORD. `scalars` is the number of scalars in the whole type, and `depth` is
+/// the depth to which its arrays and records are nested.
 #[derive(Drop)]
 pub struct RecordShape {
     pub ordinal: usize,
@@ -65,14 +68,14 @@ pub enum TypeEntry {
     Record(RecordShape),
 }
 
-/// A formal parameter: its type, and whether it is passed by place (VAR) or by value.
+/// A formal parameter: its type (`of`), and whether it is passed by reference (VAR) or by value.
 #[derive(Clone, Copy)]
 pub struct FormalParameter {
     pub by_place: bool,
     pub of: TypeId,
 }
 
-/// The standard procedures.
+/// A predeclared procedure, which reads or writes.
 #[derive(Clone, Copy, PartialEq, Eq)]
 pub enum StandardProcedure {
     Read,
@@ -80,10 +83,10 @@ pub enum StandardProcedure {
     WriteLn,
 }
 
-/// The meaning of a declared name.
+/// The object to which a declared name refers, with its type, value or parameters.
 #[derive(Drop)]
 pub enum Object {
-    /// A type.
+    /// A name that refers to this type.
     Named(TypeId),
     Constant(Scalar),
     /// A constant whose right side has a fault.
@@ -93,8 +96,9 @@ pub enum Object {
     StandardProcedure(StandardProcedure),
 }
 
-/// The arrays and records of a module, each of which refers only to earlier ones, and the object of
-/// each declaration, by its ordinal.
+/// The table of a module's declarations. `shapes` has the arrays and records, each of which refers
+/// only to earlier ones. `objects` has the object of each declaration, by ordinal, or None if there
+/// is none.
 #[derive(Drop)]
 pub struct DeclarationTable {
     shapes: Vec<TypeEntry>,
@@ -140,7 +144,8 @@ impl DeclarationTable {
     ghost use Rattle.ob0_language_values.specs.Scalars.{scalar_value};
     ghost use Rattle.ob0_language_values.specs.Values.{integer_shape};
 
-    /// Makes the table of a module from its arrays and records and from the objects of its declarations.
+    /// Makes the table of a module from its arrays and records and from the objects of its
+    /// declarations.
     pub fn new(shapes: Vec<TypeEntry>, objects: Vec<Option<Object>>) -> DeclarationTable
         requires { AreEntriesInOrder [] shapes.items }
         ensures { result ≡ record { shapes = shapes.items; objects = objects.items } }
@@ -162,7 +167,8 @@ impl DeclarationTable {
         self.shapes.as_slice()
     }
 
-    /// Returns the object of the declaration with this ordinal. Returns None if there is none.
+    /// Returns the object of the declaration with this ordinal. Returns None if the ordinal has no
+    /// object.
     pub fn object(&self, ordinal: usize) -> Option<&Object>
         ensures { option_and_then (λ o. object_view (shapes_of self.now) o.now) result
             ≡ declared_object_in self.now ordinal }
@@ -176,8 +182,8 @@ impl DeclarationTable {
         }
     }
 
-    /// Returns the value of the constant with this ordinal. Returns None if the declaration isn't a constant with a
-    /// value.
+    /// Returns the value of the constant with this ordinal. Returns None if the declaration isn't a
+    /// constant with a value.
     pub fn constant(&self, ordinal: usize) -> Option<Scalar>
         ensures { option_map scalar_value result ≡ constant_of (declared_object_in self.now ordinal) }
     {
@@ -191,8 +197,8 @@ impl DeclarationTable {
         }
     }
 
-    /// Returns the type of the declaration with this ordinal if it is a type, a variable, a parameter or a constant.
-    /// Otherwise returns None.
+    /// Returns the type of the declaration with this ordinal if it is a type, a variable, a
+    /// parameter or a constant. Otherwise returns None.
     pub fn declared_type(&self, ordinal: usize) -> Option<TypeId>
         ensures { option_map (type_shape (shapes_of self.now)) result
             ≡ type_of_declaration (declared_object_in self.now ordinal) }
@@ -207,7 +213,8 @@ impl DeclarationTable {
         }
     }
 
-    /// Returns the entry of the array or record with this index. Returns None if there is none.
+    /// Returns the entry of the array or record with the index `place` in the table. Returns None
+    /// if there is no such index.
     pub(crate) fn entry(&self, place: usize) -> Option<&TypeEntry>
         ensures found { option_map (λ m. m.now) result ≡ slice_get self.now.shapes place }
         ensures shape { MatchOption result
@@ -240,8 +247,8 @@ impl DeclarationTable {
         }
     }
 
-    /// Returns the type of the first field with this name in a record type. Returns None if the type is no record with
-    /// such a field.
+    /// Returns the type of the first field with this name in a record type. Returns None if the
+    /// type is no record with such a field.
     pub fn field_type(&self, base: TypeId, name: &str) -> Option<TypeId>
         ensures { option_map (type_shape (shapes_of self.now)) result
             ≡ field_type (type_shape (shapes_of self.now) base) name.now }

@@ -6,11 +6,12 @@ ghost use Rattle.ob0_scan.specs.Classes.{max_integer};
 
 use ob0_scan::{TokenKind, Tokens};
 
-/// Returns the value of an integer token. Returns 0 for any other token, or if there is no such token.
+/// Returns the value of an integer token. Returns 0 for any other token, or if there is no such
+/// token.
 pub fn number_at(tokens: &Tokens, token: usize) -> i32
     ensures { result ≡ pos (value_at tokens.now token) }
 {
-    // The contract of this call gives the proof the invariant of the tokens.
+    // The proof needs this call: its contract states the tokens' invariant.
     let _scanned = tokens.text();
     let tokens = tokens.tokens();
     if token < tokens.len() {

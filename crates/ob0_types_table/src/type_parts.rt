@@ -1,10 +1,10 @@
 //! Types with their parts.
 //!
-//! An array or a record comes with the number of scalars and the depth of its shape
-//! (`PartsHaveSizes`). The parts of a `TypeId` are `Faulty` exactly if it isn't one of the
-//! module's types (`is_known_type`). A faulty type also has a shape (`faulty_shape`), but with an
-//! ordinal that no ARRAY or RECORD of a text has. So a function whose contract states the shape of
-//! its result can't return `Unknown` for a type of a module.
+//! The parts of an array or record include its number of scalars and its depth (`PartsHaveSizes`).
+//! The parts of a `TypeId` are `Faulty` exactly if the `TypeId` isn't one of the module's types
+//! (`is_known_type`). A faulty type also has a shape (`faulty_shape`), but with an ordinal that no
+//! ARRAY or RECORD of a text has. So a function whose contract states the shape of its result can't
+//! return `Unknown` for a type of a module.
 
 ghost use Rattle.std.specs.Prelude.{◌≡◌};
 ghost use Rattle.ob0_types_table.specs.Parts.{PartsHaveSizes, is_not_faulty, is_known_type, parts_shape};
@@ -14,7 +14,7 @@ ghost use Rattle.ob0_types_table.specs.Tables.{type_shape};
 use crate::known::{ArrayShape, DeclarationTable, RecordShape, TypeEntry};
 use crate::types::TypeId;
 
-/// A type with its parts. `Faulty` stands for a type that isn't one of the module's types.
+/// A type with its parts. It is `Faulty` if the type isn't one of the module's types.
 #[derive(Clone, Copy)]
 pub enum Parts<'k> {
     Integer,
@@ -25,7 +25,8 @@ pub enum Parts<'k> {
 }
 
 impl DeclarationTable {
-    /// Returns the parts of a type. The result is `Faulty` exactly if the type isn't one of the module's types.
+    /// Returns the parts of a type. The result is `Faulty` exactly if the type isn't one of the
+    /// module's types.
     pub fn parts(&self, of: TypeId) -> Parts<'_>
         ensures shape { parts_shape (shapes_of self.now) result
             ≡ type_shape (shapes_of self.now) of }

@@ -8,14 +8,16 @@ ghost use Rattle.ob0_language_types.specs.Typing.{value_type};
 
 use ob0_language_values::Scalar;
 
-/// A type: INTEGER, BOOLEAN, or the index of an array or record in the table.
+/// A type: INTEGER, BOOLEAN, an array or record given by its index in the table, or the unknown
+/// type.
 #[derive(Clone, Copy, PartialEq, Eq)]
 pub enum TypeId {
     Integer,
     Boolean,
     Array(usize),
     Record(usize),
-    /// The type of a part with a fault. No well-typed module has it.
+    /// The unknown type, for an expression or a type with a fault. It doesn't occur in a well-typed
+    /// module.
     Unknown,
 }
 

@@ -1,4 +1,4 @@
--- Defines the meaning of the code's events, publications and results.
+-- Defines the meaning of the code's events, publications and results in the model.
 -- Rule: none; for contracts: what values of the code mean.
 use Rattle.std.specs.Prelude.{ℕ, List, map, string_bytes, Vec}
 use Rattle.std.specs.Str.{chars}
@@ -12,7 +12,7 @@ use Rattle.ob0_world_rules.specs.ClientAndServer.{Applied, Made}
 use Rattle.ob0_world_rules.specs.EditorActs.{open_document, change_document, close_document, ask_about, apply, discard}
 use Rattle.ob0_world_rules.specs.Happens.{Event, does, serve, take_message}
 
--- returns the event for a value of the code's type `Event`
+-- returns the model's event for a value of the code's type `Event`
 abbrev pub event_of : event.Event → Event
 event_of (event.TheVariants.OpenDoc uri text) =
     does (open_document (string_bytes uri) (chars (string_bytes text)))
@@ -25,7 +25,7 @@ event_of event.TheVariants.Take = take_message
 event_of (event.TheVariants.Apply k) = does (apply k)
 event_of (event.TheVariants.Discard k) = does (discard k)
 
--- returns the publication for a value of the code's type `Made`
+-- returns the model's publication for a value of the code's type `Made`
 abbrev pub publication_of : made.Made → Made
 publication_of m =
     record {
@@ -35,14 +35,14 @@ publication_of m =
       empty = m.empty;
     }
 
--- returns contents as lists of bytes
+-- returns these contents as lists of bytes, in order
 abbrev pub content_bytes : List (Vec ℕ Global) → List (List ℕ)
 content_bytes contents = map (λ v. v.items) contents
 
--- returns the applied edits that the code reports
+-- returns the applied edits in the results that the code returns
 abbrev pub played_edits : played.Played → List Applied
 played_edits p = map applied_of p.applied.items
 
--- returns the publications that the code reports
+-- returns the publications in the results that the code returns
 abbrev pub played_publications : played.Played → List Made
 played_publications p = map publication_of p.made.items

@@ -1,6 +1,6 @@
 -- Defines the exchanges of a session and an editor that keeps ob0's rules, and states the
--- guarantees for them. The session may be any that the protocol (`Answers`) allows: no server of
--- the model is part of it.
+-- guarantees for them. The session may be any that the protocol (`Answers`) allows. An exchange has
+-- this session in place of the model's server.
 -- Rule: LSP 3.17; for a law of every editor with a session.
 use Rattle.std.specs.Prelude.{◌≡◌, ◌⊎◌, ◌<◌, ◌≤◌, ◌==◌, map, filter_map, ⊤, ℕ, ℤ, List, [], ◌∷◌, ◌++◌, All, fold, Bool, true, false, Option, Some, None, MatchOption, option_map, option_and_then, Result, Ok, Err, if◌then◌else◌, codes}
 use Rattle.std.specs.Str.{bytes_eq}
@@ -54,31 +54,31 @@ id_of_value (string text) = Some (text_id text)
 id_of_value (array ds) = None
 id_of_value (object ms) = None
 
--- true if the two ids are equal
+-- returns whether the two ids are equal
 abbrev pub same_id : RequestId → RequestId → Bool
 same_id (number_id n) (number_id m) = n == m
 same_id (number_id n) (text_id t) = false
 same_id (text_id s) (number_id m) = false
 same_id (text_id s) (text_id t) = bytes_eq s t
 
--- the id of a request that the editor sent, and the number of the ask; None if the request isn't an
--- ask
+-- A request that the editor sent: its id and, if it is an ask, the number of the ask (from 1). For
+-- any other request the number is None.
 pub record SentRequestId : Type 0 where
   pub id : RequestId
   pub ask : Option ℕ
 
--- Finds the first request with this id, and returns the number of its ask in `Some`: `Some None` if
--- the request isn't an ask. None if no request has this id.
+-- Finds the first request with this id. Returns `Some (Some k)` if that request is ask `k`, `Some
+-- None` if it isn't an ask, and None if no request has this id.
 abbrev pub ask_of_request_id : List SentRequestId → RequestId → Option (Option ℕ)
 ask_of_request_id [] id = None
 ask_of_request_id (s ∷ sent) id = if same_id s.id id then Some s.ask else ask_of_request_id sent id
 
--- Returns the number of the ask whose id this JSON value is. None if no ask has this id.
+-- Returns the number of the ask that has this JSON value as its id. None if no ask has this id.
 abbrev pub ask_number_by_id : List SentRequestId → Data → Option ℕ
 ask_number_by_id sent id = option_and_then (λ ask. ask) (option_and_then (ask_of_request_id sent) (id_of_value id))
 
--- Holds if each ask among the sent messages gets an id that no earlier request has. `new` are the
--- `ids` followed by these new ids.
+-- States that each ask among these messages gets an id that no earlier request has. The list `new`
+-- is `ids` with these ids appended, in order.
 abbrev pub AssignsAskIds : List SentRequestId → List MessageToServer → List SentRequestId → Type 0
 AssignsAskIds ids [] new = new ≡ ids
 AssignsAskIds ids (notifies note ∷ sent) new = AssignsAskIds ids sent new
@@ -87,21 +87,22 @@ AssignsAskIds ids (requests k uri ask ∷ sent) new =
     × (ask_of_request_id ids id ≡ None)
     × AssignsAskIds (ids ++ record { id = id; ask = Some k } ∷ []) sent new
 
--- adds an id to the ids, for a request that isn't an ask; if the id isn't valid (None), nothing is
--- added
+-- Returns `ids` with this id appended, as the id of a request that isn't an ask. For None (there is
+-- no valid id), the list is unchanged.
 abbrev pub with_non_ask_id : List SentRequestId → Option RequestId → List SentRequestId
 with_non_ask_id ids None = ids
 with_non_ask_id ids (Some id) = ids ++ record { id = id; ask = None } ∷ []
 
--- holds if the id isn't valid, or belongs to a request that isn't an ask
+-- states that there is no valid id (None), or that the request with this id isn't an ask
 abbrev pub IsNonAskId : List SentRequestId → Option RequestId → Type 0
 IsNonAskId ids None = ⊤
 IsNonAskId ids (Some id) = ask_of_request_id ids id ≡ Some None
 
 -- ---- an editor and a session
 
--- An editor and a session with the contents between them; the ids of the requests that the editor
--- sent, the documents that it announced, and the edits that it applied.
+-- An editor and a session with the contents of the messages between them. The other fields are the
+-- ids of the requests that the editor sent, the documents that it announced to the session, and the
+-- edits that it applied.
 pub record Exchange : Type 0 where
   pub editor : Editor
   pub ids : List SentRequestId
@@ -110,8 +111,8 @@ pub record Exchange : Type 0 where
   pub applied : List Applied
 
 -- States that the session was initialized by a client that counts positions in this unit. No
--- document is open and no content waits. The list of used ids is empty, so earlier ids may be used
--- again.
+-- document is open and no content waits. The list of used ids is empty, so the ids of the
+-- initialization may be used again.
 pub record BeginsExchange (unit : Unit) (x : Exchange) : Type 0 where
   pub client : ClientFeatures
   pub counts : unit_for client ≡ unit
@@ -135,8 +136,9 @@ pub record BeginsExchange (unit : Unit) (x : Exchange) : Type 0 where
 
 -- ---- other messages
 
--- Holds if the request changes nothing in the session: it is neither `initialize` nor `shutdown`. A
--- request for edits is among them, because the session only answers it.
+-- States that the request changes nothing in the session: it is neither `initialize` nor
+-- `shutdown`. A request for edits also changes nothing, because the session only answers it. An
+-- unreadable request (Err) is refused and changes nothing.
 abbrev pub IsReadOnlyRequest : Result ClientRequest RpcFault → Type 0
 IsReadOnlyRequest (Ok (asked.initialize client)) = ⊥
 IsReadOnlyRequest (Ok asked.shutdown) = ⊥
@@ -149,9 +151,10 @@ IsReadOnlyRequest (Ok (asked.code_action uri range only)) = ⊤
 IsReadOnlyRequest (Ok (asked.formatting uri indent)) = ⊤
 IsReadOnlyRequest (Err fault) = ⊤
 
--- Holds if the message is outside the model: it opens, changes and closes no document, and requests
--- no edit that is applied. It is a request that changes nothing, a notification that the server
--- ignores, a response, or JSON that is no message, which the server refuses.
+-- States that the message is outside the model. It opens, changes and closes no document, and
+-- requests no edits that the editor applies. It is a request that changes nothing in the session
+-- and doesn't have the id of an ask, a notification that the server ignores, a response, or JSON
+-- that isn't a message.
 abbrev pub IsUnmodeledMessage : List SentRequestId → MessageMeaning → Type 0
 IsUnmodeledMessage ids not_json = ⊥
 IsUnmodeledMessage ids not_a_message = ⊤
@@ -162,20 +165,20 @@ IsUnmodeledMessage ids (request id method params) =
     × IsNonAskId ids (id_of_value id)
 IsUnmodeledMessage ids (notice method params) = notification_by_method method params ≡ other
 
--- holds if the content is a message outside the model (`IsUnmodeledMessage`)
+-- states that the content is a message outside the model (`IsUnmodeledMessage`)
 abbrev pub IsUnmodeledContent : List SentRequestId → List ℕ → Type 0
 IsUnmodeledContent ids content =
     (json : Data) × ReadsContent content (Some json) × IsUnmodeledMessage ids (meaning_of json)
 
 -- ---- asks and notifications
 
--- holds if position p isn't after position q
+-- states that position `p` isn't after position `q` in a text
 abbrev pub IsAtOrBefore : Position → Position → Type 0
 IsAtOrBefore p q = (p.line < q.line) ⊎ ((p.line ≡ q.line) × (p.character ≤ q.character))
 
--- States that the content is a request for code actions, with this id. Its range begins at this
--- position and doesn't end before it. The request is for all kinds of actions, or for kinds that
--- include inlining.
+-- States that the content is a request for code actions, with this id. The requested range begins
+-- at this position and doesn't end before it. The request is for all kinds of actions, or for kinds
+-- that include inlining.
 pub record IsActionsRequest (id : Data) (uri : List ℕ) (position : Position) (content : List ℕ)
     : Type 0 where
   pub json : Data
@@ -191,8 +194,8 @@ pub record IsActionsRequest (id : Data) (uri : List ℕ) (position : Position) (
   pub ordered : IsAtOrBefore range.start range.end
   pub allowed : allows_inlining only ≡ true
 
--- holds if the content is the request with this id for this ask; for an inlining it requests code
--- actions
+-- States that the content is the request with this id for this ask about the document with this
+-- uri. For an inlining, it is a request for code actions.
 abbrev pub IsRequestFor : Data → List ℕ → Ask → List ℕ → Type 0
 IsRequestFor id uri (rename position name) content =
     IsRequestWithId id uri (rename position name) content
@@ -200,24 +203,27 @@ IsRequestFor id uri (inline_here position) content = IsActionsRequest id uri pos
 IsRequestFor id uri (inline_all position) content = IsActionsRequest id uri position content
 IsRequestFor id uri (format indent) content = IsRequestWithId id uri (format indent) content
 
--- holds if the client accepts code actions with edits
+-- states that the client accepts literal code actions, which contain their edits
 abbrev pub AcceptsActions : ClientFeatures → Type 0
 AcceptsActions client = client.accepts_literal_actions ≡ true
 
--- holds if the client accepts the edits of this ask
+-- States that the client accepts the edits that answer this ask. Only an inlining has a condition:
+-- the client accepts code actions with edits.
 abbrev pub AcceptsEdits : ClientFeatures → Ask → Type 0
 AcceptsEdits client (rename position name) = ⊤
 AcceptsEdits client (inline_here position) = AcceptsActions client
 AcceptsEdits client (inline_all position) = AcceptsActions client
 AcceptsEdits client (format indent) = ⊤
 
--- states that ask k is this ask about this document and has this id
+-- states that the ask with number `k` is this ask about this document, and that its request has
+-- this id
 pub record IsAskWithId (ids : List SentRequestId) (requested : List SentAsk) (id : Data) (k : ℕ)
     (uri : List ℕ) (ask : Ask) : Type 0 where
   pub numbered : ask_number_by_id ids id ≡ Some k
   pub is : IsAsk requested k uri ask
 
--- holds if the content is this message to the session of this client
+-- States that the content is this message, written for the session of this client. A request must
+-- be for edits that the client accepts.
 abbrev pub IsMessageToSession : ClientFeatures
     → List SentRequestId
     → List SentAsk
@@ -231,8 +237,8 @@ IsMessageToSession client ids requested (requests k uri ask) content =
     × IsAskWithId ids requested id k uri ask
     × AcceptsEdits client ask
 
--- Holds if there are as many contents as messages, and the n-th content is the n-th message to the
--- session. `None` stands for a message outside the model.
+-- States that there are as many contents as messages, and that the n-th content is the n-th message
+-- to the session. If the n-th message is None, the n-th content is a message outside the model.
 abbrev pub AreMessagesToSession : ClientFeatures
     → List SentRequestId
     → List SentAsk
@@ -251,19 +257,19 @@ AreMessagesToSession client ids requested (None ∷ messages) [] = ⊥
 
 -- ---- what may happen
 
--- Returns the message to the editor in a content. None if it has no such message. The ask of an
--- answer is found by the ids.
+-- Returns the message to the editor in a content. None if the content has no such message. The
+-- answer's id shows, by the list `ids`, which ask is answered.
 abbrev pub message_to_editor_by_ids : List SentRequestId → List SentAsk → List ℕ → Option MessageToEditor
 message_to_editor_by_ids ids requested content = message_to_editor_by (ask_number_by_id ids) requested content
 
--- Returns the editor after it has read this message. For None the editor is unchanged. The editor
--- keeps an answer with edits to one of its asks, and nothing else.
+-- Returns the editor after it has read this message. The editor keeps an answer with edits to one
+-- of its asks, and nothing else. For None (no message), the editor is unchanged.
 abbrev pub after_reading_if_any : Editor → Option MessageToEditor → Editor
 after_reading_if_any e None = e
 after_reading_if_any e (Some message) = reads e message
 
--- Holds if the editor gets the first content that waits for it, and reads the message in it. If
--- none waits, nothing changes.
+-- States that the editor takes the first content that waits for it, and reads the message in this
+-- content. If no content waits for the editor, nothing changes.
 abbrev pub EditorReadsFirst : List (List ℕ) → Exchange → Exchange → Type 0
 EditorReadsFirst [] old new = new ≡ old
 EditorReadsFirst (content ∷ rest) old new =
@@ -273,11 +279,11 @@ EditorReadsFirst (content ∷ rest) old new =
       wire = record old.wire { got = old.wire.got ++ content ∷ []; to_editor = rest };
     }
 
--- returns the wire after the editor has written these contents
+-- returns the wire with these contents appended to the queue to the session
 abbrev pub with_contents : Wire → List (List ℕ) → Wire
 with_contents wire contents = record wire { to_server = wire.to_server ++ contents }
 
--- holds if this turn may lead from `old` to `new`
+-- states that this turn may lead from `old` to `new`
 abbrev pub Exchanges : Exchange → Turn → Exchange → Type 0
 Exchanges old (editor_does move) new =
     (done : ActResult)
@@ -310,7 +316,7 @@ Exchanges old server_takes new =
     × (new ≡ record old { wire = wire })
 Exchanges old editor_takes new = EditorReadsFirst old.wire.to_editor old new
 
--- holds if these turns, one after another, may lead from `old` to `new`
+-- states that these turns, one after another, may lead from `old` to `new`
 abbrev pub ExchangeCourse : Exchange → List Turn → Exchange → Type 0
 ExchangeCourse old [] new = new ≡ old
 ExchangeCourse old (turn ∷ turns) new =
@@ -318,14 +324,15 @@ ExchangeCourse old (turn ∷ turns) new =
 
 -- ---- the law
 
--- holds if the editor reads no message in the content, whatever requests it sends later
+-- states that the editor reads no message in the content, whatever requests the editor sends later
 abbrev pub NeverMeansMessage : List SentRequestId → List ℕ → Type 0
 NeverMeansMessage ids content =
     (later : List SentRequestId) (requested : List SentAsk)
     → message_to_editor_by_ids (ids ++ later) requested content ≡ None
 
--- Holds if there are as many contents as messages, and the editor reads the n-th message in the
--- n-th content. For `None` it reads no message.
+-- States that there are as many contents as messages, and that the editor reads the n-th message in
+-- the n-th content. If the n-th message is None, the editor never reads a message in the n-th
+-- content.
 abbrev pub AreMessagesToEditor : List SentRequestId
     → List SentAsk
     → List (Option MessageToEditor)
@@ -342,7 +349,7 @@ AreMessagesToEditor ids requested (None ∷ messages) [] = ⊥
 
 -- States that the same turns lead the model (`EditorAndServer`) to a state that matches this
 -- exchange. The editors are the same, and the session has the documents of the model's server. The
--- unread contents are the model's unread messages. So the model's guarantees hold here
+-- waiting contents are the model's waiting messages. So the model's guarantees hold here
 -- (`HoldsWithEditor`).
 pub record FollowsModel (unit : Unit) (turns : List Turn) (x : Exchange) : Type 0 where
   pub model : EditorAndServer
@@ -355,7 +362,7 @@ pub record FollowsModel (unit : Unit) (turns : List Turn) (x : Exchange) : Type 
       x.wire.to_server
   pub means : AreMessagesToEditor x.ids x.editor.requested model.to_editor x.wire.to_editor
   pub holds : HoldsWithEditor model
-  -- everything that was exchanged is one conversation of a session
+  -- the session has taken and sent these contents in one conversation, from the session's start
   pub conversation : Conversation server.start x.wire.taken (x.wire.got ++ x.wire.to_editor)
       x.wire.session
 
@@ -384,8 +391,8 @@ pub record IsExit (content : List ℕ) : Type 0 where
   pub params : Data
   pub means : meaning_of json ≡ notice (codes "exit") params
 
--- States that a session has sent the answer to `shutdown` and nothing else. It has ended with
--- status 0, and has the same documents.
+-- States that the session has sent the answer to the `shutdown` with this id, and nothing else. The
+-- session has ended with status 0, and its documents are unchanged.
 pub record EndsSession (id : Data) (before : ServerState) (sent : List (List ℕ)) (end : ServerState)
     : Type 0 where
   pub answer : Sends (result_message id null) sent
@@ -394,13 +401,14 @@ pub record EndsSession (id : Data) (before : ServerState) (sent : List (List ℕ
 
 -- ---- the headline of every exchange, without a model
 
--- a list of diagnostics with a version: its uri, its version, and whether it is empty
+-- a published list of diagnostics: the document's uri, the document's version, and whether the list
+-- is empty
 pub record VersionedPublication : Type 0 where
   pub uri : List ℕ
   pub version : ℤ
   pub empty : Bool
 
--- returns a list of the publication if the message publishes diagnostics with a version, otherwise
+-- returns a list of one publication if the message publishes diagnostics with a version, otherwise
 -- an empty list
 abbrev pub versioned_publication : Option MessageToEditor → List VersionedPublication
 versioned_publication (Some (publishes uri (Some version) empty)) =
@@ -409,12 +417,12 @@ versioned_publication (Some (publishes uri None empty)) = []
 versioned_publication (Some (answers k edits)) = []
 versioned_publication None = []
 
--- returns the lists of diagnostics with a version among these contents, in order
+-- returns the publications with a version in these contents, in order
 abbrev pub published_in : List (List ℕ) → List VersionedPublication
 published_in [] = []
 published_in (content ∷ contents) = versioned_publication (message_to_editor_in [] content) ++ published_in contents
 
--- Holds if there are as many lists of diagnostics as documents. The n-th list has the uri and
+-- States that there are as many lists of diagnostics as documents. The n-th list has the uri and
 -- version of the n-th document, and is empty exactly when that document's text is a well-typed
 -- module.
 abbrev pub AreCorrectFor : List VersionedPublication → List AnnouncedDocument → Type 0
@@ -427,7 +435,8 @@ AreCorrectFor (p ∷ published) (t ∷ announced) =
 AreCorrectFor [] (t ∷ announced) = ⊥
 AreCorrectFor (p ∷ published) [] = ⊥
 
--- Returns the last list of diagnostics for a uri. None if there is none.
+-- Returns the last list of diagnostics for the document with this uri. None if there is no list for
+-- this document.
 abbrev pub last_published : List ℕ → List VersionedPublication → Option VersionedPublication
 last_published uri published =
     fold (λ last p. if bytes_eq p.uri uri then Some p else last) None published
@@ -441,36 +450,37 @@ notifications_in contents = filter_map (message_to_server_in []) contents
 pub record HoldsOfExchange (begin now : Exchange) : Type 0 where
   -- each edit that the editor applied keeps the run
   pub applied : All KeepsTheRun now.applied
-  -- The lists of diagnostics with a version that the session has sent since the beginning are
-  -- right. They are for the first documents that the editor announced, in order.
+  -- The lists of diagnostics with a version that the session has sent after `begin` are correct.
+  -- They are for the first documents that the editor announced, in order. `since` are the contents
+  -- that the session has sent after `begin`.
   pub since : List (List ℕ)
   pub sent : now.wire.got ++ now.wire.to_editor ≡ begin.wire.got ++ since
   pub published_of : List AnnouncedDocument
   pub not_yet : List AnnouncedDocument
   pub announced : now.announced ≡ published_of ++ not_yet
   pub right : AreCorrectFor (published_in since) published_of
-  -- the contents that still wait for the session announce the other documents
+  -- the contents that still wait for the session announce the other documents, `not_yet`
   pub still_wait : map versioned_uri not_yet ≡ versions_announced_in (notifications_in now.wire.to_server)
-  -- If no waiting content opens, changes or closes a document, the latest list of each open
-  -- document is for its present version and text.
+  -- If no waiting content opens, changes or closes a document, the latest list of diagnostics of
+  -- each open document is for the document's present version and text.
   pub latest : notifications_in now.wire.to_server ≡ [] → (uri : List ℕ) (d : OpenDocument)
       → open_at now.editor uri ≡ Some d
       → MatchOption (last_published uri (published_in since)) ⊥
       (λ p. (p.version ≡ d.version) × IsEmptyIfWellTyped d.text p.empty)
-  -- once the session has taken the waiting contents, its documents are the editor's
+  -- once the session has taken the waiting contents, the session's documents are the editor's
   pub mirrors : (uri : List ℕ)
       → document_at (fold after_message now.wire.session.held (notifications_in now.wire.to_server)) uri
       ≡ option_map in_step_document (open_at now.editor uri)
-  -- everything that was exchanged is one conversation of a session, by the protocol
+  -- the session has taken and sent these contents in one conversation, from the session's start
   pub conversation : Conversation server.start now.wire.taken
       (now.wire.got ++ now.wire.to_editor) now.wire.session
-  -- if the session then takes `shutdown` and `exit`, it ends with status 0
+  -- if the session next takes `shutdown` and `exit`, it ends with status 0
   pub ends : (id : Data) (shutdown exit : List ℕ) → IsShutdown id shutdown → IsExit exit
       → (sent : List (List ℕ)) (end : ServerState)
       → Conversation now.wire.session (shutdown ∷ exit ∷ []) sent end
       → EndsSession id now.wire.session sent end
 
--- states that the guarantees hold with every editor that keeps ob0's rules, and every session
+-- states that the guarantees hold for every editor that keeps ob0's rules, and for every session
 abbrev pub HoldsForEveryExchange : Type 0
 HoldsForEveryExchange =
     (unit : Unit) (begin now : Exchange) (turns : List Turn)
@@ -480,9 +490,9 @@ HoldsForEveryExchange =
 
 -- ---- what a world plays
 
--- States that each course of the model's editor with a session is an exchange of an editor that
--- keeps ob0's rules. So each guarantee about exchanges holds for every list of events that `play`
--- plays.
+-- States that each course (`ConnectionCourse`) of the model's editor with a session is also an
+-- exchange of an editor that keeps ob0's rules. So each guarantee about exchanges holds for every
+-- list of events that `play` plays.
 abbrev pub ACourseIsAnExchange : Type 0
 ACourseIsAnExchange =
     (unit : Unit) (begin end : Connection) (events : List Event)

@@ -1,10 +1,11 @@
--- Defines which client and server of the model the stored ones mean, the invariant of the stored
--- ones, and the clauses of private functions. No contract of a public function mentions these. The
--- messages of a queue are a function of its contents (`all_messages_to_server`,
--- `all_messages_to_editor`). The invariant states that each content is a message. A content keeps
--- its meaning when more is requested (`proofs/Waiting`). `RunsWithEditor` states that the session
--- serves this editor. By the editor's `initialize`, its client accepts edits with document
--- versions, and literal code actions. So a WorkspaceEdit is always written as `documentChanges`.
+-- Defines the state of the model that a stored connection means, the invariant of a stored
+-- connection, and the clauses of private functions. No contract of a public function mentions these
+-- definitions. The messages of a queue are read from its contents (`all_messages_to_server`,
+-- `all_messages_to_editor`). By the invariant, each content is a message. A content keeps its
+-- meaning when the editor sends more requests (`proofs/Waiting`). `RunsWithEditor` states that the
+-- session serves this editor. According to the editor's `initialize`, the session's client accepts
+-- edits with document versions, and literal code actions. So a WorkspaceEdit is always written as
+-- `documentChanges`.
 -- Rule: none; for contracts: contents that wait, and what they say.
 use Rattle.std.specs.Prelude.{◌≡◌, ◌≤◌, ◌⊎◌, ℕ, ℤ, List, [], ◌∷◌, ◌++◌, map, length, All, Bool, true, Option, Some, None, Vec, option_and_then, filter_map}
 use Rattle.std.specs.declared.alloc.Global.{Global}
@@ -26,68 +27,69 @@ use Rattle.ob0_world.specs.Code.{publication_of}
 use Rattle.ob0_world.specs.Seen.{nothing, sent, report_of}
 use Rattle.ob0_world.specs.Worlds.{Wire, Connection}
 
--- contents that wait in a queue
+-- a list of contents, for example a queue; a content is the bytes of one message
 abbrev pub Contents : Type 0
 Contents = List (Vec ℕ Global)
 
--- returns the messages to the server in these contents, which are read with this list of sent asks
+-- returns the messages to the server in these contents, given the editor's list of sent asks
 abbrev pub all_messages_to_server : List SentAsk → Contents → List MessageToServer
 all_messages_to_server requested contents = filter_map (message_to_server_in requested) (content_bytes contents)
 
--- returns the messages to the editor in these contents, which are read with this list of sent asks
+-- returns the messages to the editor in these contents, given the editor's list of sent asks
 abbrev pub all_messages_to_editor : List SentAsk → Contents → List MessageToEditor
 all_messages_to_editor requested contents = filter_map (message_to_editor_in requested) (content_bytes contents)
 
--- holds if the content is a message to the server, given the list of sent asks
+-- states that the content is a message to the server, given the list of sent asks
 abbrev pub HasMessageToServer : List SentAsk → Vec ℕ Global → Type 0
 HasMessageToServer requested content = (m : MessageToServer) × IsMessageToServer requested m content.items
 
--- holds if the content is a message to the editor, given the list of sent asks
+-- states that the content is a message to the editor, given the list of sent asks
 abbrev pub HasMessageToEditor : List SentAsk → Vec ℕ Global → Type 0
 HasMessageToEditor requested content = (m : MessageToEditor) × (message_to_editor_in requested content.items ≡ Some m)
 
 -- ---- the session
 
--- Holds if the session is running, and its client accepts edits with document versions and literal
--- code actions, as the model's editor does. Such a session writes a WorkspaceEdit with versions,
--- and offers literal code actions.
+-- States that the session is running, and that its client accepts edits with document versions and
+-- literal code actions, as the model's editor does. Such a session writes a WorkspaceEdit with
+-- versions, and offers literal code actions.
 abbrev pub RunsWithEditor : ServerState → Type 0
 RunsWithEditor s =
     (s.phase ≡ Running)
     × (s.client.accepts_document_changes ≡ true)
     × (s.client.accepts_literal_actions ≡ true)
 
--- holds if the session is running with such a client (`RunsWithEditor`), or has failed
+-- states that the session is running with such a client (`RunsWithEditor`), or has failed
 abbrev pub RunsWithEditorOrFailed : ServerState → Type 0
 RunsWithEditorOrFailed s = RunsWithEditor s ⊎ (s.phase ≡ Failed)
 
 -- ---- publications
 
--- Returns the publication with these parts and the text of this document, for which it was made.
--- None if the document is out of step.
+-- Returns the publication with these parts and the text of this document, for which the diagnostics
+-- were made. None if the document is out of step.
 abbrev pub publication_with_text : List ℕ → ℤ → Bool → Document → Option Made
 publication_with_text uri version empty (InStep held text) =
     Some (record { uri = uri; version = version; text = text; empty = empty })
 publication_with_text uri version empty OutOfStep = None
 
--- Returns the message as a publication, with the text that it was made for. None if it isn't a
--- publication with a version, or if its document isn't open or is out of step.
+-- Returns the publication in a message, with the text that its document has in `held`. None if the
+-- message isn't a publication with a version, or if the document isn't open or is out of step.
 abbrev pub publication_in_message : OpenDocuments → MessageToEditor → Option Made
 publication_in_message held (publishes uri (Some version) empty) =
     option_and_then (publication_with_text uri version empty) (document_at held uri)
 publication_in_message held (publishes uri None empty) = None
 publication_in_message held (answers k edits) = None
 
--- Returns the first message as a publication (`publication_in_message`). None if there is no
--- message, or if it isn't such a publication. A server replies with at most one message.
+-- Returns the publication in the first message (`publication_in_message`). None if there is no
+-- message, or if the first one has no such publication. The first message is enough, because the
+-- server sends at most one reply.
 abbrev pub publication_in_first_message : OpenDocuments → List MessageToEditor → Option Made
 publication_in_first_message held [] = None
 publication_in_first_message held (m ∷ ms) = publication_in_message held m
 
 -- ---- the whole
 
--- states that the waiting contents are messages, and that the session is running (`RunsWithEditor`)
--- or has failed
+-- states that each waiting content is a message to its receiver, and that the session is running
+-- (`RunsWithEditor`) or has failed
 pub record Sound (requested : List SentAsk) (to_server to_editor : Contents)
     (session : ServerState) : Type 0 where
   pub heard_all : All (HasMessageToServer requested) to_server
@@ -112,7 +114,7 @@ model_from e to_server session to_editor applied made =
       made = map publication_of made;
     }
 
--- returns the session with the contents, made of the parts that the code stores
+-- returns the session with the contents in each direction, made of the parts that the code stores
 abbrev pub wire_from : ServerState → Contents → Contents → Contents → Contents → Wire
 wire_from session taken to_server got to_editor =
     record {
@@ -123,7 +125,8 @@ wire_from session taken to_server got to_editor =
       to_editor = content_bytes to_editor;
     }
 
--- returns client and server with their contents, made of the parts that the code stores
+-- returns the connection, made of the parts that the code stores: the model's client and server,
+-- and the session with the contents
 abbrev pub connection_from : Editor
     → Contents
     → ServerState
@@ -141,34 +144,35 @@ connection_from e to_server session to_editor applied made taken got =
 
 -- ---- what a world keeps
 
--- states that the editor's numbers of openings and asks, and the versions of its open documents,
--- are at most n
+-- states that the editor has opened documents at most `n` times and sent at most `n` asks, and that
+-- the version of each open document is at most `n`
 pub record Within (n : ℕ) (e : Editor) : Type 0 where
   pub openings : e.openings ≤ n
   pub asks : length e.requested ≤ n
   pub versions : (uri : List ℕ) (d : OpenDocument) → open_at e uri ≡ Some d → version_number d.version ≤ n
 
--- holds if some events lead from the start to this state
+-- states that some list of events leads from the start to this state
 abbrev pub IsReachable : ClientAndServer → Type 0
 IsReachable w = (unit : Unit) × (events : List Event) × Course (start unit) events w
 
 -- ---- the steps of the server's event
 
--- Returns the first of these contents as a publication (`publication_in_message`). None if there is
--- no content, or if it isn't such a publication.
+-- Returns the publication in the first of these contents (`publication_in_message`). None if there
+-- is no content, or if the first one has no such publication.
 abbrev pub publication_in_first_content : OpenDocuments → List SentAsk → Contents → Option Made
 publication_in_first_content held requested [] = None
 publication_in_first_content held requested (content ∷ contents) =
     option_and_then (publication_in_message held) (message_to_editor_in requested content.items)
 
--- Holds if the content was put at the end of the queue and is reported as sent. For None, holds if
--- the queue is unchanged and the report is that nothing happened.
+-- States that the content was put at the end of the queue, and that the report is `sent`. For None,
+-- the queue is unchanged and the report is `nothing`.
 abbrev pub QueuesContent : Contents → Option (Vec ℕ Global) → seen.Seen → Contents → Type 0
 QueuesContent old None seen new = (report_of seen ≡ nothing) × (new ≡ old)
 QueuesContent old (Some content) seen new = (report_of seen ≡ sent) × (new ≡ old ++ content ∷ [])
 
--- Holds if the first waiting content was moved to the end of the contents that the editor has got.
--- If no content waits, holds if nothing has changed.
+-- States that the first waiting content was moved to the end of the contents that the editor has
+-- taken. If no content waits, nothing has changed. The last two arguments are the waiting and the
+-- taken contents after the move.
 abbrev pub MovesFirst : Contents → Contents → Contents → Contents → Type 0
 MovesFirst [] got waiting' got' = (waiting' ≡ []) × (got' ≡ got)
 MovesFirst (content ∷ rest) got waiting' got' =

@@ -7,7 +7,7 @@ use Rattle.ob0_world_rules.specs.ClientAndServer.{Editor, MessageToServer, Messa
 use Rattle.ob0_world_rules.specs.EditorActs.{Act, open_document, change_document, close_document, ask_about, apply, discard, ActResult, act_result, edits_of_answer}
 use Rattle.ob0_world_rules.specs.Happens.{Event, does, serve, take_message, Happens}
 
--- a report on an event
+-- a report on an event: it says what happened
 pub data Seen : Type 0 where
   nothing : Seen
   sent : Seen
@@ -24,11 +24,11 @@ abbrev pub report_if_any : {A : Type 0} → List A → Seen → Seen → Seen
 report_if_any [] some none = none
 report_if_any (x ∷ xs) some none = some
 
--- returns the report on an act that may send a message
+-- returns the report on an act of the editor: `sent` if it sent a message, otherwise `nothing`
 abbrev pub send_report : ActResult → Seen
 send_report done = report_if_any done.sent sent nothing
 
--- returns the report on an act of the editor
+-- returns the report on an act that this editor performs
 abbrev pub act_report : Editor → Act → Seen
 act_report e (open_document uri text) = send_report (act_result e (open_document uri text))
 act_report e (change_document uri how) = send_report (act_result e (change_document uri how))
@@ -40,30 +40,31 @@ act_report e (apply k) =
     else nothing
 act_report e (discard k) = if is_some (edits_of_answer k e.answers) then drops k else nothing
 
--- Returns the report on the server's event. If a message waited for the server, the report is the
--- number of messages that it sent, by which the editor's queue grew from `before` to `after`.
+-- Returns the report on the event `serve`. The arguments are the queue to the server, and the queue
+-- to the editor `before` and `after` the event. If a message waited for the server, the report has
+-- the number of messages that the server sent. If no message waited, the report is `nothing`.
 abbrev pub serve_report : List MessageToServer → List MessageToEditor → List MessageToEditor → Seen
 serve_report [] before after = nothing
 serve_report (message ∷ rest) before after = served (length after - length before)
 
--- returns the report on the first message of the queue, which the editor takes; for an empty queue,
--- the report is that nothing happened
+-- Returns the report on the event in which the editor takes the first message of this queue. If the
+-- queue is empty, the report is `nothing`.
 abbrev pub take_report : List MessageToEditor → Seen
 take_report [] = nothing
 take_report (publishes uri version empty ∷ rest) = published uri empty
 take_report (answers k edits ∷ rest) = answered k (has_edits edits)
 
--- returns the report on an event that leads from one state to another
+-- returns the report on an event that leads from the state `old` to the state `new`
 abbrev pub event_report : ClientAndServer → Event → ClientAndServer → Seen
 event_report old (does act) new = act_report old.editor act
 event_report old serve new = serve_report old.to_server old.to_editor new.to_editor
 event_report old take_message new = take_report old.to_editor
 
--- holds if the event happens and this is the report on it
+-- states that the event happens and that this is the report on it
 abbrev pub HappensWithReport : ClientAndServer → Event → Seen → ClientAndServer → Type 0
 HappensWithReport old event seen new = Happens old event new × (seen ≡ event_report old event new)
 
--- returns the report for a value of the code's type `Seen`
+-- returns the model's report for a value of the code's type `Seen`
 abbrev pub report_of : seen.Seen → Seen
 report_of seen.TheVariants.Nothing = nothing
 report_of seen.TheVariants.Sent = sent

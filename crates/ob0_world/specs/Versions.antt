@@ -1,6 +1,7 @@
--- Defines the versions that answers mention, and a client that compares versions. A client doesn't
--- number openings. A version is enough, because an answer mentions the document that was asked
--- about, with the document's version at that time.
+-- Defines the versions that answers mention, and a client that compares versions. A real client
+-- doesn't number the openings of a document, as the model's editor does. The version is enough,
+-- because an answer mentions the document that was asked about, with the version that it had when
+-- the request was sent.
 -- Rule: none; laws of client and server, on LSP 3.17, OptionalVersionedTextDocumentIdentifier.
 use Rattle.std.specs.Prelude.{◌≡◌, ◌⊎◌, ⊤, ℕ, ℤ, List, [], ◌∷◌, All, Bool, Option, Some, None, option_and_then, option_map, if◌then◌else◌, codes}
 use Rattle.serde_json.specs.Data.{Data}
@@ -19,7 +20,8 @@ use Rattle.ob0_world.specs.Worlds.{Connection, Begins, ConnectionCourse}
 
 -- ---- the versions in answers
 
--- Returns the uri and the version in a document's identifier. None if one of them is missing.
+-- Returns the uri and the version in a document's identifier. None if the uri or the version is
+-- missing.
 abbrev pub uri_and_version_in : Data → Option (List ℕ × ℤ)
 uri_and_version_in d =
     option_and_then
@@ -27,50 +29,51 @@ uri_and_version_in d =
     (option_and_then as_integer (option_and_then as_number (get (codes "version") d))))
     (text_member (codes "uri") d)
 
--- Returns the uri and the version of the first document of a WorkspaceEdit. None if there is no
--- document, or its uri or version is missing.
+-- Returns the uri and the version of the first document in the `documentChanges` of a
+-- WorkspaceEdit. None if there is no such document, or if its uri or version is missing.
 abbrev pub edited_uri_and_version : Data → Option (List ℕ × ℤ)
 edited_uri_and_version edit =
     option_and_then uri_and_version_in (option_and_then (get (codes "textDocument"))
     (option_and_then (at 0) (get (codes "documentChanges") edit)))
 
--- Returns the WorkspaceEdit of the action with this title. None if there is no such action, or it
--- has no edit.
+-- Returns the WorkspaceEdit of the first action with this title in a list of code actions. None if
+-- there is no such action, or if the action has no edit.
 abbrev pub edit_of_action : List ℕ → Data → Option Data
 edit_of_action title value =
     option_and_then (get (codes "edit")) (option_and_then (titled_action title) (as_array value))
 
--- Returns the WorkspaceEdit in a result. The result of a rename is a WorkspaceEdit. The result of
--- an inlining is a list of actions with one each. The result of a formatting is a list of edits and
--- has none.
+-- Returns the WorkspaceEdit in the result of an ask, or None if there is none. The result of a
+-- rename is a WorkspaceEdit. The result of an inlining is a list of actions, each with a
+-- WorkspaceEdit. The result of a formatting is a list of edits, without a WorkspaceEdit.
 abbrev pub edit_in_result : Ask → Data → Option Data
 edit_in_result (rename position name) value = Some value
 edit_in_result (inline_here position) value = edit_of_action (codes "Inline here") value
 edit_in_result (inline_all position) value = edit_of_action (codes "Inline everywhere") value
 edit_in_result (format indent) value = None
 
--- Returns the uri and the version that an answer mentions. None if it mentions none.
+-- Returns the uri and the version that the answer to an ask mentions. None if it mentions none.
 abbrev pub answer_uri_and_version : Ask → Data → Option (List ℕ × ℤ)
 answer_uri_and_version ask answer =
     option_and_then edited_uri_and_version
     (option_and_then (edit_in_result ask) (get (codes "result") answer))
 
--- holds if an ask is for a formatting
+-- states that the ask requests a formatting
 abbrev pub IsFormatting : Ask → Type 0
 IsFormatting (rename position name) = ⊥
 IsFormatting (inline_here position) = ⊥
 IsFormatting (inline_all position) = ⊥
 IsFormatting (format indent) = ⊤
 
--- Holds if the answer mentions the document that was asked about, with the document's version at
--- that time. An answer without edits and an answer to a formatting needn't mention it.
+-- States that the answer mentions the document that was asked about, with the version that it had
+-- when the request was sent. An answer without edits and an answer to a formatting needn't mention
+-- it.
 abbrev pub MentionsAskedDocument : SentAsk → Data → Type 0
 MentionsAskedDocument a answer =
     (answer_uri_and_version a.ask answer ≡ Some (a.uri, a.version))
     ⊎ ((edits_for a.uri a.ask answer ≡ []) ⊎ IsFormatting a.ask)
 
--- Holds if the content has no number as its id, or it answers the request with that number and
--- `MentionsAskedDocument` holds for the two.
+-- States that a content whose id is a number answers the request with this number, and mentions the
+-- document of that request (`MentionsAskedDocument`). For any other content nothing is stated.
 abbrev pub MentionsDocumentOfAsk : List SentAsk → List ℕ → Type 0
 MentionsDocumentOfAsk requested content =
     (answer : Data) (k : ℕ)
@@ -79,8 +82,8 @@ MentionsDocumentOfAsk requested content =
     → (a : SentAsk) × (request_numbered requested k ≡ Some a) × MentionsAskedDocument a answer
 
 -- States that `MentionsDocumentOfAsk` holds for each content that waits for the editor, after any
--- list of events. The editor gets only contents that have waited, so it holds for all contents that
--- the editor gets.
+-- list of events. Each content that the editor takes has waited before, so the fact holds for these
+-- contents too.
 abbrev pub AnswersMentionVersions : Type 0
 AnswersMentionVersions =
     (unit : Unit) (begin : Connection) (events : List Event) (now : Connection)
@@ -90,13 +93,13 @@ AnswersMentionVersions =
 
 -- ---- a client that compares versions
 
--- true if a document has this version
+-- returns whether a document has this version
 abbrev pub has_version : ℤ → OpenDocument → Bool
 has_version version d = same_version d.version version
 
--- Returns the result of applying an answer's edits in a client that compares the uri and the
--- version in the answer. The edits are made in the open document with this uri. None if no open
--- document has this uri and this version, or if two edits share a character.
+-- Returns the result of applying an answer's edits in a client that goes by the uri and the version
+-- in the answer. The edits are made in the open document with this uri. None if no open document
+-- has this uri and this version, or if two edits share a character.
 abbrev pub apply_result_by_version : Editor → List ℕ → ℤ → List Replacement → Option ActResult
 apply_result_by_version e uri version edits =
     option_and_then
@@ -106,12 +109,14 @@ apply_result_by_version e uri version edits =
     (if has_version version d then edited e.unit d.text edits else None))
     (open_at e uri)
 
--- holds if the request's document is closed now, or has the same opening as at the request
+-- States that the request's document hasn't been opened again since the request: it is closed, or
+-- has the opening number that is stored with the request.
 abbrev pub IsNotReopened : Editor → SentAsk → Type 0
 IsNotReopened e a = (d : OpenDocument) → open_at e a.uri ≡ Some d → d.opening ≡ a.opening
 
--- States that a client that compares the version in an answer, and the model's editor, get the same
--- result when they apply its edits. The document mustn't have been opened again.
+-- States that a client that goes by the version in an answer gets the same result as the model's
+-- editor when it applies the answer's edits. The condition is that the document hasn't been opened
+-- again since the request.
 abbrev pub VersionsSuffice : Type 0
 VersionsSuffice =
     (e : Editor) (k : ℕ) (a : SentAsk) (edits : List Replacement)

@@ -26,12 +26,12 @@ use Rattle.ob0_world.specs.declared.played.Played as played
 -- the session that serves the editor, and the contents of all messages between the two
 pub record Wire : Type 0 where
   pub session : ServerState
-  -- the contents that the editor has written: those that the session has taken (`taken`), and those
-  -- that still wait (`to_server`)
+  -- the contents that the editor has written: the session has taken the first list (`taken`), and
+  -- the second (`to_server`) still waits for the session
   pub taken : List (List ℕ)
   pub to_server : List (List ℕ)
-  -- the contents that the session has sent: those that the editor has got (`got`), and those that
-  -- still wait (`to_editor`)
+  -- the contents that the session has sent: the editor has taken the first list (`got`), and the
+  -- second (`to_editor`) still waits for the editor
   pub got : List (List ℕ)
   pub to_editor : List (List ℕ)
 
@@ -40,8 +40,8 @@ pub record Connection : Type 0 where
   pub model : ClientAndServer
   pub wire : Wire
 
--- States that the editor has initialized a new session and got its answer, and that nothing else
--- has happened.
+-- States that the editor has initialized a new session and has taken the session's answer, and that
+-- nothing else has happened.
 pub record Begins (unit : Unit) (w : Connection) : Type 0 where
   pub content : List ℕ
   pub replies : List (List ℕ)
@@ -57,8 +57,8 @@ pub record Begins (unit : Unit) (w : Connection) : Type 0 where
         to_editor = [];
       }
 
--- Holds if the session takes the first content that waits for it, and the session's replies are
--- added to the contents that wait for the editor. If no content waits for the session, nothing
+-- States that the session takes the first content that waits for it, and that the session's replies
+-- are added to the contents that wait for the editor. If no content waits for the session, nothing
 -- changes.
 abbrev pub SessionTakesFirst : List (List ℕ) → Wire → Wire → Type 0
 SessionTakesFirst [] old new = new ≡ old
@@ -72,27 +72,29 @@ SessionTakesFirst (content ∷ rest) old new =
       to_editor = old.to_editor ++ sent;
     })
 
--- Holds if the editor gets the first content that waits for it. If none waits, nothing changes.
+-- States that the editor takes the first content that waits for it. If no content waits for the
+-- editor, nothing changes.
 abbrev pub EditorGetsFirst : List (List ℕ) → Wire → Wire → Type 0
 EditorGetsFirst [] old new = new ≡ old
 EditorGetsFirst (content ∷ rest) old new =
     new ≡ record old { got = old.got ++ content ∷ []; to_editor = rest }
 
--- holds if the editor writes at most one content, which joins the end of the queue to the session
+-- states that the editor writes at most one content, which is appended to the queue to the session
 abbrev pub WritesContent : Wire → Wire → Type 0
 WritesContent old new =
     (content : Option (List ℕ))
     × (new ≡ record old { to_server = old.to_server ++ option_to_list content })
 
--- Holds if this event changes the session and the contents from `old` to `new`. Only the server's
--- event changes the session. No waiting content is lost, changed or moved to another place in its
+-- States that this event changes the session and the contents from `old` to `new`. Only the event
+-- `serve` changes the session. No waiting content is lost, changed or moved to another place in its
 -- queue.
 abbrev pub MovesWire : Event → Wire → Wire → Type 0
 MovesWire (does act) old new = WritesContent old new
 MovesWire serve old new = SessionTakesFirst old.to_server old new
 MovesWire take_message old new = EditorGetsFirst old.to_editor old new
 
--- holds if there are as many contents as messages, and the n-th content is the n-th message
+-- states that there are as many contents as messages, and that the n-th content is the n-th message
+-- to the server
 abbrev pub AreMessagesToServer : List SentAsk → List MessageToServer → List (List ℕ) → Type 0
 AreMessagesToServer requested [] [] = ⊤
 AreMessagesToServer requested (m ∷ messages) (content ∷ contents) =
@@ -100,22 +102,23 @@ AreMessagesToServer requested (m ∷ messages) (content ∷ contents) =
 AreMessagesToServer requested [] (content ∷ contents) = ⊥
 AreMessagesToServer requested (m ∷ messages) [] = ⊥
 
--- States that the waiting contents are the waiting messages, in both directions, and that the
--- server's documents are the session's.
+-- States that the waiting contents are the messages that wait in the model, in both directions. The
+-- documents of the model's server are the session's.
 pub record IsTied (w : Connection) : Type 0 where
   pub says : AreMessagesToServer w.model.editor.requested w.model.to_server w.wire.to_server
   pub means : map (message_to_editor_in w.model.editor.requested) w.wire.to_editor
       ≡ map Some w.model.to_editor
   pub documents : w.model.held ≡ w.wire.session.held
 
--- States that one event happens in the model and changes the session and the contents
--- (`MovesWire`), and that the waiting contents are the model's messages after it (`IsTied`).
+-- States that one event happens in the model, and that it changes the session and the contents
+-- (`MovesWire`). After the event, the waiting contents are the messages that wait in the model
+-- (`IsTied`).
 pub record ConnectionStep (old : Connection) (event : Event) (new : Connection) : Type 0 where
   pub happens : Happens old.model event new.model
   pub moves : MovesWire event old.wire new.wire
   pub tied : IsTied new
 
--- holds if these events, one after another, lead from `old` to `new`
+-- states that these events, one after another, lead from `old` to `new`
 abbrev pub ConnectionCourse : Connection → List Event → Connection → Type 0
 ConnectionCourse old [] new = new ≡ old
 ConnectionCourse old (event ∷ events) new =
@@ -123,20 +126,21 @@ ConnectionCourse old (event ∷ events) new =
 
 -- ---- lists of events
 
--- holds if the code returns the applied edits and the publications of this state
+-- states that the code returns the applied edits and the publications of this state, in order
 abbrev pub ResultsMatch : ClientAndServer → played.Played → Type 0
 ResultsMatch w p = (played_edits p ≡ w.applied) × (played_publications p ≡ w.made)
 
--- holds if the code returns the contents that were taken by each side, and those that wait for the
--- editor
+-- states that the code returns the contents that each side has taken, and the contents that wait
+-- for the editor
 abbrev pub ContentsMatch : Wire → played.Played → Type 0
 ContentsMatch w p =
     (content_bytes p.taken.items ≡ w.taken)
     × (content_bytes p.got.items ≡ w.got)
     × (content_bytes p.unread.items ≡ w.to_editor)
 
--- States the headline for a list of events and the edits and publications that the code returns. In
--- these events a session, from its start, took and sent the contents that the code returns.
+-- States the guarantees (`Headline`) for a list of events, and for the edits and publications that
+-- the code returns. In these events a session, from its start, took and sent the contents that the
+-- code returns.
 pub record Plays (unit : Unit) (events : List event.Event) (p : played.Played) : Type 0 where
   pub headline : Headline unit (map event_of events) (played_edits p) (played_publications p)
   pub begin : Connection
@@ -149,7 +153,7 @@ pub record Plays (unit : Unit) (events : List event.Event) (p : played.Played) :
   pub conversation : Conversation server.start (content_bytes p.taken.items)
       (content_bytes p.got.items ++ content_bytes p.unread.items) after
 
--- States that the code returns no step, no edit, no publication and no content.
+-- States that the code reports 0 steps, and returns no edit, no publication and no content.
 pub record PlaysNothing (unit : Unit) (fault : PlayFault) : Type 0 where
   pub none : fault.steps ≡ 0
   pub headline : Headline unit [] (played_edits fault.played) (played_publications fault.played)
@@ -157,8 +161,9 @@ pub record PlaysNothing (unit : Unit) (fault : PlayFault) : Type 0 where
   pub got : fault.played.got.items ≡ []
   pub unread : fault.played.unread.items ≡ []
 
--- Holds if only the first events were played, as many as the fault counts, and `Plays` holds for
--- them. It also holds if the code returns nothing (`PlaysNothing`).
+-- States one of two things. Either only the first `fault.steps` events were played, fewer than all,
+-- and `Plays` holds for them. Or no event was played, and the code returns no results
+-- (`PlaysNothing`).
 abbrev pub PlaysPrefix : Unit → List event.Event → PlayFault → Type 0
 PlaysPrefix unit events fault =
     ((fault.steps < length events) × Plays unit (take fault.steps events) fault.played)
@@ -166,12 +171,12 @@ PlaysPrefix unit events fault =
 
 -- ---- a world, event by event
 
--- a connection, the number of steps that were made, and whether it has ended
+-- a connection, the number of steps that were made, and whether a step has failed
 pub record World : Type 0 where
   pub connection : Connection
   -- the number of steps that were made
   pub steps : ℕ
-  -- true if a step has failed
+  -- true if a step has failed; an ended world makes no more steps
   pub ended : Bool
 
 -- states that nothing has happened in this world yet
@@ -180,20 +185,21 @@ pub record IsNew (unit : Unit) (w : World) : Type 0 where
   pub none : w.steps ≡ 0
   pub goes_on : w.ended ≡ false
 
--- states that the event happens, is reported, and is counted as a step
+-- states that the event happens, is reported and is counted as a step, and that the world hasn't
+-- ended
 pub record MakesStep (old : World) (event : Event) (seen : Seen) (new : World) : Type 0 where
   pub made : ConnectionStep old.connection event new.connection
   pub shown : seen ≡ event_report old.connection.model event new.connection.model
   pub counted : new.steps ≡ old.steps + 1
   pub goes_on : new.ended ≡ false
 
--- Holds if the world makes this step. The first argument is true if the world had ended before. An
--- ended world makes no step.
+-- States that the world makes this step. The first argument is true if the world had ended before
+-- the step. An ended world makes no step.
 abbrev pub StepsUnlessEnded : Bool → World → Event → Seen → World → Type 0
 StepsUnlessEnded false old event seen new = MakesStep old event seen new
 StepsUnlessEnded true old event seen new = ⊥
 
--- holds if the world makes this step
+-- states that the event happens in the world with this report, as one step
 abbrev pub WorldSteps : World → Event → Seen → World → Type 0
 WorldSteps old event seen new = StepsUnlessEnded old.ended old event seen new
 
@@ -206,9 +212,10 @@ pub record SameHistory (old new : Connection) : Type 0 where
   pub got : new.wire.got ≡ old.wire.got
   pub unread : new.wire.to_editor ≡ old.wire.to_editor
 
--- Holds if a step fails with this fault. The first argument is true if the world had ended. A step
--- that fails with `Memory` isn't counted and ends the world, which keeps its results and the
--- exchanged contents. Each step of an ended world fails with `Ended` and changes nothing.
+-- States that a step fails with this fault. The first argument is true if the world had ended
+-- before the step. A step that fails with `Memory` isn't counted, and ends the world. The world
+-- keeps its results and the exchanged contents. Each step of an ended world fails with `Ended` and
+-- changes nothing.
 abbrev pub FailsGivenEnded : Bool → World → WorldFault → World → Type 0
 FailsGivenEnded false old Memory new =
     SameHistory old.connection new.connection × (new.steps ≡ old.steps) × (new.ended ≡ true)
@@ -216,6 +223,6 @@ FailsGivenEnded false old Ended new = ⊥
 FailsGivenEnded true old Memory new = ⊥
 FailsGivenEnded true old Ended new = new ≡ old
 
--- holds if this step of the world fails with this fault
+-- states that a step of the world fails with this fault
 abbrev pub WorldFails : World → WorldFault → World → Type 0
 WorldFails old fault new = FailsGivenEnded old.ended old fault new

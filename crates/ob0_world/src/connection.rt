@@ -1,4 +1,4 @@
-//! Connects an editor and a session by two queues, and performs the events.
+//! Connects an editor and a session by two queues of messages, and makes their events happen.
 ghost use Rattle.std.specs.Prelude.{◌≡◌, ◌<◌, IfOk, OnErr, OnOk, map, option_map, option_and_then, string_bytes};
 ghost use Rattle.std.specs.Str.{chars};
 ghost use Rattle.std.specs.Vec.{vec_capacity, vec_len};
@@ -26,8 +26,8 @@ use std::alloc::{AllocError, Global};
 use std::collections::VecDeque;
 use std::marker::Model;
 
-/// An editor and a session, with the contents that wait for each, the contents that each has taken,
-/// and the results so far.
+/// An editor and a session, with the contents of the messages that wait for each of them, the
+/// contents that each has taken, and the results so far.
 #[derive(Drop)]
 pub struct Connection<T: TextStore> {
     alloc: Global,
@@ -39,7 +39,7 @@ pub struct Connection<T: TextStore> {
     made: Vec<Made>,
     /// The contents that the session has taken, in order.
     taken: Vec<Vec<u8>>,
-    /// The contents that the editor has got, in order.
+    /// The contents that the editor has taken, in order.
     got: Vec<Vec<u8>>,
 }
 
@@ -85,8 +85,8 @@ impl<T: TextStore> Connection<T> {
         })
     }
 
-    /// Does nothing, and is called only for its contract, which is a law: the waiting contents are
-    /// the messages of the model.
+    /// Does nothing, and is called only for its contract, which is a law. By this law, the contents
+    /// that wait in the two queues are the messages that wait in the model.
     pub(crate) fn contents_match_messages(&self)
         ensures { IsTied self.now }
     {
@@ -94,7 +94,8 @@ impl<T: TextStore> Connection<T> {
         let _waiting = self.to_server.len();
     }
 
-    /// Returns the applied edits, the publications and the contents of all events so far.
+    /// Returns the applied edits, the publications, the contents that each side has taken, and the
+    /// contents that wait for the editor.
     pub fn into_played(self) -> Played
         ensures come { ResultsMatch self.model result }
         ensures passed { ContentsMatch self.wire result }
@@ -108,8 +109,8 @@ impl<T: TextStore> Connection<T> {
         }
     }
 
-    /// Makes an event happen and reports it. If an allocation fails, the results and the exchanged
-    /// contents are unchanged.
+    /// Makes an event happen and returns the report on it. If an allocation fails, the results and
+    /// the exchanged contents are unchanged (`SameHistory`).
     pub fn perform_event(&mut self, event: &Event) -> Result<Seen, AllocError>
         requires { AreFew self.old.model.editor }
         ensures ok { IfOk result
@@ -173,8 +174,9 @@ impl<T: TextStore> Connection<T> {
         send(&mut self.to_server, content)
     }
 
-    /// Lets the session take the first content that waits, and queues its replies for the editor. A
-    /// publication with a version is recorded with the text that its document has at this time.
+    /// Lets the session take the first content that waits for it, and queues the session's replies
+    /// for the editor. If the first reply is a publication with a version, it is recorded with the
+    /// text that its document then has. If no content waits, nothing happens.
     fn serve(&mut self) -> Result<Seen, AllocError>
         ensures ok { IfOk result
             (λ seen. HappensWithReport self.old.model events.serve (report_of seen) self.new.model) }
@@ -264,8 +266,8 @@ impl<T: TextStore> Connection<T> {
     }
 }
 
-/// Moves the first content of a queue, if there is one, to the end of `got`, which must have room
-/// for it.
+/// Moves the first content of `waiting`, if there is one, to the end of `got`. The list `got` must
+/// have room for one more content.
 fn move_first(waiting: &mut VecDeque<Vec<u8>>, got: &mut Vec<Vec<u8>>)
     requires { vec_len got.old < vec_capacity got.old }
     ensures { MovesFirst waiting.old.items got.old.items waiting.new.items got.new.items }
@@ -275,8 +277,8 @@ fn move_first(waiting: &mut VecDeque<Vec<u8>>, got: &mut Vec<Vec<u8>>)
     }
 }
 
-/// Queues a content if there is one, and reports whether it was sent. If the allocation fails, the
-/// queue is unchanged.
+/// Puts a content, if there is one, at the end of the queue, and returns `Sent`. For None, returns
+/// `Nothing`. If the allocation fails, the queue is unchanged.
 fn send(queue: &mut VecDeque<Vec<u8>>, content: Option<Vec<u8>>) -> Result<Seen, AllocError>
     ensures ok { IfOk result (λ seen. QueuesContent queue.old.items content seen queue.new.items) }
     ensures err { OnErr result (queue.new.items ≡ queue.old.items) }
@@ -290,8 +292,8 @@ fn send(queue: &mut VecDeque<Vec<u8>>, content: Option<Vec<u8>>) -> Result<Seen,
     }
 }
 
-/// Gives the session a content, and returns its replies. If an allocation fails, the session has
-/// failed for good.
+/// Lets the session take a content, and returns the contents of the session's replies. If an
+/// allocation fails, the session has failed for good.
 fn answer<T: TextStore>(
     session: &mut Session<T>,
     content: &[u8],
@@ -309,9 +311,9 @@ fn answer<T: TextStore>(
     }
 }
 
-/// Returns the first of these contents as a publication, with the present text of its document.
-/// None if there is no content, if the first isn't a publication with a version, or if the document
-/// isn't open or is out of step.
+/// Returns the publication in the first content of `sent`, with the text that the publication's
+/// document has in `documents`. None if there is no content, if the first content isn't a
+/// publication with a version, or if the document isn't open or is out of step.
 fn first_publication<T: TextStore>(
     alloc: Global,
     editor: &Editor,
@@ -356,8 +358,8 @@ fn publication_in_content<T: TextStore>(
     }
 }
 
-/// Returns a publication with these parts and the present text of its document. None if that
-/// document isn't open or is out of step.
+/// Returns a publication with these parts and the text that its document has in `documents`. None
+/// if the document isn't open or is out of step.
 fn publication_from_documents<T: TextStore>(
     alloc: Global,
     documents: &Documents<T>,

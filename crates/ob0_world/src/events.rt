@@ -8,14 +8,16 @@ use ob0_world_editor::Ask;
 pub enum Event {
     /// The editor opens a document, with version 1. If it is open already, nothing happens.
     OpenDoc { uri: String, text: String },
-    /// The editor makes these changes in order, each in the result of the one before.
+    /// The editor makes these changes in order, each in the text that the previous change has left.
+    /// If the document isn't open, nothing happens.
     ChangeDoc { uri: String, changes: Vec<Change> },
     CloseDoc { uri: String },
-    /// The editor sends this ask about a document. The asks that are sent are numbered from 1.
+    /// The editor sends this request about an open document. Such requests are numbered from 1, in
+    /// the order in which they are sent.
     Ask { uri: String, ask: Ask },
-    /// The server takes one message and sends its replies.
+    /// The server takes the first message that waits for it, and sends its replies.
     Serve,
-    /// The editor takes one message.
+    /// The editor takes the first message that waits for it.
     Take,
     /// The editor applies the answer to ask `k`, if it has this answer.
     Apply { k: u64 },
@@ -32,9 +34,10 @@ pub enum Seen {
     Sent,
     /// The server took a message and sent this many messages.
     Served(usize),
-    /// The editor took a list of diagnostics. `empty` is true if the list has none.
+    /// The editor took the diagnostics of a document. `empty` is true if there are none.
     Published { uri: String, empty: bool },
-    /// The editor took the answer to ask `k`, which it keeps if the answer has edits.
+    /// The editor took the answer to ask `k`. `edits` is true if the answer has edits. The editor
+    /// keeps only such an answer.
     Answered { k: u64, edits: bool },
     Applied { k: u64 },
     Dropped { k: u64 },

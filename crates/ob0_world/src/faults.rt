@@ -1,9 +1,9 @@
-//! The faults of a world. Each comes from a failed allocation.
+//! Defines the faults of a world. Each fault is the result of a failed allocation.
 
 use crate::played::Played;
 use thiserror::Error;
 
-/// The reason why a step wasn't made.
+/// The reason why a world or a step wasn't made.
 #[derive(Clone, Copy, Debug, Drop, PartialEq, Eq, Error)]
 pub enum WorldFault {
     #[error("out of memory")]
@@ -12,8 +12,8 @@ pub enum WorldFault {
     Ended,
 }
 
-/// The fault of `play` and `play_in`: an allocation failed. `steps` events were made before the
-/// failure, and `played` has their results.
+/// The fault of `play` and `play_in`: an allocation failed. Before the failure `steps` events
+/// happened, and `played` has their results.
 #[derive(Debug, Drop, Error)]
 #[error("out of memory")]
 pub struct PlayFault {

@@ -2,36 +2,38 @@
 ghost use Rattle.ob0_world.specs.Exchanges.{ACourseIsAnExchange, HoldsForEveryExchange, EveryExchangeFollowsModel};
 ghost use Rattle.ob0_world.specs.Versions.{AnswersMentionVersions, VersionsSuffice};
 
-/// Proves that an answer with edits mentions, in `documentChanges`, the document that was asked
-/// about, with the document's version at that time. An answer to a formatting request is an
-/// exception: it is a list of edits and mentions no document.
+/// Proves that an answer with edits mentions the document that was asked about, and the version
+/// that this document had when the request was sent. Both are in `documentChanges`. The answer to a
+/// formatting request is an exception: it is a list of edits and mentions no document.
 pub fn answers_mention_versions()
     ensures { AnswersMentionVersions }
 {}
 
-/// Proves that a client may decide by the version in an answer whether to apply its edits. If the
-/// document hasn't been opened again since the request, the model's editor has the same result.
+/// Proves that a client may decide by the version in an answer whether to apply the answer's edits.
+/// If the document hasn't been opened again since the request, such a client gets the same result
+/// as the model's editor.
 pub fn versions_suffice()
     ensures { VersionsSuffice }
 {}
 
-/// Proves that a session and an editor that keeps ob0's rules make the turns of the model
-/// (`EditorAndServer`), one by one. So each edit that the editor applies keeps the run, and each
-/// publication of the session is right.
+/// Proves that every exchange between a session and an editor that keeps ob0's rules follows the
+/// model (`EditorAndServer`), turn by turn. So each edit that the editor applies keeps the module's
+/// run: the same output and the same end. Each publication of the session is correct.
 pub fn every_exchange_follows_model()
     ensures { EveryExchangeFollowsModel }
 {}
 
 /// Proves the guarantees for a session and an editor that keeps ob0's rules, whatever they have
-/// exchanged. Each edit that the editor applied keeps the run. Each list of diagnostics with a
-/// version is right, and made for the next document that the editor announced. The session will
-/// have the editor's documents once it has taken the waiting contents.
+/// exchanged. Each edit that the editor applied keeps the module's run: the same output and the
+/// same end. The n-th list of diagnostics with a version is correct for the n-th document that the
+/// editor announced. The session will have the editor's documents once it has taken the waiting
+/// contents.
 pub fn holds_for_every_exchange()
     ensures { HoldsForEveryExchange }
 {}
 
-/// Proves that each course of the model's editor with a session, as `play` plays it, is an exchange
-/// of an editor that keeps ob0's rules.
+/// Proves that each list of events, as `play` plays it with the model's editor and a session, is an
+/// exchange of an editor that keeps ob0's rules.
 pub fn a_course_is_an_exchange()
     ensures { ACourseIsAnExchange }
 {}

@@ -1,5 +1,6 @@
 //! Plays lists of events of an editor and a session, with a queue of messages in each direction.
-//! Whatever the order of the events, each edit that the editor applies keeps the run of the module.
+//! Whatever the order of the events, each edit that the editor applies leaves a well-typed module
+//! with the same output and the same end.
 #![tactic(auto)]
 
 mod connection;

@@ -3,8 +3,8 @@
 use ob0_world_editor::Applied;
 use std::collections::VecDeque;
 
-/// A publication with a version, the text that it was made for, and whether its list of diagnostics
-/// is empty.
+/// A publication of diagnostics with the document's version, and the text that the diagnostics were
+/// made for. `empty` is true if there are none.
 #[derive(Debug, Drop)]
 pub struct Made {
     pub uri: String,
@@ -13,16 +13,17 @@ pub struct Made {
     pub empty: bool,
 }
 
-/// All applied edits, all publications with a version, and the contents of all messages, each in
-/// order.
+/// The results of a list of events, each list in order: the applied edits, the publications with a
+/// version, and the contents of the messages. Only the contents that still wait for the session are
+/// left out.
 #[derive(Debug, Drop)]
 pub struct Played {
     pub applied: Vec<Applied>,
     pub made: Vec<Made>,
-    /// The contents that the session took; the first is the editor's `initialize`.
+    /// The contents that the session took. The first is the editor's `initialize`.
     pub taken: Vec<Vec<u8>>,
-    /// The contents that the editor got from the session; the first is the answer to `initialize`.
+    /// The contents that the editor took. The first is the session's answer to `initialize`.
     pub got: Vec<Vec<u8>>,
-    /// The contents that the session sent and the editor hasn't got yet.
+    /// The contents that the session sent and the editor hasn't taken yet.
     pub unread: VecDeque<Vec<u8>>,
 }

@@ -1,18 +1,18 @@
 //! Plays lists of events with an editor and a session.
 //!
-//! A `Connection` has two parts. Its model is a client and a server by the rules
-//! (`ClientAndServer`), with documents and messages. Its `Wire` is the session and all contents,
-//! those taken and those that wait, in each direction.
+//! A `Connection` has two parts. The first is the model: a client and a server (`ClientAndServer`),
+//! with their documents and messages. The second is the `Wire`: the session, and the contents of
+//! all messages in each direction, taken or still waiting.
 //!
-//! `MovesWire` states what each event does to the session and the contents, and `IsTied` joins the
+//! `MovesWire` states how each event changes the session and the contents, and `IsTied` joins the
 //! two parts. (`Connection::contents_match_messages` is called only for its contract.) The contract
 //! of a step distinguishes whether the world had ended before the step (`WorldSteps`,
 //! `WorldFails`).
 //!
 //! `Plays` states the headline, and that the events are a course of the connection
 //! (`ConnectionCourse`) that starts with an initialized session (`Begins`). The code returns the
-//! exchanged contents. So even a body without a session would have to return the contents of a
-//! conversation.
+//! exchanged contents. So even a function body that used no session would have to return the
+//! contents of a conversation.
 ghost use Rattle.std.specs.Prelude.{◌≡◌, ◌<◌, ◌-◌, ◌^◌, [], length, IfOk, OnOk, IfErr};
 ghost use Rattle.ob0_text.specs.declared.position_types.Unit.TheVariants.{Utf16};
 ghost use Rattle.ob0_world_rules.specs.Headline.{Holds};
@@ -31,7 +31,8 @@ use std::alloc::{AllocError, Global};
 use std::collections::VecDeque;
 use std::marker::Model;
 
-/// An editor and a session with a queue in each direction, and the number of steps made.
+/// An editor and a session with a queue in each direction, the number of steps made, and whether a
+/// step has failed.
 #[derive(Drop)]
 pub struct World<T: TextStore> {
     connection: Connection<T>,
@@ -92,9 +93,9 @@ impl<T: TextStore> World<T> {
         self.steps
     }
 
-    /// Makes one event happen and reports it. The server's event is one `Session::step` on the
-    /// first content that waits. If an allocation fails, the world ends: each later step returns
-    /// `Ended`.
+    /// Makes one event happen and returns the report on it. For `Serve`, the session takes the
+    /// first content that waits, in one call of `Session::step`. If an allocation fails, the world
+    /// ends: each later step returns `Ended`.
     pub fn step(&mut self, event: &Event) -> Result<Seen, WorldFault>
         requires few { self.old.steps < 2 ^ 63 - 1 }
         ensures ok { IfOk result
@@ -128,7 +129,8 @@ impl<T: TextStore> World<T> {
         self.connection.into_played()
     }
 
-    /// Plays a list of events from the start, with positions in UTF-16 units.
+    /// Plays a list of events in a new world and returns the results. Both sides count positions in
+    /// UTF-16 units.
     pub fn play(alloc: Global, events: &[Event]) -> Result<Played, PlayFault>
         requires few { length events.now < 2 ^ 63 - 1 }
         ensures ok { IfOk result (λ played. Plays Utf16 events.now played) }

@@ -1,4 +1,5 @@
-//! Proves that each request of an editor has an answer, so that a law about every course is about at least one.
+//! Proves that each request for edits has an answer, and that each list of events leads to some
+//! state. So a law about every list of events isn't vacuous.
 ghost use Rattle.ob0_world_answers.specs.Answering.{EachAskHasAnswers, EachEventListHasACourse};
 
 use ob0_inline_answers::laws::{inlining_everywhere_has_answers, inlining_here_has_answers};
@@ -18,7 +19,7 @@ pub fn each_ask_has_answers()
     inlining_everywhere_has_answers();
 }
 
-/// Proves that each list of events has a course.
+/// Proves that each list of events has a course: the events lead from the start to some state.
 pub fn each_event_list_has_a_course()
     ensures { EachEventListHasACourse }
 {

@@ -1,4 +1,5 @@
-//! Laws that each request of an editor has an answer, and each list of events a course.
+//! Proves that each request for edits has an answer, and that each list of events leads to some
+//! state.
 #![tactic(auto)]
 
 pub mod laws;

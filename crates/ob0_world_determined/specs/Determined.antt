@@ -1,5 +1,5 @@
--- States that the server's input determines its output: the diagnostics of a text, the replies to a
--- message, and the written bytes.
+-- States that the server's input determines the server's output: the diagnostics of a text, the
+-- replies to a message, and the written bytes.
 -- Rule: none; laws of the session.
 use Rattle.std.specs.Prelude.{◌≡◌, ◌≢◌, ◌≤◌, ◌++◌, ◌⊎◌, ℕ, List, [], length, All, Bool, Result, Ok, Err, ⊤}
 use Rattle.std.specs.List.{flat_map}
@@ -16,19 +16,20 @@ use Rattle.ob0_session.specs.declared.serving.ServeFault.TheVariants.{BadHead, T
 
 -- ---- diagnostics
 
--- holds if two parsed modules have the same tokens and the same tree
+-- states that two parsed modules have the same tokens and the same tree
 abbrev pub AreSameModule : ParsedModule → ParsedModule → Type 0
 AreSameModule m n = (m.source ≡ n.source) × (tree_of m ≡ tree_of n)
 
--- States that two resolutions of the same module agree at each token. Both give the token the
--- ordinal of the same declaration, or both give it none.
+-- States that a module's names are resolved in only one way: two resolutions of the same module
+-- agree at each token. Both give the token the ordinal of the same declaration, or both give it
+-- none.
 abbrev pub TableIsDetermined : Type 0
 TableIsDetermined =
     (r q : Resolution) → IsResolution r → IsResolution q
     → AreSameModule r.module_read q.module_read
     → (token : ℕ) → ordinal_in r.ordinals token ≡ ordinal_in q.ordinals token
 
--- states that two lists of diagnostics of one text are equal
+-- states that a text has only one list of diagnostics
 abbrev pub DiagnosesAreDetermined : Type 0
 DiagnosesAreDetermined =
     (text : List ℕ) (found other : List Complaint)
@@ -36,21 +37,22 @@ DiagnosesAreDetermined =
 
 -- ---- replies
 
--- states that a reply determines the contents that the session sends for it
+-- states that a reply determines the contents that the session sends for this reply
 abbrev pub ReplyIsDetermined : Type 0
 ReplyIsDetermined =
     (reply : Reply) (sent other : List (List ℕ))
     → AreContentsOfReply reply sent → AreContentsOfReply reply other → sent ≡ other
 
--- states that a content and the state before it determine the replies and the state after it
+-- states that a session's state and the content that it takes next determine the session's replies
+-- and its next state
 abbrev pub AnswerIsDetermined : Type 0
 AnswerIsDetermined =
     (before : ServerState) (content : List ℕ) (sent other : List (List ℕ)) (after end : ServerState)
     → Answers before content sent after → Answers before content other end
     → (sent ≡ other) × (after ≡ end)
 
--- states that the state before a conversation and its contents determine the replies and the state
--- after it
+-- states that a session's state and the contents that it takes in a conversation determine the
+-- session's replies and its state after the conversation
 abbrev pub ConversationIsDetermined : Type 0
 ConversationIsDetermined =
     (before : ServerState) (contents sent other : List (List ℕ)) (after end : ServerState)
@@ -59,19 +61,19 @@ ConversationIsDetermined =
 
 -- ---- bytes
 
--- Holds if `serve` may return this result after it has read the bytes `taken` and written the bytes
--- `put`. The reader and the writer may have failed or not.
+-- States that `serve` may return this result after it has read the bytes `taken` and written the
+-- bytes `put`. The reader or the writer may have failed.
 abbrev pub MayServe : Result ℕ ServeFault → List ℕ → List ℕ → Type 0
 MayServe result taken put =
     (reader_failed : Bool) × (writer_failed : Bool)
     × Serves result taken put ⊤ ⊤ reader_failed writer_failed ⊤
 
--- holds if the result is neither `Memory` nor `Write`, so that all output has been written
+-- states that the result is neither `Memory` nor `Write`, so that all output has been written
 abbrev pub IsFullyWritten : Result ℕ ServeFault → Type 0
 IsFullyWritten result = (result ≢ Err Memory) × (result ≢ Err Write)
 
--- holds if the bytes that were read decide the result: it comes from an `exit`, the end of the
--- input, or a bad head
+-- states that the bytes that were read decide the result: an `exit`, the end of the input, or a bad
+-- head ended the call
 abbrev pub IsDeterminedByBytes : Result ℕ ServeFault → Type 0
 IsDeterminedByBytes (Ok status) = ⊤
 IsDeterminedByBytes (Err BadHead) = ⊤
@@ -81,7 +83,7 @@ IsDeterminedByBytes (Err TooManyReads) = ⊥
 IsDeterminedByBytes (Err Write) = ⊥
 IsDeterminedByBytes (Err Memory) = ⊥
 
--- holds if the result comes from an `exit` or a bad head, so that later bytes make no difference
+-- states that an `exit` or a bad head ended the call, so that later bytes make no difference
 abbrev pub IsFinalResult : Result ℕ ServeFault → List ℕ → List ℕ → Type 0
 IsFinalResult (Ok status) taken put = EndsWith status taken put
 IsFinalResult (Err BadHead) taken put = ⊤
@@ -93,9 +95,9 @@ IsFinalResult (Err Memory) taken put = ⊥
 
 -- States how the outputs of two calls of `serve` are related if the first call's input is a prefix
 -- of the second call's input. If the second call returns neither `Memory` nor `Write`, the first
--- call's output is a prefix of the second call's output. Suppose that the first call also returns
--- neither of them. Then the outputs are equal if the inputs are equal, or if an `exit` or a bad
--- head ended the first call.
+-- call's output is a prefix of the second call's output. The outputs are equal if the first call
+-- also returns neither of these faults, and one more condition is met. Either the inputs are equal,
+-- or an `exit` or a bad head ended the first call.
 abbrev pub OutputIsDetermined : Type 0
 OutputIsDetermined =
     (taken more put all : List ℕ) (result end : Result ℕ ServeFault) → IsFullyWritten end
@@ -103,9 +105,9 @@ OutputIsDetermined =
     → (unwritten : List ℕ) × (all ≡ put ++ unwritten)
     × (IsFullyWritten result → IsFinalResult result taken put ⊎ (more ≡ []) → unwritten ≡ [])
 
--- States that two calls of `serve` return the same result for the same bytes. If an `exit` or a bad
--- head ended the first call, the input of the second may have further bytes. The law excludes calls
--- that return `Read`, `TooManyReads`, `Write` or `Memory`.
+-- States that two calls of `serve` with the same input return the same result. If an `exit` or a
+-- bad head ended the first call, the input of the second call may have further bytes. The law
+-- excludes calls that return `Read`, `TooManyReads`, `Write` or `Memory`.
 abbrev pub ResultIsDetermined : Type 0
 ResultIsDetermined =
     (taken more put all : List ℕ) (result end : Result ℕ ServeFault)
@@ -113,8 +115,8 @@ ResultIsDetermined =
     → MayServe result taken put → MayServe end (taken ++ more) all
     → IsFinalResult result taken put ⊎ (more ≡ []) → result ≡ end
 
--- States that each list of bytes can be split into a list of contents and a rest (`Frames`). The
--- formula is a double negation.
+-- States that each list of bytes can be split into complete messages with some contents, and a rest
+-- that doesn't begin with a complete message (`Frames`). The formula is a double negation.
 abbrev pub FramingExists : Type 0
 FramingExists =
     (bytes : List ℕ)
@@ -122,9 +124,10 @@ FramingExists =
 
 -- ---- a conversation, as bytes
 
--- Supposes that the input of `serve` is the frames of the contents that a session took. States that
--- the output of `serve` is the frames of the contents that the session sent. This holds unless
--- `serve` returns `Memory` or `Write`. Each content taken has at most `max_content` bytes.
+-- States that `serve` answers as the session does. If the input of `serve` is the frames of the
+-- contents that a session took, the output is the frames of the contents that the session sent. The
+-- law excludes calls that return `Memory` or `Write`, and contents of more than `max_content`
+-- bytes.
 abbrev pub ConversationIsServed : Type 0
 ConversationIsServed =
     (taken sent : List (List ℕ)) (after : ServerState)
@@ -134,10 +137,10 @@ ConversationIsServed =
     → MayServe result (flat_map frame taken) put
     → put ≡ flat_map frame sent
 
--- Supposes that the input of `serve` begins with the frames of the contents that a session took.
--- States that the output of `serve` begins with the frames of the contents that the session sent.
--- This holds unless `serve` returns `Memory` or `Write`. Each content taken has at most
--- `max_content` bytes.
+-- States that `serve` answers as the session does, even if the input continues. If the input of
+-- `serve` begins with the frames of the contents that a session took, the output begins with the
+-- frames of the contents that the session sent. The law excludes calls that return `Memory` or
+-- `Write`, and contents of more than `max_content` bytes.
 abbrev pub ConversationIsServedAsPrefix : Type 0
 ConversationIsServedAsPrefix =
     (taken sent : List (List ℕ)) (after : ServerState)
@@ -147,10 +150,11 @@ ConversationIsServedAsPrefix =
     → MayServe result (flat_map frame taken ++ more) put
     → (later : List ℕ) × (put ≡ flat_map frame sent ++ later)
 
--- Supposes that the input of `serve` is the frames of the contents of a conversation that ended,
--- followed by any bytes. States that `serve` writes the frames of the contents that the session
--- sent, and no more, and returns the status with which the conversation ended. This holds unless
--- `serve` returns `Memory` or `Write`. Each content taken has at most `max_content` bytes.
+-- States that `serve` ends as the session does. Suppose that the input of `serve` is the frames of
+-- the contents of a conversation that ended, followed by any bytes. Then `serve` writes the frames
+-- of the contents that the session sent, and no more, and returns the conversation's status. The
+-- law excludes calls that return `Memory` or `Write`, and contents of more than `max_content`
+-- bytes.
 abbrev pub EndedConversationIsServed : Type 0
 EndedConversationIsServed =
     (taken sent : List (List ℕ)) (after : ServerState) (status : ℕ)

@@ -1,4 +1,4 @@
--- States the guarantees of `serve` for every editor that keeps ob0's rules, in bytes.
+-- States the guarantees of `serve`, in bytes, for every editor that keeps ob0's rules.
 -- Rule: docs/PROMISES.md, Client and server.
 use Rattle.std.specs.Prelude.{◌≡◌, ◌≤◌, ◌++◌, ℕ, List, [], ◌∷◌, length, All, Result, Ok}
 use Rattle.std.specs.List.{flat_map}
@@ -14,12 +14,12 @@ use Rattle.ob0_world.specs.Exchanges.{Exchange, BeginsExchange, ExchangeCourse, 
 use Rattle.ob0_world_determined.specs.Determined.{MayServe, IsFullyWritten}
 
 -- States the guarantees for an exchange of a session and an editor that keeps ob0's rules, and for
--- the bytes that `serve` writes for it.
+-- the bytes that `serve` writes in this exchange.
 pub record ServedExchange (begin now : Exchange) : Type 0 where
   pub holds : HoldsOfExchange begin now
-  -- If `serve` is fed with the frames of the contents that the session took, it writes the frames
-  -- of the contents that the session sent. This holds unless it returns `Memory` or `Write`, or a
-  -- content is longer than `max_content`.
+  -- If the input of `serve` is the frames of the contents that the session took, `serve` writes the
+  -- frames of the contents that the session sent. This holds unless `serve` returns `Memory` or
+  -- `Write`, or a content is longer than `max_content`.
   pub written : All (λ content. length content ≤ max_content) now.wire.taken
       → (put : List ℕ) (result : Result ℕ ServeFault) → IsFullyWritten result
       → MayServe result (flat_map frame now.wire.taken) put
@@ -29,7 +29,7 @@ pub record ServedExchange (begin now : Exchange) : Type 0 where
       → (more put : List ℕ) (result : Result ℕ ServeFault) → IsFullyWritten result
       → MayServe result (flat_map frame now.wire.taken ++ more) put
       → (later : List ℕ) × (put ≡ flat_map frame (now.wire.got ++ now.wire.to_editor) ++ later)
-  -- If the session then takes `shutdown` and `exit`, `serve` also writes the frame of the answer to
+  -- If the session next takes `shutdown` and `exit`, `serve` also writes the frame of the answer to
   -- `shutdown`, and returns 0. Any bytes may follow these frames in the input.
   pub ended : (id : Data) (shutdown exit : List ℕ) → IsShutdown id shutdown → IsExit exit
       → (sent : List (List ℕ)) (end : ServerState)
@@ -39,13 +39,13 @@ pub record ServedExchange (begin now : Exchange) : Type 0 where
       → MayServe result (flat_map frame (now.wire.taken ++ shutdown ∷ exit ∷ []) ++ more) put
       → (put ≡ flat_map frame ((now.wire.got ++ now.wire.to_editor) ++ sent)) × (result ≡ Ok 0)
   -- If `serve` returns `Memory`, it has answered a prefix of the contents (`PrefixServed`). If this
-  -- prefix is the contents that the session took, `serve` has written the same frames.
+  -- prefix is exactly the contents that the session took, `serve` has written the same frames.
   pub in_part : (taken put : List ℕ) (part : PrefixServed taken put)
       → part.answered ≡ now.wire.taken
       → put ≡ flat_map frame (now.wire.got ++ now.wire.to_editor)
 
--- states that `ServedExchange` holds for each exchange of a session with an editor that keeps ob0's
--- rules
+-- states that each exchange of a session with an editor that keeps ob0's rules has these guarantees
+-- (`ServedExchange`)
 abbrev pub EveryExchangeIsServed : Type 0
 EveryExchangeIsServed =
     (unit : Unit) (begin now : Exchange) (turns : List Turn)

@@ -1,4 +1,4 @@
--- Defines the meaning of the stored documents.
+-- Defines the meaning of the stored documents in the model.
 -- Rule: none; for contracts: what values of the code mean.
 use Rattle.std.specs.Prelude.{ℕ, ℤ, pos, List, map, string_bytes, String, refl}
 use Rattle.std.specs.Str.{chars}
@@ -7,7 +7,7 @@ use Rattle.std.specs.Coded.{Coded, code_by, coded×, coded_ℕ, coded_ℤ, coded
 use Rattle.ob0_world_editor.specs.declared.documents.OpenDocument as stored
 use Rattle.ob0_world_rules.specs.ClientAndServer.{OpenDocument, EditorDocuments}
 
--- returns the open document for a value of the code's type `OpenDocument`
+-- returns the model's open document for a value of the code's type `OpenDocument`
 abbrev pub open_document : stored.OpenDocument → OpenDocument
 open_document d =
     record { version = pos d.version; text = chars (string_bytes d.text); opening = d.opening }

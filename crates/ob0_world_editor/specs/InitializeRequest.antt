@@ -51,7 +51,7 @@ initialize_message unit =
     (object (member (codes "capabilities") (object (capabilities_for unit)) no_members))
     no_members))))
 
--- returns what the server knows about the client after this `initialize`
+-- returns the features of the client that the server reads in this `initialize`
 abbrev pub client_for : Unit → ClientFeatures
 client_for unit =
     record {

@@ -1,5 +1,5 @@
--- Defines the message to the editor in a content. The message is a publication or an answer. An
--- answer is read according to its request.
+-- Defines the message to the editor in a content. The message is a publication or an answer. The
+-- kind of its ask decides how an answer is read.
 -- Rule: docs/PROTOCOL.md, JSON shapes 2.
 use Rattle.std.specs.Prelude.{ℕ, ℤ, List, [], ◌∷◌, Bool, true, false, Option, Some, None, is_some, option_and_then, option_map, unwrap_or, if◌then◌else◌, codes}
 use Rattle.std.specs.Str.{bytes_eq, chars, is_utf8}
@@ -15,24 +15,26 @@ use Rattle.ob0_world_editor.specs.MessagesToServer.{request_number}
 
 -- ---- publications
 
--- true if the found text exists and equals the given text
+-- returns whether a text was found and equals the given text
 abbrev pub is_given_text : List ℕ → Option (List ℕ) → Bool
 is_given_text text (Some found) = bytes_eq found text
 is_given_text text None = false
 
--- true if a list has no item
+-- returns whether a JSON list is empty
 abbrev pub has_no_items : Items → Bool
 has_no_items no_items = true
 has_no_items (item d ds) = false
 
--- Returns the publication with these parts. None if the uri or the diagnostics are missing.
+-- Returns the publication with this uri, version and list of diagnostics. None if the uri or the
+-- list is missing.
 abbrev pub publication_from_parts : Option (List ℕ) → Option ℤ → Option Items → Option MessageToEditor
 publication_from_parts (Some uri) version (Some diagnostics) =
     Some (publishes uri version (has_no_items diagnostics))
 publication_from_parts (Some uri) version None = None
 publication_from_parts None version diagnostics = None
 
--- Returns the publication that the params of a notification mean. None if they can't be read.
+-- Returns the publication that the params of a notification mean. None if the uri or the
+-- diagnostics can't be read.
 abbrev pub publication_of_params : Data → Option MessageToEditor
 publication_of_params params =
     publication_from_parts (text_member (codes "uri") params)
@@ -41,24 +43,26 @@ publication_of_params params =
 
 -- ---- edits
 
--- Returns the edit with these parts. None if one of them is missing.
+-- Returns the edit with this range and text. None if one of them is missing.
 abbrev pub edit_from_parts : Option Range → Option (List ℕ) → Option Replacement
 edit_from_parts (Some range) (Some text) = Some (record { range = range; text = chars text })
 edit_from_parts (Some range) None = None
 edit_from_parts None text = None
 
--- Returns the edit that a JSON value means. None if it can't be read.
+-- Returns the edit that a JSON value means. None if the value can't be read as an edit.
 abbrev pub edit_in : Data → Option Replacement
 edit_in d = edit_from_parts (range_member (codes "range") d) (text_member (codes "newText") d)
 
--- Returns all edits of a list. None if one of them can't be read.
+-- Returns the edits that a list of JSON values means, in order. None if one of the values can't be
+-- read as an edit.
 abbrev pub edits_in : Items → Option (List Replacement)
 edits_in no_items = Some []
 edits_in (item d ds) = option_and_then (λ e. option_map (λ es. e ∷ es) (edits_in ds)) (edit_in d)
 
--- Returns the list of edits of the document with this uri in a WorkspaceEdit. If `documentChanges`
--- exist (the third argument), the list is in the first of them. Otherwise it is in `changes`, under
--- the uri. None if there is no such list.
+-- Returns the list of edits of the document with this uri in a WorkspaceEdit. The third argument is
+-- the value of `documentChanges`, or None if there is no such member. If it exists, the list is in
+-- its first element. Otherwise the list is in `changes`, under the uri. None if there is no such
+-- list.
 abbrev pub document_edit_items : List ℕ → Data → Option Data → Option Items
 document_edit_items uri edit (Some documents) =
     option_and_then as_array (option_and_then (get (codes "edits")) (at 0 documents))
@@ -70,7 +74,7 @@ document_edit_items uri edit None =
 abbrev pub workspace_edit_items : List ℕ → Data → Option Items
 workspace_edit_items uri edit = document_edit_items uri edit (get (codes "documentChanges") edit)
 
--- Returns the first action with this title. None if there is none.
+-- Returns the first action with this title. None if no action has it.
 abbrev pub titled_action : List ℕ → Items → Option Data
 titled_action title no_items = None
 titled_action title (item d ds) =
@@ -83,7 +87,7 @@ action_edit_items title uri value =
     option_and_then (workspace_edit_items uri)
     (option_and_then (get (codes "edit")) (option_and_then (titled_action title) (as_array value)))
 
--- Returns the list of edits in the result of an ask, or None if there is none. The result of a
+-- Returns the list of edits in the result of an ask. None if there is no such list. The result of a
 -- rename is a WorkspaceEdit. The result of an inlining is a list of actions, of which the ask
 -- selects one by its title. The result of a formatting is the list of edits.
 abbrev pub edit_items_for : List ℕ → Ask → Data → Option Items
@@ -92,8 +96,8 @@ edit_items_for uri (inline_here position) value = action_edit_items (codes "Inli
 edit_items_for uri (inline_all position) value = action_edit_items (codes "Inline everywhere") uri value
 edit_items_for uri (format indent) value = as_array value
 
--- Returns the edits of an answer. The list is empty for a refusal, for null, and if an edit can't
--- be read.
+-- Returns the edits of an answer. The list is empty for a refusal, for the result null, and if an
+-- edit can't be read.
 abbrev pub edits_for : List ℕ → Ask → Data → List Replacement
 edits_for uri ask answer =
     unwrap_or
@@ -105,8 +109,8 @@ abbrev pub answer_to : List SentAsk → Data → ℕ → Option MessageToEditor
 answer_to requested answer k =
     option_map (λ a. answers k (edits_for a.uri a.ask answer)) (request_numbered requested k)
 
--- Returns the answer to an ask that a JSON value means. `number_of` finds the ask's number from the
--- answer's id.
+-- Returns the answer to an ask that a JSON value means. `number_of` returns the number of the ask
+-- whose answer has this id. None if the id is missing or belongs to no sent ask.
 abbrev pub answer_of_response : (Data → Option ℕ) → List SentAsk → Data → Option MessageToEditor
 answer_of_response number_of requested answer =
     option_and_then (answer_to requested answer)
@@ -121,21 +125,22 @@ publication_of_notification d =
     if is_given_text (codes "textDocument/publishDiagnostics") (text_member (codes "method") d)
     then option_and_then publication_of_params (get (codes "params") d) else None
 
--- Returns the message to the editor that a JSON value means. `number_of` finds an ask's number from
--- the id of its answer.
+-- Returns the message to the editor that a JSON value means: a publication if the value has a
+-- `method`, otherwise an answer. `number_of` returns the number of the ask whose answer has this
+-- id. None if there is no such message.
 abbrev pub message_to_editor_of : (Data → Option ℕ) → List SentAsk → Data → Option MessageToEditor
 message_to_editor_of number_of requested d =
     if is_some (get (codes "method") d)
     then publication_of_notification d else answer_of_response number_of requested d
 
--- Returns the message to the editor in a content, given the list of sent asks. `number_of` finds an
--- ask's number from the id of its answer.
+-- Returns the message to the editor in a content, given the list of sent asks. `number_of` returns
+-- the number of the ask whose answer has this id. None if the content has no such message.
 unfoldable pub message_to_editor_by : (Data → Option ℕ) → List SentAsk → List ℕ → Option MessageToEditor
 message_to_editor_by number_of requested content =
     if is_utf8 content
     then option_and_then (message_to_editor_of number_of requested) (read content) else None
 
--- returns the message to the editor in a content, for an editor that uses each ask's number as the
--- request's id
+-- Returns the message to the editor in a content, for an editor that uses each ask's number as the
+-- request's id. None if the content has no such message.
 abbrev pub message_to_editor_in : List SentAsk → List ℕ → Option MessageToEditor
 message_to_editor_in requested content = message_to_editor_by request_number requested content

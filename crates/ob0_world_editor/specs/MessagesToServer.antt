@@ -1,4 +1,4 @@
--- Defines the message to the server in a content, by the definitions with which the server reads
+-- Defines which message to the server a content is, by the definitions with which the server reads
 -- contents.
 -- Rule: docs/PROTOCOL.md, Contents, JSON shapes 4.
 use Rattle.std.specs.Prelude.{◌≡◌, ⊤, ℕ, List, Option, Some, None, Ok, option_and_then, option_map, if◌then◌else◌}
@@ -40,11 +40,13 @@ message_of_notification (unreadable (Some uri)) = Some (notifies (Lost uri))
 message_of_notification (unreadable None) = None
 message_of_notification other = None
 
--- Returns the request with this number as a message to the server. None if there is none.
+-- Returns the sent request with this number as a message to the server. None if there is no such
+-- request.
 abbrev pub sent_request : List SentAsk → ℕ → Option MessageToServer
 sent_request requested k = option_map (λ a. requests k a.uri a.ask) (request_numbered requested k)
 
--- Returns the message to the server that a JSON-RPC message means. None if it means none.
+-- Returns the message to the server that a JSON-RPC message means. None if it isn't a message of
+-- the model.
 abbrev pub message_to_server_of : List SentAsk → MessageMeaning → Option MessageToServer
 message_to_server_of requested (request id method params) =
     option_and_then (sent_request requested) (request_number id)
@@ -77,7 +79,7 @@ client_request_for uri (inline_here position) = wire.code_action uri (empty_rang
 client_request_for uri (inline_all position) = wire.code_action uri (empty_range_at position) None
 client_request_for uri (format indent) = wire.formatting uri (clamped_indent indent)
 
--- holds if the event has no version, or its version fits into a signed number of 64 bits
+-- states that the event has no version, or that its version fits into a signed number of 64 bits
 abbrev pub HasVersionInRange : DocumentEvent → Type 0
 HasVersionInRange (Opened uri version text) = as_i64 (of_integer version) ≡ Some version
 HasVersionInRange (Changed uri version all) = as_i64 (of_integer version) ≡ Some version
@@ -103,18 +105,19 @@ pub record IsRequestWithId (id : Data) (uri : List ℕ) (ask : Ask) (content : L
   pub means : meaning_of json ≡ request id (method_of ask) params
   pub calls : request_by_method (method_of ask) params ≡ Ok (client_request_for uri ask)
 
--- holds if the content is the request for this ask about a document, with the number k as its id
+-- states that the content is the request for this ask about a document, with the number `k` as its
+-- id
 abbrev pub IsRequest : ℕ → List ℕ → Ask → List ℕ → Type 0
 IsRequest k uri ask content = IsRequestWithId (number (unsigned k)) uri ask content
 
--- states that the request with number k is this ask about this document
+-- states that the request with number `k` is this ask about the document with this uri
 pub record IsAsk (requested : List SentAsk) (k : ℕ) (uri : List ℕ) (ask : Ask) : Type 0 where
   pub sent : SentAsk
   pub is : request_numbered requested k ≡ Some sent
   pub about : sent.uri ≡ uri
   pub asks_this : sent.ask ≡ ask
 
--- holds if the content is this message to the server
+-- states that the content is this message to the server
 abbrev pub IsMessageToServer : List SentAsk → MessageToServer → List ℕ → Type 0
 IsMessageToServer requested (notifies note) content = IsNotificationFor note content
 IsMessageToServer requested (requests k uri ask) content =

@@ -22,13 +22,13 @@ pub record AreFew (e : Editor) : Type 0 where
   pub asks : length e.requested < 2 ^ 63 - 1
   pub versions : (uri : List ℕ) (d : OpenDocument) → open_at e uri ≡ Some d → version_number d.version < 2 ^ 63 - 1
 
--- true if there is an edit
+-- returns whether there is an edit
 abbrev pub has_edits : List Replacement → Bool
 has_edits [] = false
 has_edits (e ∷ es) = true
 
--- holds if no message is sent and there is no content, or one message is sent and the content is
--- that message
+-- States one of two things. Either no message is sent and there is no content (None), or one
+-- message is sent and the content is that message.
 abbrev pub IsSentContent : List SentAsk → List MessageToServer → Option (Vec ℕ Global) → Type 0
 IsSentContent requested [] None = ⊤
 IsSentContent requested [] (Some content) = ⊥
@@ -36,17 +36,17 @@ IsSentContent requested (message ∷ more) None = ⊥
 IsSentContent requested (message ∷ more) (Some content) =
     IsMessageToServer requested message content.items × (more ≡ [])
 
--- holds if `new` is the editor after this act, and the content is the message that the act sends
--- (None if none)
+-- States that `new` is the editor after this act, and that the content is the message that the act
+-- sends. If the act sends no message, the content is None.
 abbrev pub PerformsAct : ActResult → Option (Vec ℕ Global) → Editor → Type 0
 PerformsAct done content new = (new ≡ done.editor) × IsSentContent new.requested done.sent content
 
--- holds if `new` is the editor after this act, which sent and applied nothing
+-- states that `new` is the editor after this act, which sent and applied nothing
 abbrev pub IsSilent : ActResult → Editor → Type 0
 IsSilent done new = (new ≡ done.editor) × (done.sent ≡ []) × (done.applied ≡ [])
 
--- Holds if applying an answer has this outcome, and `new` is the editor after it. `held` is true if
--- the editor had the answer.
+-- States that applying an answer has this outcome, and that `new` is the editor after it has
+-- applied the answer. `held` is true if the editor had the answer.
 abbrev pub IsApplyOutcome : ActResult → Bool → applying.ApplyOutcome → Editor → Type 0
 IsApplyOutcome done held applying.TheVariants.NotHeld new = IsSilent done new × (held ≡ false)
 IsApplyOutcome done held applying.TheVariants.Dropped new = IsSilent done new × (held ≡ true)
@@ -55,8 +55,8 @@ IsApplyOutcome done held (applying.TheVariants.Made applied content) new =
 
 -- ---- the steps of applying
 
--- Holds if this is the index of the first answer to ask k, and removing it leaves the other answers
--- (`answers_except`). For None, holds if there is no such answer.
+-- States that this is the index, from 0, of the first answer to ask `k`, and that removing it
+-- leaves the other answers (`answers_except`). For None, states that there is no such answer.
 abbrev pub IsIndexOfAnswer : List answer.HeldAnswer → ℕ → Option ℕ → Type 0
 IsIndexOfAnswer answers k (Some i) =
     (i < length answers)
@@ -65,7 +65,7 @@ IsIndexOfAnswer answers k (Some i) =
     × (answers_except k (map answer_of answers) ≡ map answer_of (remove answers i))
 IsIndexOfAnswer answers k None = edits_of_answer k (map answer_of answers) ≡ None
 
--- returns the editor with a document's new text
+-- returns the editor in which the rewritten document has its new text and version
 abbrev pub with_text : Editor → rewritten.RewrittenDocument → Editor
 with_text e r =
     let a : Applied = applied_of r.applied in
@@ -75,7 +75,7 @@ with_text e r =
           (record { version = pos r.version; text = a.after; opening = r.opening });
     }
 
--- returns the notification of a document's new text
+-- returns the notification that replaces the whole text by the document's new text
 abbrev pub text_notification : rewritten.RewrittenDocument → MessageToServer
 text_notification r =
     let a : Applied
@@ -89,28 +89,29 @@ pub record Rewrites (old : Editor) (done : ActResult) (r : rewritten.RewrittenDo
   pub says : done.sent ≡ text_notification r ∷ []
   pub few : r.version < 2 ^ 63
 
--- holds if the act gives the document this new text (`Rewrites`), or if there is neither an act nor
--- a new text
+-- states that the act gives the document this new text (`Rewrites`), or that there is neither an
+-- act nor a new text
 abbrev pub IsRewritten : Editor → Option ActResult → Option rewritten.RewrittenDocument → Type 0
 IsRewritten e None None = ⊤
 IsRewritten e None (Some r) = ⊥
 IsRewritten e (Some done) None = ⊥
 IsRewritten e (Some done) (Some r) = Rewrites e done r
 
--- returns the result of giving a document its edited text, or None if there is no edited text
+-- returns the result of the act that gives a document this edited text; None if there is no edited
+-- text
 abbrev pub editing_result : Editor → List ℕ → OpenDocument → Option (List ℕ) → Option ActResult
 editing_result e uri d edited =
     let applied : List ℕ → Applied = λ text. record { uri = uri; before = d.text; after = text } in
     option_map (λ text. rewriting_result e uri d text (whole_text_change text ∷ []) (applied text ∷ [])) edited
 
--- holds if `new` is the editor with the document's new text, and the content is the notification of
--- that text
+-- states that `new` is the editor with the document's new text, and that the content is the
+-- notification of that text
 abbrev pub StoresRewritten : Editor → rewritten.RewrittenDocument → Vec ℕ Global → Editor → Type 0
 StoresRewritten old r content new =
     (new ≡ with_text old r) × IsMessageToServer new.requested (text_notification r) content.items
 
--- holds if the outcome is this applied edit with the notification of the new text, and `new` is the
--- editor with that text
+-- states that the outcome is this applied edit with the notification of the new text, and that
+-- `new` is the editor with that text
 abbrev pub IsAppliedAs : Editor → rewritten.RewrittenDocument → applying.ApplyOutcome → Editor → Type 0
 IsAppliedAs old r applying.TheVariants.NotHeld new = ⊥
 IsAppliedAs old r applying.TheVariants.Dropped new = ⊥

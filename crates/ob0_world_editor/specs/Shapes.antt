@@ -1,5 +1,5 @@
 -- Defines the messages that an editor writes, as JSON values (LSP 3.17). The comments show the
--- JSON. Members are in the order of the bytes of their names.
+-- JSON, with letters for the arguments. Members are in the order of the bytes of their names.
 -- Rule: LSP 3.17, notifications and requests of a client; docs/PROTOCOL.md, JSON shapes 4.
 use Rattle.std.specs.Prelude.{ℕ, List, true, false, Bool, Option, Some, None, codes, string_bytes}
 use Rattle.serde_json.specs.Data.{Data, boolean, number, array, object, unsigned, no_items, member, no_members}
@@ -20,7 +20,7 @@ request_message k method params =
 
 -- ---- notifications
 
--- Returns a document that is opened:
+-- Returns a document that is opened, as a JSON value:
 -- {"languageId":"oberon-0","text":t,"uri":u,"version":v}
 abbrev pub opened_document_value : List ℕ → ℕ → List ℕ → Data
 opened_document_value uri version contents =
@@ -41,7 +41,7 @@ change_object (Some range) new =
     (member (codes "text") (text new) no_members))
 change_object None new = object (member (codes "text") (text new) no_members)
 
--- returns a change as a JSON value
+-- returns a value of the code's type `Change` as a JSON value
 abbrev pub change_value : Change → Data
 change_value c = change_object c.range (string_bytes c.text)
 
@@ -108,14 +108,14 @@ formatting_params uri indent =
     (member (codes "textDocument") (document_value uri) no_members))
 
 -- Returns the method of the request for an ask. Both ways of inlining request the code actions at
--- their position.
+-- the ask's position.
 abbrev pub method_of : Ask → List ℕ
 method_of (rename position name) = codes "textDocument/rename"
 method_of (inline_here position) = codes "textDocument/codeAction"
 method_of (inline_all position) = codes "textDocument/codeAction"
 method_of (format indent) = codes "textDocument/formatting"
 
--- returns the params of the request for an ask
+-- returns the params of the request for an ask about the document with this uri
 abbrev pub params_for : List ℕ → Ask → Data
 params_for uri (rename position name) = rename_params uri position name
 params_for uri (inline_here position) = actions_params uri position

@@ -5,7 +5,7 @@ ghost use Rattle.ob0_world_editor.specs.Code.{applied_of};
 
 use std::alloc::{AllocError, Global};
 
-/// An edit that the editor applied: the document's uri, and its text before and after.
+/// An edit that the editor applied: the document's uri, and its text before and after the edit.
 #[derive(Debug, Drop)]
 pub struct Applied {
     pub uri: String,
@@ -18,14 +18,14 @@ pub struct Applied {
 pub enum ApplyOutcome {
     /// The editor has no answer with this number.
     NotHeld,
-    /// The answer was discarded: its document has been changed, closed or reopened since the
-    /// request, or two edits share a character.
+    /// The answer was discarded without making its edits. Its document has been changed, closed or
+    /// reopened since the request, or two edits share a character.
     Dropped,
-    /// The edits were made. The content is the notification of the new text for the server.
+    /// The edits were made. `content` is the notification with the new text, for the server.
     Made { applied: Applied, content: Vec<u8> },
 }
 
-/// Returns the record of an applied edit, with copies of the uri and of the text before it.
+/// Returns the record of an applied edit, with copies of the uri and of the text before the edit.
 pub fn applied_edit(
     alloc: Global,
     uri: &str,

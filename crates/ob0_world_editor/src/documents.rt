@@ -14,12 +14,12 @@ use std::marker::Model;
 pub struct OpenDocument {
     pub version: u64,
     pub text: String,
-    /// Each opening of a document has its own number.
+    /// The number of this opening. Each opening of a document in the editor has its own number.
     pub opening: u64,
 }
 
 impl OpenDocument {
-    /// Returns a document with a copy of this text.
+    /// Returns a document with this version, a copy of this text, and this number of its opening.
     pub fn with_text(
         alloc: Global,
         version: u64,
@@ -38,7 +38,7 @@ impl OpenDocument {
     }
 }
 
-/// The open documents, by their uris.
+/// The open documents, as a map from their uris.
 #[derive(Drop)]
 pub struct OpenDocuments {
     by_uri: BTreeMap<String, OpenDocument>,
@@ -65,15 +65,15 @@ impl OpenDocuments {
         }
     }
 
-    /// Returns the open document with this uri. None if it isn't open.
+    /// Returns the open document with this uri. None if no document with this uri is open.
     pub fn get(&self, uri: &str) -> Option<&OpenDocument>
         ensures { option_map (λ d. open_document d.now) result ≡ map_of.get self.now uri.now }
     {
         self.by_uri.get(uri)
     }
 
-    /// Opens a document, or replaces an open one. If an allocation fails, the documents are
-    /// unchanged.
+    /// Opens a document under this uri, or replaces the open one. If an allocation fails, the
+    /// documents are unchanged.
     pub fn put(
         &mut self,
         alloc: Global,
@@ -89,7 +89,7 @@ impl OpenDocuments {
         Ok(())
     }
 
-    /// Closes a document. If it isn't open, nothing happens.
+    /// Closes the document with this uri. If no document with this uri is open, nothing happens.
     pub fn close(&mut self, uri: &str)
         ensures { self.new ≡ map_of.remove self.old uri.now }
     {

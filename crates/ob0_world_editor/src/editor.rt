@@ -1,10 +1,10 @@
 //! Models an editor that talks to a server: its documents, its requests and the answers that it
 //! has.
 //!
-//! If a call returns an error, the editor is unchanged. Contents and copies are made first, the
-//! insertion into the map is the last step that can fail, and the number of openings is increased
-//! after it. The exception is `apply`, which first removes the answer. So after an error in `apply`
-//! the editor no longer has that answer.
+//! If a call returns an error, the editor is unchanged. To this end, contents and copies are made
+//! first. The insertion into the map is the last step that can fail, and only then is the number of
+//! openings increased. The exception is `apply`, which first removes the answer. So after an error
+//! in `apply` the answer is lost.
 //!
 //! A document's text is a `String`, and a text store is made for each change or edit. So the editor
 //! needs no invariant about the units of its stores.
@@ -30,7 +30,8 @@ use ob0_text::{Change, Edit, Unit, Whole};
 use std::alloc::{AllocError, Global};
 use std::marker::Model;
 
-/// A request that was sent, with the document's uri, text, opening and version at that time.
+/// A request that was sent, with the document's uri, and with its text, opening and version at the
+/// time of sending.
 #[derive(Drop)]
 pub struct SentAsk {
     pub ask: Ask,
@@ -47,8 +48,8 @@ pub struct HeldAnswer {
     pub edits: Vec<Edit>,
 }
 
-/// An applied edit (`applied.after` is the new text of the document), with the document's new
-/// version and its opening.
+/// The result of making an answer's edits in a document: the applied edit (`applied.after` is the
+/// new text), the document's next version, and the number of its opening.
 #[derive(Drop)]
 struct RewrittenDocument {
     applied: Applied,
@@ -103,8 +104,8 @@ impl Editor {
         }
     }
 
-    /// Opens a document, and returns the content of the notification. None if the document is open
-    /// already. On an error the editor is unchanged.
+    /// Opens a document, and returns the content of the notification for the server. None if the
+    /// document is open already. On an error the editor is unchanged.
     pub fn open(&mut self, uri: &str, text: &str) -> Result<Option<Vec<u8>>, AllocError>
         requires { AreFew self.old }
         ensures ok { IfOk result (λ content. PerformsAct
@@ -122,8 +123,8 @@ impl Editor {
         Ok(Some(content))
     }
 
-    /// Changes a document, and returns the content of the notification. None if the document isn't
-    /// open. On an error the editor is unchanged.
+    /// Changes a document, and returns the content of the notification for the server. None if the
+    /// document isn't open. On an error the editor is unchanged.
     pub fn change(&mut self, uri: &str, changes: &[Change]) -> Result<Option<Vec<u8>>, AllocError>
         requires { AreFew self.old }
         ensures ok { IfOk result (λ content. PerformsAct
@@ -147,8 +148,8 @@ impl Editor {
         Ok(Some(content))
     }
 
-    /// Closes a document, and returns the content of the notification. None if the document isn't
-    /// open. On an error the editor is unchanged.
+    /// Closes a document, and returns the content of the notification for the server. None if the
+    /// document isn't open. On an error the editor is unchanged.
     pub fn close(&mut self, uri: &str) -> Result<Option<Vec<u8>>, AllocError>
         ensures ok { IfOk result
             (λ content. PerformsAct (act_result self.old (close_document uri.now)) content self.new) }
@@ -162,8 +163,8 @@ impl Editor {
         Ok(Some(content))
     }
 
-    /// Asks about a document, and returns the content of the request. None if the document isn't
-    /// open. On an error the editor is unchanged.
+    /// Asks about a document, and returns the content of the request for the server. None if the
+    /// document isn't open. On an error the editor is unchanged.
     pub fn ask(&mut self, uri: &str, ask: &Ask) -> Result<Option<Vec<u8>>, AllocError>
         requires { AreFew self.old }
         ensures ok { IfOk result (λ content. PerformsAct
@@ -180,8 +181,8 @@ impl Editor {
         Ok(Some(content))
     }
 
-    /// Returns the message in a content that the server has sent. None if the content is no message
-    /// for this editor.
+    /// Returns the message in a content that the server has sent. None if the content is neither a
+    /// publication nor an answer to one of the editor's asks.
     pub fn read(&self, content: &[u8]) -> Result<Option<Message>, AllocError>
         ensures { IfOk result
             (λ found. option_map message_of found ≡ message_to_editor_in self.now.requested content.now) }
@@ -189,8 +190,8 @@ impl Editor {
         read_message(self.alloc, self.requested.as_slice(), content)
     }
 
-    /// Keeps an answer if it has edits, and returns true if it has. On an error the editor is
-    /// unchanged.
+    /// Keeps the answer to ask `number` if the answer has edits, and returns whether it has. On an
+    /// error the editor is unchanged.
     pub fn keep(&mut self, number: u64, edits: Vec<Edit>) -> Result<bool, AllocError>
         ensures kept { OnOk result
             (self.new ≡ reads self.old (answers number (replacements edits.items))) }
@@ -204,10 +205,10 @@ impl Editor {
         Ok(true)
     }
 
-    /// Makes the edits of answer `k`, and returns the applied edit with the content of the
-    /// notification. If the document's opening or version has changed since the request, or two
-    /// edits share a character, no edit is made. The editor no longer has the answer after the
-    /// call, even after an error.
+    /// Makes the edits of the answer to ask `k`, and returns the applied edit with the content of
+    /// the notification. No edit is made if the document's opening or version has changed since the
+    /// request, or if two edits share a character. In every case the answer is removed, even if an
+    /// allocation fails.
     pub fn apply(&mut self, k: u64) -> Result<ApplyOutcome, AllocError>
         requires { AreFew self.old }
         ensures ok { IfOk result (λ applying. IsApplyOutcome (act_result self.old (apply k))
@@ -225,7 +226,7 @@ impl Editor {
         }
     }
 
-    /// Discards answer `k`, and returns true if the editor had it.
+    /// Discards the answer to ask `k`, and returns whether the editor had this answer.
     pub fn discard(&mut self, k: u64) -> bool
         ensures held { result ≡ is_some (edits_of_answer k self.old.answers) }
         ensures after { self.new ≡ without_answer self.old k }
@@ -243,9 +244,9 @@ impl Editor {
         Some(answer.edits)
     }
 
-    /// Returns the new text of the document of request `k`, with these edits made. None if there is
-    /// no such document, if its opening or version has changed since the request, or if two edits
-    /// share a character.
+    /// Returns the document of request `k` with these edits made. None if there is no such
+    /// document, if its opening or version has changed since the request, or if two edits share a
+    /// character.
     fn rewrite(&self, k: u64, edits: &[Edit]) -> Result<Option<RewrittenDocument>, AllocError>
         requires { AreFew self.now }
         ensures { IfOk result (λ rewritten.
@@ -263,8 +264,7 @@ impl Editor {
         self.rewrite_document(requested.uri.as_str(), document, edits)
     }
 
-    /// Returns the new text of a document, with these edits made. None if two edits share a
-    /// character.
+    /// Returns this document with these edits made. None if two edits share a character.
     fn rewrite_document(
         &self,
         uri: &str,
@@ -350,7 +350,8 @@ fn sent_ask(
     })
 }
 
-/// Returns the index of the first answer to ask `k`. None if there is none.
+/// Returns the index, from 0, of the first answer to ask `k` in this list. None if there is no such
+/// answer.
 fn index_of_answer(answers: &[HeldAnswer], k: u64) -> Option<usize>
     ensures { IsIndexOfAnswer answers.now k result }
 {

@@ -1,11 +1,11 @@
 //! Writes JSON objects of two and three members. The names of members are written without escapes,
-//! so they mustn't contain a character that needs one.
+//! so they mustn't contain a character that needs an escape.
 //!
-//! The editor's messages are types that write themselves. An object with one member is a
+//! Each message of the editor is a type with its own `write`. An object with one member is a
 //! `OneMemberObject`. An object with two or three members is written by one call of a function of
-//! this file. The proof of the writer applies `object_of` to the clause of that call.
+//! this file. The proof of that `write` applies `object_of` to the clause of the call.
 //!
-//! Each `?` makes the proof much slower. So a `write` has none, except for objects with four
+//! Each `?` makes the proof much slower. So a `write` has no `?`, except for objects with four
 //! members and for the list of changes.
 ghost use Rattle.std.specs.Prelude.{OnOk};
 ghost use Rattle.serde_json.specs.Data.{member, no_members};

@@ -139,8 +139,8 @@ fn write_changes(out: &mut Vec<u8>, changes: &[Change]) -> Result<(), AllocError
     Ok(())
 }
 
-/// The params of a `textDocument/didChange`: the changes, and the document with its version after
-/// them.
+/// The params of a `textDocument/didChange`: the changes, and the document's identifier with its
+/// version after the changes.
 #[derive(Drop)]
 pub struct DidChangeParams<'a, C> {
     pub changes: C,
@@ -163,7 +163,7 @@ impl<'a, C: WriteJson> WriteJson for DidChangeParams<'a, C> {
     }
 }
 
-/// The params of a rename: the new name, and the position of the old one.
+/// The params of a rename: the new name, the position of the old name, and the document.
 #[derive(Drop)]
 pub struct RenameParams<'a> {
     pub new_name: &'a str,
@@ -219,7 +219,7 @@ impl<'a> WriteJson for CodeActionParams<'a> {
     }
 }
 
-/// The formatting options for one level of indentation: spaces or tabs, and how many spaces.
+/// The formatting options for one level of indentation: spaces or a tab, and the number of spaces.
 #[derive(Drop)]
 pub struct FormattingOptions {
     pub insert_spaces: bool,

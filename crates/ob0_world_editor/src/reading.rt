@@ -31,7 +31,7 @@ pub enum Message {
     },
 }
 
-/// Returns the message in a content, given the list of sent asks. None if it is neither a
+/// Returns the message in a content, given the list of sent asks. None if the content is neither a
 /// publication nor the answer to one of these asks.
 pub fn read_message(
     alloc: Global,
@@ -143,7 +143,7 @@ fn answer_number(answer: &Value) -> Option<u64>
     answer.get("id")?.as_u64()
 }
 
-/// Returns the ask with this number; the first has number 1. None if there is none.
+/// Returns the ask with this number, counted from 1. None if there is no such ask.
 pub fn numbered_ask(requested: &[SentAsk], number: u64) -> Option<&SentAsk>
     ensures { option_map (λ a. sent_ask_of a.now) result
         ≡ request_numbered (map sent_ask_of requested.now) number }
@@ -160,7 +160,7 @@ pub fn numbered_ask(requested: &[SentAsk], number: u64) -> Option<&SentAsk>
 }
 
 /// Returns the edits in the answer to an ask about this document. The list is empty if the answer
-/// has no edits, or if one of them can't be read.
+/// has no edits, or if one of its edits can't be read.
 fn read_edits(alloc: Global, uri: &str, ask: &Ask, answer: &Value) -> Result<Vec<Edit>, AllocError>
     ensures { IfOk result
         (λ edits. replacements edits.items
@@ -197,8 +197,8 @@ fn answer_edit_values<'v>(uri: &str, ask: &Ask, answer: &'v Value) -> Option<&'v
 }
 
 /// Returns the list of edits of this document in a WorkspaceEdit. If the WorkspaceEdit has
-/// `documentChanges`, the list is in the first of them. Otherwise it is in `changes`, under the
-/// uri. None if there is no such list.
+/// `documentChanges`, the list is in the first element of `documentChanges`. Otherwise it is in
+/// `changes`, under the uri. None if there is no such list.
 fn workspace_edit_values<'v>(edit: &'v Value, uri: &str) -> Option<&'v Vec<Value>>
     ensures { option_map (λ v. items_view v.now.items) result
         ≡ workspace_edit_items uri.now (view edit.now) }
@@ -231,7 +231,7 @@ fn action_with_title<'v>(actions: &'v [Value], title: &str) -> Option<&'v Value>
     None
 }
 
-/// Returns true if a JSON value has a member of this name with this text.
+/// Returns whether a JSON value has a member with this name and this text.
 fn has_text(value: &Value, name: &str, text: &str) -> bool
     ensures { result ≡ is_given_text text.now (text_member name.now (view value.now)) }
 {
@@ -243,7 +243,8 @@ fn has_text(value: &Value, name: &str, text: &str) -> bool
 
 // ---- edits
 
-/// Returns all edits of a list of JSON values. None if one of them can't be read.
+/// Returns the edits that a list of JSON values means, in order. None if one of the values can't be
+/// read as an edit.
 fn read_edit_list(alloc: Global, values: &[Value]) -> Result<Option<Vec<Edit>>, AllocError>
     ensures { IfOk result (λ found. option_map (λ edits. replacements edits.items) found
         ≡ edits_in (items_view values.now)) }

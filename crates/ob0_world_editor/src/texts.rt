@@ -9,8 +9,8 @@ ghost use Rattle.ob0_world_rules.specs.Edited.{replacements};
 use ob0_text::{Change, Edit, PatchFault, TextStore, Unit, patch};
 use std::alloc::{AllocError, Global};
 
-/// Returns the text after these changes, each made in the result of the one before. Positions are
-/// counted in this unit.
+/// Returns the text after these changes, each made in the text that the previous change has left.
+/// Positions are counted in this unit.
 pub fn apply_changes<T: TextStore>(
     alloc: Global,
     unit: Unit,
@@ -47,7 +47,7 @@ fn apply_change<T: TextStore>(
     Ok(())
 }
 
-/// Returns the text with all edits made. None if two of them share a character.
+/// Returns the text with all edits made at once. None if two edits share a character.
 pub fn apply_edits<T: TextStore>(
     alloc: Global,
     unit: Unit,

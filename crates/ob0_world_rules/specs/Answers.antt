@@ -1,4 +1,4 @@
--- Defines the answer to each request of an editor.
+-- Defines the answer to each ask of an editor.
 -- Rule: docs/PROTOCOL.md, Requests on documents 6 to 10.
 use Rattle.std.specs.Prelude.{◌≡◌, ◌⊎◌, ℕ, List, [], Bool, Option, Some, None, IsTrue, ◌↔◌, Vec}
 use Rattle.std.specs.declared.alloc.Global.{Global}
@@ -18,28 +18,28 @@ use Rattle.ob0_world_rules.specs.Language.{WellTypedText}
 use Rattle.ob0_world_rules.specs.Edited.{Replacement, replacements}
 use Rattle.ob0_world_rules.specs.Asks.{Ask, rename, inline_here, inline_all, format, clamped_indent}
 
--- returns the byte offset of a position
+-- returns the byte offset, from 0, of a position in this text
 abbrev pub position_offset : Unit → List ℕ → Position → ℕ
 position_offset unit text position = offset_of (width_of unit) text position
 
--- Holds if these edits inline the constant whose name is at this position: only there, or
--- everywhere.
+-- States that these edits inline the constant whose name is at this position. `how` says whether
+-- they replace only the use there, or all uses.
 abbrev pub InlinesAt : Inlining → Unit → List ℕ → Position → List Edit → Type 0
 InlinesAt how unit text position edits =
     (found : Vec Edit Global)
     × InlinesIn how unit text (position_offset unit text position) found
     × (edits ≡ found.items)
 
--- Holds if these edits do what the ask requests: rename, inline a constant here or everywhere, or
--- format the text.
+-- States that these edits do what the ask requests: rename, inline a constant here or everywhere,
+-- or format the text.
 abbrev pub GivesEdits : Unit → List ℕ → Ask → List Edit → Type 0
 GivesEdits unit text (rename position name) edits = RenamesIn unit text position name edits
 GivesEdits unit text (inline_here position) edits = InlinesAt Here unit text position edits
 GivesEdits unit text (inline_all position) edits = InlinesAt Everywhere unit text position edits
 GivesEdits unit text (format indent) edits = FormatsIn unit (clamped_indent indent) text edits
 
--- holds if the request is refused: the new name or the inlining is refused, or the formatted text
--- is too long
+-- states that the ask is refused: the new name or the inlining is refused, or the formatted text is
+-- too long
 abbrev pub Refuses : Unit → List ℕ → Ask → Type 0
 Refuses unit text (rename position name) =
     (refusal : EditRefusal) × IsRefusedIn unit text position name refusal
@@ -49,20 +49,20 @@ Refuses unit text (inline_all position) =
     IsNotInlinedIn Everywhere unit text (position_offset unit text position)
 Refuses unit text (format indent) = IsTooLongFormatted (clamped_indent indent) text
 
--- Holds if `given` is an answer to the ask about this text. It has the requested edits, or no edits
--- if the request is refused or the text isn't a well-typed module.
+-- States that `given` is an answer to the ask about this text. It has the requested edits, or no
+-- edits if the ask is refused or the text isn't a well-typed module.
 abbrev pub IsAnswerForText : Unit → List ℕ → Ask → List Replacement → Type 0
 IsAnswerForText unit text ask given =
     ((edits : List Edit) × GivesEdits unit text ask edits × (given ≡ replacements edits))
     ⊎ ((Refuses unit text ask ⊎ ¬ WellTypedText text) × (given ≡ []))
 
--- Holds if `given` is an answer to the ask about this document. It has no edits if the document
--- isn't open or is out of step.
+-- States that `given` is an answer to the ask about this document. If the document isn't open or is
+-- out of step, the answer has no edits.
 abbrev pub IsAnswer : Unit → Option Document → Ask → List Replacement → Type 0
 IsAnswer unit (Some (InStep version text)) ask given = IsAnswerForText unit text ask given
 IsAnswer unit (Some OutOfStep) ask given = given ≡ []
 IsAnswer unit None ask given = given ≡ []
 
--- holds if `empty` is true exactly when the text is a well-typed module
+-- states that `empty` is true exactly when the text is a well-typed module
 abbrev pub IsEmptyIfWellTyped : List ℕ → Bool → Type 0
 IsEmptyIfWellTyped text empty = IsTrue empty ↔ WellTypedText text

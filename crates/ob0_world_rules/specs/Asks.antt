@@ -1,4 +1,4 @@
--- Defines what an editor may request.
+-- Defines the asks: the requests whose answers an editor may apply.
 -- Rule: docs/PROTOCOL.md, Requests on documents 6 to 8.
 use Rattle.std.specs.Prelude.{ℕ, List}
 use Rattle.ob0_text.specs.declared.position_types.Position.{Position}
@@ -8,16 +8,17 @@ use Rattle.ob0_text.specs.Indents.{level_spaces}
 
 -- a request about a document, whose answer the editor may apply
 pub data Ask : Type 0 where
-  -- renames the declaration or field named at this position; the bytes are the new name
+  -- renames the declaration or field whose name is at this position; the list has the bytes of the
+  -- new name
   rename : Position → List ℕ → Ask
-  -- `inline_here` replaces the constant's use at this position by its value; `inline_all` replaces
-  -- all uses and removes the declaration
+  -- `inline_here` replaces the constant's use at this position by the constant's value;
+  -- `inline_all` replaces all its uses and removes the declaration
   inline_here : Position → Ask
   inline_all : Position → Ask
   format : Indent → Ask
 
--- Returns the indent that the server uses. A count of spaces outside the allowed range is replaced
--- by the nearest allowed one (`level_spaces`).
+-- Returns the indent that the server uses. If the number of spaces is outside the allowed range,
+-- the nearest allowed number is used (`level_spaces`).
 abbrev pub clamped_indent : Indent → Indent
 clamped_indent Tab = Tab
 clamped_indent (Spaces n) = Spaces (level_spaces n)

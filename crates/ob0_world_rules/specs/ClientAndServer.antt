@@ -11,17 +11,19 @@ use Rattle.ob0_world_rules.specs.Asks.{Ask}
 
 -- ---- the editor
 
--- a document that is open in the editor: its version, its text, and the number of its opening
+-- A document that is open in the editor: its version, its text, and the number of its opening.
+-- Openings are numbered from 1, over all documents.
 pub record OpenDocument : Type 0 where
   pub version : ℤ
   pub text : List ℕ
   pub opening : ℕ
 
--- the open documents, by the bytes of their uris
+-- the open documents, as a map from the bytes of their uris
 abbrev pub EditorDocuments : Type 0
 EditorDocuments = map_of.FinMap (slice_cmp nat_cmp) OpenDocument
 
--- a request that was sent: the ask, and the document's uri, text, opening and version at that time
+-- an ask (a request for edits) that the editor has sent, with the uri of its document, and with the
+-- document's text, opening and version at the time of sending
 pub record SentAsk : Type 0 where
   pub ask : Ask
   pub uri : List ℕ
@@ -29,19 +31,19 @@ pub record SentAsk : Type 0 where
   pub opening : ℕ
   pub version : ℤ
 
--- an answer that the editor has received and not yet used, with the number of its request
+-- an answer that the editor has received and not yet used, with the number of its ask
 pub record Answer : Type 0 where
   pub number : ℕ
   pub edits : List Replacement
 
--- an editor with its documents, its requests and the answers that it has
+-- an editor with its documents, the asks that it has sent, and the answers that it has
 pub record Editor : Type 0 where
   -- the unit in which positions are counted
   pub unit : Unit
   pub documents : EditorDocuments
-  -- the number of documents opened so far, closed ones included
+  -- the number of openings so far, including the openings of documents that are closed again
   pub openings : ℕ
-  -- the requests that were sent, in order; the first has number 1
+  -- the asks that were sent, in order; the first has number 1
   pub requested : List SentAsk
   pub answers : List Answer
 
@@ -50,12 +52,12 @@ abbrev pub new_editor : Unit → Editor
 new_editor unit =
     record { unit = unit; documents = map_of.empty; openings = 0; requested = []; answers = [] }
 
--- returns the request with this number, counted from 1; None if there is no such request
+-- returns the ask with this number, counted from 1; None if there is no such ask
 abbrev pub request_numbered : List SentAsk → ℕ → Option SentAsk
 request_numbered requested zero = None
 request_numbered requested (suc k) = slice_get requested k
 
--- returns the open document with this uri; None if it isn't open
+-- returns the open document with this uri; None if no document with this uri is open
 abbrev pub open_at : Editor → List ℕ → Option OpenDocument
 open_at e uri = map_of.get e.documents uri
 
@@ -64,27 +66,27 @@ open_at e uri = map_of.get e.documents uri
 -- a message to the server
 pub data MessageToServer : Type 0 where
   notifies : DocumentEvent → MessageToServer
-  -- the request's number, the uri and the ask
+  -- the ask's number, the document's uri, and the ask
   requests : ℕ → List ℕ → Ask → MessageToServer
 
 -- a message to the editor
 pub data MessageToEditor : Type 0 where
-  -- The uri, the version, and whether the list of diagnostics is empty. A close publishes a list
-  -- without a version.
+  -- The document's uri and version, and whether the list of diagnostics is empty. When a document
+  -- is closed, an empty list without a version is published.
   publishes : List ℕ → Option ℤ → Bool → MessageToEditor
-  -- the request's number and the edits; a refusal has no edits
+  -- the ask's number and the edits; a refusal has no edits
   answers : ℕ → List Replacement → MessageToEditor
 
 -- ---- results
 
--- an edit that the editor applied: the uri, and the text before and after it
+-- an edit that the editor applied: the document's uri, and its text before and after the edit
 pub record Applied : Type 0 where
   pub uri : List ℕ
   pub before : List ℕ
   pub after : List ℕ
 
--- a publication with a version, the text that it was made for, and whether its list of diagnostics
--- is empty
+-- a publication with the document's version, the text that its diagnostics were made for, and
+-- whether there are no diagnostics (`empty`)
 pub record Made : Type 0 where
   pub uri : List ℕ
   pub version : ℤ
@@ -103,7 +105,8 @@ pub record ClientAndServer : Type 0 where
   pub applied : List Applied
   pub made : List Made
 
--- returns the state before the first event, in which client and server count positions in this unit
+-- returns the state before the first event, for a client and a server that count positions in this
+-- unit
 abbrev pub start : Unit → ClientAndServer
 start unit =
     record {

@@ -1,4 +1,4 @@
--- Defines the text after edits or changes.
+-- Defines the text that edits or changes make.
 -- Rule: LSP 3.17, TextEdit[].
 use Rattle.std.specs.Prelude.{◌≡◌, ℕ, List, map, fold, Option, None, string_bytes}
 use Rattle.std.specs.Str.{chars}
@@ -22,7 +22,8 @@ replacement_of e = record { range = e.range; text = chars (string_bytes e.text) 
 abbrev pub replacements : List Edit → List Replacement
 replacements edits = map replacement_of edits
 
--- returns the text with all edits made, or None if two of them share a character
+-- Returns the text with all edits made at once: each range is a range of the text before the edits.
+-- None if two edits share a character.
 unfoldable pub edited : Unit → List ℕ → List Replacement → Option (List ℕ)
 edited unit text edits =
     patched_by_cuts text (map (λ e. cut_at (width_of unit) text e.range e.text) edits)
@@ -31,16 +32,16 @@ edited unit text edits =
 abbrev pub whole_text_change : List ℕ → TextChange
 whole_text_change text = record { range = None; text = text }
 
--- Returns the text after these changes, each made in the result of the one before. None means that
--- the text isn't known: a change of a range leaves it unknown, a change of the whole text makes it
--- known.
+-- Returns the text after these changes, each made in the text that the previous change has left.
+-- None is an unknown text: a change of a range leaves it unknown, and a change of the whole text
+-- makes it known.
 abbrev pub text_after_changes : Unit → Option (List ℕ) → List TextChange → Option (List ℕ)
 text_after_changes unit text changes = fold (changed_text unit) text changes
 
 -- ---- the law
 
--- states that making edits of the code as replacements (`edited`) gives the same text as patching
--- with them (`patched`)
+-- states that the model's edited text (`edited`, for replacements) is the text that the code's
+-- edits make (`patched`)
 abbrev pub EditedEqualsPatched : Type 0
 EditedEqualsPatched =
     (unit : Unit) (text : List ℕ) (edits : List Edit)

@@ -15,12 +15,12 @@ pub data Act : Type 0 where
   change_document : List ℕ → List TextChange → Act
   close_document : List ℕ → Act
   ask_about : List ℕ → Ask → Act
-  -- `apply` applies the answer with this number, `discard` discards it
+  -- `apply` applies the answer to the request with this number, `discard` discards this answer
   apply : ℕ → Act
   discard : ℕ → Act
 
--- the result of an act: the editor after it, the messages that are sent, and the edits that are
--- applied
+-- the result of an act: the editor after the act, the messages that are sent, and the edits that
+-- are applied
 pub record ActResult : Type 0 where
   pub editor : Editor
   pub sent : List MessageToServer
@@ -30,7 +30,7 @@ pub record ActResult : Type 0 where
 abbrev pub unchanged_result : Editor → ActResult
 unchanged_result e = record { editor = e; sent = []; applied = [] }
 
--- returns the result of an act that sends one message and leads to this editor
+-- returns the result of an act that sends one message, applies these edits and leads to this editor
 abbrev pub sending_result : Editor → MessageToServer → List Applied → ActResult
 sending_result e message applied = record { editor = e; sent = message ∷ []; applied = applied }
 
@@ -50,15 +50,15 @@ same_version (pos n) (negsuc m) = false
 same_version (negsuc n) (pos m) = false
 same_version (negsuc n) (negsuc m) = n == m
 
--- returns the result of opening a document, with version 1 and a new opening number
+-- returns the result of opening a document, with version 1 and the next opening number
 abbrev pub opening_result : Editor → List ℕ → List ℕ → ActResult
 opening_result e uri text =
     let d : OpenDocument = record { version = pos 1; text = text; opening = e.openings + 1 } in
     sending_result (record e { documents = map_of.insert e.documents uri d; openings = e.openings + 1 })
     (notifies (Opened uri (pos 1) text)) []
 
--- returns the result of giving an open document this text and the next version, and sending the
--- changes
+-- returns the result of an act that gives an open document this text and the next version, and
+-- sends these changes
 abbrev pub rewriting_result : Editor → List ℕ → OpenDocument → List ℕ → List TextChange → List Applied → ActResult
 rewriting_result e uri d text how applied =
     let new : OpenDocument = record d { version = next_version d.version; text = text } in
@@ -84,27 +84,27 @@ asks e uri ask d =
     sending_result (record e { requested = e.requested ++ a ∷ [] })
     (requests (suc (length e.requested)) uri ask) []
 
--- returns the edits of the first answer with this number, if the editor has one
+-- returns the edits of the first answer to request `k`; None if the list has no such answer
 abbrev pub edits_of_answer : ℕ → List Answer → Option (List Replacement)
 edits_of_answer k [] = None
 edits_of_answer k (a ∷ rest) = if a.number == k then Some a.edits else edits_of_answer k rest
 
--- returns the answers without the first one with this number
+-- returns the answers without the first answer to request `k`
 abbrev pub answers_except : ℕ → List Answer → List Answer
 answers_except k [] = []
 answers_except k (a ∷ rest) = if a.number == k then rest else a ∷ answers_except k rest
 
--- returns the editor without answer k
+-- returns the editor without its first answer to request `k`
 abbrev pub without_answer : Editor → ℕ → Editor
 without_answer e k = record e { answers = answers_except k e.answers }
 
--- returns the document if its opening and version are the same as in the request, otherwise None
+-- returns the document if it has the same opening and version as in the request, otherwise None
 abbrev pub if_unchanged_since : SentAsk → OpenDocument → Option OpenDocument
 if_unchanged_since a d = if d.opening == a.opening && same_version d.version a.version then Some d else None
 
--- Returns the result of making the edits of an answer to request k in the document of the request.
+-- Returns the result of making the edits of an answer to request `k` in the request's document.
 -- None if there is no such request, if the document isn't open, if its opening or version has
--- changed, or if two edits share a character.
+-- changed since the request, or if two edits share a character.
 abbrev pub applying_result : Editor → ℕ → List Replacement → Option ActResult
 applying_result e k edits = do
   a ← request_numbered e.requested k
@@ -113,8 +113,9 @@ applying_result e k edits = do
   let made : Applied = record { uri = a.uri; before = d.text; after = text }
   Some (rewriting_result e a.uri d text (whole_text_change text ∷ []) (made ∷ []))
 
--- Returns the result of an act. To open an open document, or to change, close or ask about a
--- document that isn't open, does nothing. `apply` and `discard` always remove the answer.
+-- Returns the result of an act. Nothing happens if a document is opened that is open already, or if
+-- a document is changed, closed or asked about that isn't open. `apply` and `discard` always remove
+-- the answer.
 abbrev pub act_result : Editor → Act → ActResult
 act_result e (open_document uri text) =
     if is_some (open_at e uri) then unchanged_result e else opening_result e uri text

@@ -1,5 +1,5 @@
--- Defines the rules for an editor: which moves it may make, and what it sends.
--- The model's editor (`act_result`) keeps these rules and makes each move in one way.
+-- Defines the rules for an editor: which moves it may make, and which messages it sends. The
+-- model's editor (`act_result`) keeps these rules and makes each move in one way.
 -- Rule: LSP 3.17, Text Document Synchronization, versioned documents.
 use Rattle.std.specs.Prelude.{◌≡◌, ◌+◌, ℕ, ℤ, List, [], ◌∷◌, ◌++◌, map, Some}
 use Rattle.std.specs.FinMap as map_of
@@ -16,16 +16,17 @@ pub record Revision : Type 0 where
   pub text : List ℕ
   pub how : List TextChange
 
--- a move of the editor: like an `Act`, but with any version, and with revisions as changes
+-- A move of the editor. It is like an `Act`, but a document may get any version, and the changes
+-- are a list of revisions.
 pub data Move : Type 0 where
   -- the uri, the version and the text
   to_open : List ℕ → ℤ → List ℕ → Move
-  -- the user's changes of an open document, each with a notification
+  -- the user's changes of an open document; each revision is sent as one notification
   to_revise : List ℕ → List Revision → Move
   to_close : List ℕ → Move
   to_ask : List ℕ → Ask → Move
-  -- `to_apply` makes the edits of the answer with this number, and sends them as revisions;
-  -- `to_drop` discards the answer
+  -- `to_apply` makes the edits of the answer to the request with this number, and sends them as
+  -- revisions; `to_drop` discards the answer
   to_apply : ℕ → List Revision → Move
   to_drop : ℕ → Move
 
@@ -35,13 +36,14 @@ pub data Move : Type 0 where
 abbrev pub revised_document : OpenDocument → Revision → OpenDocument
 revised_document d r = record d { version = r.version; text = r.text }
 
--- returns the editor with this document open
+-- returns the editor with this document open under this uri
 abbrev pub with_document : Editor → List ℕ → OpenDocument → Editor
 with_document e uri d = record e { documents = map_of.insert e.documents uri d }
 
--- Holds if these revisions of an open document, made in order, lead from editor `e` to `new` and
+-- States that these revisions of an open document, made in order, lead from editor `e` to `new` and
 -- announce these documents. The changes of each revision turn the text before the revision into the
--- text after it. Their positions count in the agreed unit. A revision may have any version.
+-- text after the revision. The positions of the changes count in the agreed unit. A revision may
+-- have any version.
 abbrev pub Revises : Editor → List ℕ → List Revision → Editor → List AnnouncedDocument → Type 0
 Revises e uri [] new announced = (new ≡ e) × (announced ≡ [])
 Revises e uri (r ∷ more) new announced =
@@ -63,10 +65,10 @@ changes_of (r ∷ more) = r.how ++ changes_of more
 
 -- ---- answers
 
--- States that the edits of answer k are made in the document that was asked about, all at once. The
--- document still has the text that it had when the request was sent. The first changes that are
--- sent make the edited text. The rest are later changes of the user, which an editor may send
--- together with the edits.
+-- States that the edits of the answer to request `k` are made in the document that was asked about,
+-- all at once. The document still has the text that it had when the request was sent. The first
+-- changes that are sent make the edited text. The rest are later changes of the user, which an
+-- editor may send together with the edits.
 pub record AppliesAnswer (e : Editor) (k : ℕ) (revisions : List Revision) (done : ActResult)
     (announced : List AnnouncedDocument) : Type 0 where
   pub edits : List Replacement
@@ -99,7 +101,7 @@ opening_result_as d e uri =
     sending_result (record (with_document e uri d) { openings = d.opening })
     (notifies (Opened uri d.version d.text)) []
 
--- Holds if a move may have this result and announce these documents to the server. Only an open
+-- States that a move may have this result and announce these documents to the server. Only an open
 -- document can be changed or asked about.
 abbrev pub IsAllowedMove : Editor → Move → ActResult → List AnnouncedDocument → Type 0
 IsAllowedMove e (to_open uri version text) done announced =

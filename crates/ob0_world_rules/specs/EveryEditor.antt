@@ -46,8 +46,8 @@ modeled_messages [] = []
 modeled_messages (None ∷ queue) = modeled_messages queue
 modeled_messages (Some message ∷ queue) = message ∷ modeled_messages queue
 
--- returns the notifications of a queue, which open, change or close documents, and leaves out the
--- requests
+-- returns the notifications of a queue without its requests; a notification opens, changes or
+-- closes a document
 abbrev pub notifications_among : List MessageToServer → List MessageToServer
 notifications_among [] = []
 notifications_among (notifies note ∷ queue) = notifies note ∷ notifications_among queue
@@ -75,12 +75,12 @@ pub data Turn : Type 0 where
   editor_does : Move → Turn
   -- the editor sends a message outside the model (`None`)
   editor_says : Turn
-  -- the server takes one message and sends its replies
+  -- the server takes the first message that waits for it, and sends its replies
   server_takes : Turn
-  -- the editor takes one message
+  -- the editor takes the first message that waits for it
   editor_takes : Turn
 
--- returns the state after a move of the editor that announces these documents
+-- returns the state after a move of the editor that has this result and announces these documents
 abbrev pub after_move : EditorAndServer → ActResult → List AnnouncedDocument → EditorAndServer
 after_move w done announced =
     record w {
@@ -90,8 +90,9 @@ after_move w done announced =
       applied = w.applied ++ done.applied;
     }
 
--- Holds if the server takes the first message that waits for it, and sends its replies. If that
--- message is outside the model, no document changes, and all replies are outside the model.
+-- States that the server takes the first message that waits for it, and sends its replies. If that
+-- message is outside the model (None), no document changes, and all replies are outside the model.
+-- If no message waits, nothing changes.
 abbrev pub ServerTakesNext : EditorAndServer → List (Option MessageToServer) → EditorAndServer → Type 0
 ServerTakesNext w [] new = new ≡ w
 ServerTakesNext w (None ∷ rest) new =
@@ -110,15 +111,15 @@ ServerTakesNext w (Some message ∷ rest) new =
       made = w.made ++ made;
     })
 
--- returns the state after the editor has taken the first message that waits for it; unchanged if no
--- message waits
+-- Returns the state after the editor has taken the first message that waits for it. A message
+-- outside the model (None) only leaves the queue. If no message waits, the state is unchanged.
 abbrev pub after_editor_takes_next : EditorAndServer → List (Option MessageToEditor) → EditorAndServer
 after_editor_takes_next w [] = w
 after_editor_takes_next w (None ∷ rest) = record w { to_editor = rest }
 after_editor_takes_next w (Some message ∷ rest) =
     record w { editor = reads w.editor message; to_editor = rest }
 
--- holds if this turn can lead from `w` to `new`
+-- states that this turn can lead from `w` to `new`
 abbrev pub MayHappen : EditorAndServer → Turn → EditorAndServer → Type 0
 MayHappen w (editor_does move) new =
     (done : ActResult)
@@ -129,7 +130,7 @@ MayHappen w editor_says new = new ≡ record w { to_server = w.to_server ++ None
 MayHappen w server_takes new = ServerTakesNext w w.to_server new
 MayHappen w editor_takes new = new ≡ after_editor_takes_next w w.to_editor
 
--- holds if these turns, one after another, can lead from `w` to `new`
+-- states that these turns, one after another, can lead from `w` to `new`
 abbrev pub MayLeadTo : EditorAndServer → List Turn → EditorAndServer → Type 0
 MayLeadTo w [] new = new ≡ w
 MayLeadTo w (turn ∷ turns) new =
@@ -139,9 +140,9 @@ MayLeadTo w (turn ∷ turns) new =
 
 -- states the guarantees for a state to which turns lead
 pub record HoldsWithEditor (w : EditorAndServer) : Type 0 where
-  -- Each applied edit keeps the run. Each list of diagnostics is empty exactly when its text is a
-  -- well-typed module. If no message of the model waits for the server, the latest diagnostics are
-  -- for the present text.
+  -- Each applied edit keeps the run. Each list of diagnostics is empty exactly when the text that
+  -- it was made for is a well-typed module. If no message of the model waits for the server, the
+  -- latest diagnostics are for the present text.
   pub holds : Holds (model_state_of w)
   -- if no notification waits for the server, the latest diagnostics are for the present text, even
   -- if asks and messages outside the model still wait
@@ -156,7 +157,8 @@ pub record HoldsWithEditor (w : EditorAndServer) : Type 0 where
   pub made_of : AreMadeForDocuments w.made published
   pub still_wait : map versioned_uri waiting ≡ versions_announced_in (modeled_messages w.to_server)
 
--- states that the guarantees hold with every editor that keeps ob0's rules, in every interleaving
+-- states that the guarantees hold for every editor that keeps ob0's rules, in every interleaving of
+-- the turns
 abbrev pub HoldsForEveryEditor : Type 0
 HoldsForEveryEditor =
     (unit : Unit) (turns : List Turn) (w : EditorAndServer)

@@ -9,12 +9,12 @@ use Rattle.ob0_world_rules.specs.Serving.{Replies}
 pub data Event : Type 0 where
   -- the editor acts
   does : Act → Event
-  -- the server takes one message and sends its replies
+  -- the server takes the first message that waits for it, and sends its replies
   serve : Event
-  -- the editor takes one message
+  -- the editor takes the first message that waits for it
   take_message : Event
 
--- returns the state after an act of the editor
+-- returns the state after an act of the editor that has this result
 abbrev pub after_act : ClientAndServer → ActResult → ClientAndServer
 after_act w done =
     record w {
@@ -23,8 +23,8 @@ after_act w done =
       applied = w.applied ++ done.applied;
     }
 
--- Holds if the server takes the first message that waits for it, and sends its replies. If none
--- waits, nothing changes.
+-- States that the server takes the first message that waits for it, and sends its replies. If no
+-- message waits for the server, nothing changes.
 abbrev pub ServerTakes : ClientAndServer → List MessageToServer → ClientAndServer → Type 0
 ServerTakes w [] new = new ≡ w
 ServerTakes w (message ∷ rest) new =
@@ -46,13 +46,13 @@ after_editor_takes w [] = w
 after_editor_takes w (message ∷ rest) =
     record w { editor = reads w.editor message; to_editor = rest }
 
--- holds if this event leads from `w` to `new`
+-- states that this event leads from `w` to `new`
 abbrev pub Happens : ClientAndServer → Event → ClientAndServer → Type 0
 Happens w (does act) new = new ≡ after_act w (act_result w.editor act)
 Happens w serve new = ServerTakes w w.to_server new
 Happens w take_message new = new ≡ after_editor_takes w w.to_editor
 
--- holds if these events, one after another, lead from `w` to `new`
+-- states that these events, one after another, lead from `w` to `new`
 abbrev pub Course : ClientAndServer → List Event → ClientAndServer → Type 0
 Course w [] new = new ≡ w
 Course w (event ∷ events) new =

@@ -1,4 +1,4 @@
--- States the guarantees of every list of events.
+-- States the guarantees for every list of events.
 -- Rule: docs/PROMISES.md, Client and server.
 use Rattle.std.specs.Prelude.{◌≡◌, ℕ, List, [], All, Option, Some, None, MatchOption, fold, if◌then◌else◌}
 use Rattle.std.specs.Str.{bytes_eq}
@@ -11,8 +11,8 @@ use Rattle.ob0_world_rules.specs.PublicationsInOrder.{AreMadeInOrder}
 
 -- ---- an applied edit
 
--- states that the edit leaves a well-typed module, with the same run as the well-typed module
--- before it
+-- states that the edit turns a well-typed module into a well-typed module with the same run: the
+-- same output and the same end
 pub record KeepsTheRun (a : Applied) : Type 0 where
   pub before_fits : WellTypedText a.before
   pub after_fits : WellTypedText a.after
@@ -20,18 +20,18 @@ pub record KeepsTheRun (a : Applied) : Type 0 where
 
 -- ---- a publication with a version
 
--- holds if the published list is empty exactly when the text that it was made for is a well-typed
--- module
+-- states that the list of diagnostics is empty exactly when the text that it was made for is a
+-- well-typed module
 abbrev pub IsCorrectPublication : Made → Type 0
 IsCorrectPublication m = IsEmptyIfWellTyped m.text m.empty
 
--- returns the last publication with a version for a uri; None if there is none
+-- returns the last publication with a version for the document with this uri; None if there is none
 abbrev pub last_publication : List ℕ → List Made → Option Made
 last_publication uri made =
     fold (λ last m. if bytes_eq m.uri uri then Some m else last) None made
 
--- Holds if each open document has a publication, and the last one was made for its present version
--- and text.
+-- States that each open document has a publication, and that its last publication was made for the
+-- document's present version and text.
 abbrev pub AreUpToDate : Editor → List Made → Type 0
 AreUpToDate e made =
     (uri : List ℕ) (d : OpenDocument)
@@ -51,8 +51,8 @@ pub record Holds (w : ClientAndServer) : Type 0 where
   -- its present text.
   pub latest_made : w.to_server ≡ [] → AreUpToDate w.editor w.made
 
--- States that a list of events, from the start, leads to one state, and that this state has these
--- applied edits and these publications, in this order. The guarantees hold in it.
+-- States that a list of events, from the start, leads to exactly one state. This state has these
+-- applied edits and these publications, in this order. The guarantees (`Holds`) hold in this state.
 pub record Headline (unit : Unit) (events : List Event) (applied : List Applied)
     (made : List Made) : Type 0 where
   pub end : ClientAndServer

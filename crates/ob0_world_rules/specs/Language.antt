@@ -22,7 +22,8 @@ terminals lexeme.Space text = []
 terminals lexeme.Comment text = []
 terminals (lexeme.Token kind) text = terminal_of_kind text kind ∷ []
 
--- states that these bytes are the text of a module with this tree
+-- States that these bytes are the text of a module with this tree. The text has at most `max_text`
+-- bytes, and the tree isn't nested deeper than `max_nesting`.
 pub record IsModuleText (tree : Tree Name module_text) (bytes : List ℕ) : Type 0 where
   pub utf8 : IsUtf8 bytes
   pub lexemes : List Lexeme
@@ -39,9 +40,9 @@ pub record WellTypedText (text : List ℕ) : Type 0 where
   pub text_of : IsModuleText tree (utf8 text)
   pub well_typed : WellTyped tree
 
--- Holds if the modules of these two texts output the same and end alike. Output and end are the
--- same for every input, and for all bounds on calls and on the iterations of a loop (LANGUAGE.md,
--- Runs).
+-- States that the modules of these two texts have the same output and the same end. This holds for
+-- every input, and for all bounds on calls and on the iterations of a loop (LANGUAGE.md, Runs). If
+-- a text isn't a module, nothing is stated.
 abbrev pub SameRun : List ℕ → List ℕ → Type 0
 SameRun a b =
     (before after : Tree Name module_text)

@@ -1,4 +1,4 @@
--- States laws about the definitions of client and server.
+-- States laws about the model of client and server.
 -- Rule: none; laws of the model of client and server.
 use Rattle.std.specs.Prelude.{◌≡◌, ◌↔◌, ⊤, ℕ, List, All, Some}
 use Rattle.ob0_text.specs.declared.edits.Edit.{Edit}
@@ -18,8 +18,8 @@ use Rattle.ob0_world_rules.specs.Mirror.{Mirrors}
 
 -- ---- texts
 
--- States that a text has a given tree by its lexemes (`IsModuleText`) exactly if it has that tree
--- by the parser's tokens (`IsTextOf`).
+-- States that two definitions of a text's tree agree. A text has a given tree by its lexemes
+-- (`IsModuleText`) exactly if it has that tree by the parser's tokens (`IsTextOf`).
 abbrev pub ReadingsAgree : Type 0
 ReadingsAgree =
     (tree : Tree Name module_text) (bytes : List ℕ)
@@ -36,7 +36,8 @@ pub record EditsPreserveRun (unit : Unit) (text : List ℕ) (edits : List Replac
   pub after_fits : WellTypedText after
   pub same : SameRun text after
 
--- states that the edits that answer an ask keep the run of the text
+-- states that the edits that answer an ask turn a well-typed module into a well-typed module with
+-- the same run (`EditsPreserveRun`)
 abbrev pub EditsKeepTheRun : Type 0
 EditsKeepTheRun =
     (unit : Unit) (text : List ℕ) (ask : Ask) (edits : List Edit)
@@ -61,8 +62,8 @@ StepIsDetermined =
     → Happens w event other
     → new ≡ other
 
--- States that a list of events leads from a state to at most one state. The states have documents,
--- queues, applied edits and publications.
+-- States that a list of events leads from a state to at most one state. A state consists of the
+-- documents, the queues, the applied edits and the publications.
 abbrev pub CourseIsDetermined : Type 0
 CourseIsDetermined =
     (w : ClientAndServer) (events : List Event) (end other : ClientAndServer)
@@ -70,13 +71,13 @@ CourseIsDetermined =
     → Course w events other
     → end ≡ other
 
--- Holds if the ask has an answer for each unit and text. The formula is a double negation.
+-- States that the ask has an answer for each unit and text. The formula is a double negation.
 abbrev pub HasAnswers : Ask → Type 0
 HasAnswers ask =
     (unit : Unit) (text : List ℕ)
     → ¬ ((given : List Replacement) → ¬ IsAnswerForText unit text ask given)
 
--- holds if the event isn't an ask, or is an ask that has answers
+-- states that the event isn't an ask, or is an ask that has answers
 abbrev pub IsAnswerable : Event → Type 0
 IsAnswerable (does (open_document uri text)) = ⊤
 IsAnswerable (does (change_document uri how)) = ⊤
@@ -87,20 +88,21 @@ IsAnswerable (does (discard k)) = ⊤
 IsAnswerable serve = ⊤
 IsAnswerable take_message = ⊤
 
--- States that a list of events has a course if its asks have answers. The formula is a double
--- negation. So a law about every course is about at least one.
+-- States that a list of events leads from the start to some state, if its asks have answers. The
+-- formula is a double negation. So a law about every such course is about at least one.
 abbrev pub CourseExists : Type 0
 CourseExists =
     (unit : Unit) (events : List Event)
     → All IsAnswerable events
     → ¬ ((end : ClientAndServer) → ¬ Course (start unit) events end)
 
--- states that `Holds` is true in each state to which a list of events leads
+-- states that `Holds` is true in each state to which a list of events leads from the start
 abbrev pub HoldsInEveryInterleaving : Type 0
 HoldsInEveryInterleaving =
     (u : Unit) (events : List Event) (w : ClientAndServer) → Course (start u) events w → Holds w
 
--- states that the server has the editor's documents once it has taken all messages that wait for it
+-- States that the server will have the editor's documents once it has taken all messages that wait
+-- for it. The law is for each state to which a list of events leads from the start.
 abbrev pub ServerMirrorsEditor : Type 0
 ServerMirrorsEditor =
     (u : Unit) (events : List Event) (w : ClientAndServer) → Course (start u) events w → Mirrors w

@@ -16,13 +16,13 @@ pub record AnnouncedDocument : Type 0 where
   pub uri : List ℕ
   pub document : OpenDocument
 
--- returns a list of this document, or an empty list for None
+-- returns a list of this one document, with its uri, or an empty list for None
 abbrev pub announced_if_open : List ℕ → Option OpenDocument → List AnnouncedDocument
 announced_if_open uri (Some d) = record { uri = uri; document = d } ∷ []
 announced_if_open uri None = []
 
--- returns a list of the editor's document that the message opens or changes, or an empty list if
--- there is none
+-- returns a list of the one document of the editor that the message opens or changes, or an empty
+-- list if there is none
 abbrev pub announced_by : Editor → MessageToServer → List AnnouncedDocument
 announced_by e (notifies (Opened uri version text)) = announced_if_open uri (open_at e uri)
 announced_by e (notifies (Changed uri version how)) = announced_if_open uri (open_at e uri)
@@ -34,14 +34,14 @@ announced_by e (requests number uri ask) = []
 abbrev pub announced_in : Editor → List MessageToServer → List AnnouncedDocument
 announced_in e messages = flat_map (announced_by e) messages
 
--- returns the documents that the editor announces by this event
+-- returns the documents that the editor announces by this event; only an act announces documents
 abbrev pub announced_at_event : ClientAndServer → Event → List AnnouncedDocument
 announced_at_event w (does act) =
     let done : ActResult = act_result w.editor act in announced_in done.editor done.sent
 announced_at_event w serve = []
 announced_at_event w take_message = []
 
--- holds if the editor announces exactly these documents, in this order, in the course of these
+-- states that the editor announces exactly these documents, in this order, in the course of these
 -- events
 abbrev pub AreAnnounced : ClientAndServer → List Event → List AnnouncedDocument → Type 0
 AreAnnounced w [] announced = announced ≡ []
@@ -54,19 +54,20 @@ AreAnnounced w (event ∷ events) announced =
 
 -- ---- what is published
 
--- holds if the publication is made for this document: its uri, version and text
+-- states that the publication has the uri, the version and the text of this document
 abbrev pub IsMadeForDocument : Made → AnnouncedDocument → Type 0
 IsMadeForDocument m t = (m.uri ≡ t.uri) × (m.version ≡ t.document.version) × (m.text ≡ t.document.text)
 
--- holds if there are as many publications as documents, and the n-th is made for the n-th document
+-- states that there are as many publications as documents, and that the n-th publication is made
+-- for the n-th document
 abbrev pub AreMadeForDocuments : List Made → List AnnouncedDocument → Type 0
 AreMadeForDocuments [] [] = ⊤
 AreMadeForDocuments (m ∷ made) (t ∷ announced) = IsMadeForDocument m t × AreMadeForDocuments made announced
 AreMadeForDocuments [] (t ∷ announced) = ⊥
 AreMadeForDocuments (m ∷ made) [] = ⊥
 
--- returns a list of the uri and version of the document that the message opens or changes, or an
--- empty list if there is none
+-- returns a list of the uri and version of the one document that the message opens or changes, or
+-- an empty list if there is none
 abbrev pub versions_announced_by : MessageToServer → List (List ℕ × ℤ)
 versions_announced_by (notifies (Opened uri version text)) = (uri, version) ∷ []
 versions_announced_by (notifies (Changed uri version how)) = (uri, version) ∷ []
@@ -96,7 +97,8 @@ pub record AreMadeInOrder (unit : Unit) (events : List Event) (made : List Made)
 
 -- ---- the law
 
--- states that publications are made for the announced documents, in their order
+-- states that publications are made for the announced documents, in the order in which the editor
+-- announced them
 abbrev pub PublicationsInOrder : Type 0
 PublicationsInOrder =
     (unit : Unit) (events : List Event) (end : ClientAndServer)

@@ -6,9 +6,9 @@ use Rattle.ob0_world_rules.specs.Edited.{Replacement}
 use Rattle.ob0_world_rules.specs.Answers.{IsAnswer, IsEmptyIfWellTyped}
 use Rattle.ob0_world_rules.specs.ClientAndServer.{MessageToServer, notifies, requests, MessageToEditor, publishes, answers, Made}
 
--- Holds if the server sends diagnostics, with the version, for a document in step, and sends
--- nothing for any other document. `made` has the same publication with the text for which it was
--- made.
+-- States that the server sends diagnostics, with the version, for a document in step, and sends
+-- nothing for any other document. `made` has the same publication, with the text for which the
+-- diagnostics were made.
 abbrev pub Publishes : List ℕ → Option Document → List MessageToEditor → List Made → Type 0
 Publishes uri (Some (InStep version text)) sent made =
     (empty : Bool) × IsEmptyIfWellTyped text empty × (sent ≡ publishes uri (Some version) empty ∷ [])
@@ -16,7 +16,7 @@ Publishes uri (Some (InStep version text)) sent made =
 Publishes uri (Some OutOfStep) sent made = (sent ≡ []) × (made ≡ [])
 Publishes uri None sent made = (sent ≡ []) × (made ≡ [])
 
--- Holds if the server replies to a notification with these messages, and `made` are the
+-- States that the server replies to a notification with these messages, and that `made` are the
 -- publications with a version among them. `held` are the server's documents before the
 -- notification. If an open document is closed, its diagnostics are cleared.
 abbrev pub RepliesToNotification : OpenDocuments
@@ -33,8 +33,8 @@ RepliesToNotification held (Closed uri) sent made =
     (sent ≡ (if is_some (document_at held uri) then publishes uri None true ∷ [] else []))
     × (made ≡ [])
 
--- holds if the server replies to a message with these messages, and `made` are the publications
--- with a version among them
+-- states that the server replies to a message with these messages, and that `made` are the
+-- publications with a version among them; `held` are the server's documents before the message
 abbrev pub Replies : OpenDocuments → MessageToServer → List MessageToEditor → List Made → Type 0
 Replies held (notifies note) sent made = RepliesToNotification held note sent made
 Replies held (requests number uri ask) sent made =

@@ -1,22 +1,22 @@
-//! Proves laws about the definitions of client and server.
+//! Proves laws about the model of client and server.
 ghost use Rattle.ob0_world_rules.specs.Laws.{CourseExists, AnswersAreUnique, EditsKeepTheRun, HoldsInEveryInterleaving, CourseIsDetermined, ReadingsAgree, StepIsDetermined, ServerMirrorsEditor};
 ghost use Rattle.ob0_world_rules.specs.PublicationsInOrder.{PublicationsInOrder};
 ghost use Rattle.ob0_world_rules.specs.EveryEditor.{ModelEditorKeepsRules, HoldsForEveryEditor};
 
-/// Proves that every applied edit keeps the run and that all diagnostics are right (`Holds`),
-/// whatever the order of the events.
+/// Proves that every applied edit keeps the module's run and that all diagnostics are correct
+/// (`Holds`), whatever the order of the events.
 pub fn holds_in_every_interleaving()
     ensures { HoldsInEveryInterleaving }
 {}
 
 /// Proves that the edits that answer an ask turn a well-typed module into a well-typed module with
-/// the same run.
+/// the same run: the same output and the same end.
 pub fn edits_keep_the_run()
     ensures { EditsKeepTheRun }
 {}
 
-/// Proves that a text has a given tree by its lexemes (`IsModuleText`) exactly if it has that tree
-/// by the parser's tokens (`IsTextOf`).
+/// Proves that two definitions of a text's tree agree. A text has a given tree by its lexemes
+/// (`IsModuleText`) exactly if it has that tree by the parser's tokens (`IsTextOf`).
 pub fn readings_agree()
     ensures { ReadingsAgree }
 {}
@@ -36,8 +36,8 @@ pub fn course_is_determined()
     ensures { CourseIsDetermined }
 {}
 
-/// Proves that a list of events has a course if its asks have answers. So a law about every course
-/// is about at least one.
+/// Proves that a list of events leads from the start to some state, if its asks have answers. So a
+/// law about every such course is about at least one.
 pub fn course_exists()
     ensures { CourseExists }
 {}
@@ -56,15 +56,15 @@ pub fn publications_in_order()
 {}
 
 /// Proves the guarantees for every editor that keeps ob0's rules, whatever the order of the turns.
-/// Every applied edit keeps the run. All diagnostics are right, and are made for the announced
-/// documents in order. The latest diagnostics are for the present text, once the server has taken
-/// all notifications.
+/// Every applied edit keeps the module's run. All diagnostics are correct, and are made for the
+/// announced documents in order. The latest diagnostics are for the present text, once the server
+/// has taken all notifications.
 pub fn holds_for_every_editor()
     ensures { HoldsForEveryEditor }
 {}
 
-/// Proves that the model's editor keeps ob0's rules, so that the guarantees for every editor cover
-/// it.
+/// Proves that the model's editor keeps ob0's rules. So the guarantees for every editor also hold
+/// for the model's.
 pub fn model_editor_keeps_rules()
     ensures { ModelEditorKeepsRules }
 {}

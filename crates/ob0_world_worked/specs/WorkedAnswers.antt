@@ -10,11 +10,12 @@ use Rattle.ob0_world_rules.specs.Answers.{IsAnswerForText}
 use Rattle.ob0_world_rules.specs.Edited.{Replacement}
 use Rattle.ob0_world_worked.specs.WorkedText.{at, worked_text}
 
--- returns the range between two characters of a line
+-- returns the range of a line from the character `from` up to, but not including, the character
+-- `to`; lines and characters are counted from 0
 abbrev pub range_on_line : ℕ → ℕ → ℕ → Range
 range_on_line line from to = record { start = at line from; end = at line to }
 
--- returns the replacement of a part of a line by this text
+-- returns the replacement of a part of a line (`range_on_line`) by this text
 abbrev pub replacement_on_line : ℕ → ℕ → ℕ → List ℕ → Replacement
 replacement_on_line line from to new = record { range = range_on_line line from to; text = new }
 
@@ -23,24 +24,24 @@ abbrev pub IsAnsweredBy : Ask → List Replacement → Type 0
 IsAnsweredBy ask edits =
     (given : List Replacement) → IsAnswerForText Utf16 worked_text ask given ↔ (given ≡ edits)
 
--- states that renaming x to y is answered by three edits: at the declaration and at both uses
+-- states that renaming `x` to `y` is answered by three edits: at the declaration and at both uses
 abbrev pub RenameIsAnswered : Type 0
 RenameIsAnswered =
     IsAnsweredBy (rename (at 4 2) (codes "y"))
     (replacement_on_line 4 2 3 (codes "y") ∷ replacement_on_line 6 2 3 (codes "y") ∷ replacement_on_line 7 8 9 (codes "y") ∷ [])
 
--- states that renaming x to Write is refused, because it would capture the call of Write, and that
--- the answer has no edits
+-- States that renaming `x` to `Write` is refused, because the renamed variable would capture the
+-- call of `Write`. The answer has no edits.
 pub record CaptureIsRefused : Type 0 where
   pub refused : IsRefusedIn Utf16 worked_text (at 4 2) (codes "Write") (Captures (range_on_line 7 2 7))
   pub no_edits : IsAnsweredBy (rename (at 4 2) (codes "Write")) []
 
--- states that inlining n at its use is answered by one edit, which replaces the use by the value
+-- states that inlining `n` at its use is answered by one edit, which replaces the use by the value
 abbrev pub InliningIsAnswered : Type 0
 InliningIsAnswered = IsAnsweredBy (inline_here (at 6 7)) (replacement_on_line 6 7 8 (codes "2") ∷ [])
 
--- states that inlining n everywhere is answered by two edits: one removes the declaration, one
--- replaces the use by the value
+-- states that inlining `n` everywhere is answered by two edits: one removes the declaration, and
+-- one replaces the use by the value
 abbrev pub InliningEverywhereIsAnswered : Type 0
 InliningEverywhereIsAnswered =
     IsAnsweredBy (inline_all (at 6 7)) (replacement_on_line 2 2 8 [] ∷ replacement_on_line 6 7 8 (codes "2") ∷ [])

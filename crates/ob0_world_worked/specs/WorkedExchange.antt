@@ -18,7 +18,7 @@ use Rattle.ob0_world_worked.specs.WorkedAnswers.{range_on_line}
 abbrev pub uri : List ℕ
 uri = codes "file:///m.mod"
 
--- the text that `worked_text` becomes if constant n is inlined everywhere
+-- the text that `worked_text` becomes if the constant `n` is inlined everywhere
 abbrev pub inlined_text : List ℕ
 inlined_text =
     line (codes "MODULE M;")
@@ -31,7 +31,8 @@ inlined_text =
     ++ (line (codes "  Write(x)")
     ++ line (codes "END M."))))))))
 
--- the edits of the inlining as changes of ranges, with the later range first
+-- The edits of the inlining as changes of ranges. The later range comes first, so its change
+-- doesn't move the other range.
 abbrev pub changes : List TextChange
 changes =
     record { range = Some (range_on_line 6 7 8); text = codes "2" }
@@ -43,23 +44,23 @@ worked_revision = record { version = pos 1; text = inlined_text; how = changes }
 
 abbrev pub worked_turns : List Turn
 worked_turns =
-    -- `initialized`
+    -- the editor sends the notification `initialized`
     editor_says
     ∷ server_takes
-    -- the document is opened at version 0
+    -- the editor opens the document with version 0
     ∷ editor_does (to_open uri (pos 0) worked_text)
     ∷ server_takes
-    -- a hover
+    -- the editor sends a hover request
     ∷ editor_says
     ∷ server_takes
-    -- code actions in a range, of one kind
+    -- the editor requests the code actions of one kind in a range
     ∷ editor_does (to_ask uri (inline_all (at 6 7)))
     ∷ server_takes
-    -- the diagnostics, and both answers
+    -- the editor takes the diagnostics, and the answers to both requests
     ∷ editor_takes
     ∷ editor_takes
     ∷ editor_takes
-    -- the answer is applied by two changes in one notification
+    -- the editor applies the answer by two changes in one notification
     ∷ editor_does (to_apply 1 (worked_revision ∷ []))
     ∷ []
 
@@ -102,8 +103,8 @@ change_notification =
 -- ---- the law
 
 -- States that `worked_turns` lead from the beginning to an exchange in which the session has taken
--- five messages. The notification of the change still waits for the session. The editor has applied
--- one answer, which replaces `worked_text` by `inlined_text`.
+-- five messages, `initialize` included. The notification of the change still waits for the session.
+-- The editor has applied one answer, which replaces `worked_text` by `inlined_text`.
 pub record WorkedExchangeExists : Type 0 where
   pub first : Exchange
   pub last : Exchange

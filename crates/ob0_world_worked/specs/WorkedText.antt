@@ -3,7 +3,7 @@
 use Rattle.std.specs.Prelude.{ℕ, List, ◌∷◌, [], ◌++◌, codes}
 use Rattle.ob0_text.specs.declared.position_types.Position.{Position}
 
--- returns the text with a line feed after it
+-- returns this text followed by a line feed
 abbrev pub line : List ℕ → List ℕ
 line text = text ++ 10 ∷ []
 
@@ -20,6 +20,6 @@ worked_text =
     ++ (line (codes "  Write(x)")
     ++ line (codes "END M."))))))))
 
--- returns the position of a line and a character in it, both counted from 0
+-- returns the position of a character on a line; lines and characters are counted from 0
 abbrev pub at : ℕ → ℕ → Position
 at line character = record { line = line; character = character }

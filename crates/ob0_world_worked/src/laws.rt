@@ -1,5 +1,5 @@
-//! Proves what the answers to four requests about an example text (`worked_text`) are, and that an
-//! example exchange exists. Also proves that a request for formatting has an answer for each text.
+//! Proves the answers to four requests about an example text (`worked_text`), and that an example
+//! exchange exists. Also proves that a request for formatting has an answer for each text.
 ghost use Rattle.ob0_world_worked.specs.Formatting.{FormattingHasAnswers};
 ghost use Rattle.ob0_world_worked.specs.WorkedExchange.{WorkedExchangeExists};
 ghost use Rattle.ob0_world_worked.specs.WorkedAnswers.{CaptureIsRefused, RenameIsAnswered, InliningIsAnswered, InliningEverywhereIsAnswered};
@@ -14,8 +14,8 @@ use ob0_layout::laws::{
 };
 use ob0_world_rules::laws::answers_are_unique;
 
-/// Proves that renaming variable x of `worked_text` to y is answered by three edits, and by no
-/// others.
+/// Proves that renaming the variable `x` of `worked_text` to `y` is answered by three edits, and by
+/// no others.
 pub fn rename_is_answered()
     ensures { RenameIsAnswered }
 {
@@ -23,16 +23,16 @@ pub fn rename_is_answered()
     answers_are_unique();
 }
 
-/// Proves that renaming x to Write is refused, because it would capture a call of Write. The
-/// refusal has the range of the call, and the answer has no edits.
+/// Proves that renaming `x` to `Write` is refused, because the renamed variable would capture a
+/// call of `Write`. The refusal has the range of the call, and the answer has no edits.
 pub fn capture_is_refused()
     ensures { CaptureIsRefused }
 {
     answers_are_unique();
 }
 
-/// Proves that inlining constant n of `worked_text` at its use is answered by one edit, and by no
-/// other.
+/// Proves that inlining the constant `n` of `worked_text` at its use is answered by one edit, and
+/// by no other.
 pub fn inlining_is_answered()
     ensures { InliningIsAnswered }
 {
@@ -41,8 +41,8 @@ pub fn inlining_is_answered()
     answers_are_unique();
 }
 
-/// Proves that inlining constant n of `worked_text` everywhere is answered by two edits, and by no
-/// others.
+/// Proves that inlining the constant `n` of `worked_text` everywhere is answered by two edits, and
+/// by no others.
 pub fn inlining_everywhere_is_answered()
     ensures { InliningEverywhereIsAnswered }
 {

@@ -1,5 +1,5 @@
-//! Proves what the answers to four requests about an example text are, and that an example exchange
-//! exists. Also proves that a request for formatting has an answer for each text.
+//! Proves the answers to four requests about an example text, and that an example exchange exists.
+//! Also proves that a request for formatting has an answer for each text.
 #![tactic(auto)]
 
 pub mod laws;

@@ -1,5 +1,5 @@
-//! The state of the reporting walk: the types and declarations found so far. A type may be unknown, as a whole or in
-//! parts.
+//! The state of the reporting walk: the types and declarations found so far. A type may be unknown,
+//! as a whole or in parts.
 
 ghost use Rattle.std.specs.Prelude.{◌≡◌, ◌≤◌, ◌∷◌, [], ◌++◌, ◌+◌, ◌^◌, map, IfOk, MatchResult, OnOk, option_map, slice_get, slice_index_or, None, Some};
 ghost use Rattle.ob0_types_table.specs.declared.types.TypeId.TheVariants as type;
@@ -20,7 +20,7 @@ use std::alloc::{AllocError, Global};
 /// The meaning of a declared name, with its type, value or parameters.
 #[derive(Drop)]
 pub(crate) enum Meaning {
-    /// The name of a type, which is this type.
+    /// A name that refers to this type.
     Named(TypeId),
     /// A constant with this value, or with None if its right side has a fault.
     Constant(Option<Scalar>),
@@ -43,8 +43,8 @@ pub(crate) fn predeclared_meanings(alloc: Global) -> Result<Vec<Option<Meaning>>
     Ok(meanings)
 }
 
-/// Returns the meaning of a procedure with one INTEGER parameter. `by_place` is true if the parameter is a VAR
-/// parameter.
+/// Returns the meaning of a procedure with one INTEGER parameter. `by_place` is true if the
+/// parameter is a VAR parameter.
 fn one_parameter_procedure(alloc: Global, by_place: bool) -> Result<Meaning, AllocError>
     ensures { IfOk result
         (λ m. known_meaning m
@@ -58,28 +58,29 @@ fn one_parameter_procedure(alloc: Global, by_place: bool) -> Result<Meaning, All
     Ok(Meaning::Procedure(formals))
 }
 
-/// The size of a type: the number of its scalars, and the depth to which its arrays and records are nested.
+/// The size of a type: the number of its scalars, and the depth to which its arrays and records are
+/// nested.
 #[derive(Clone, Copy)]
 pub(crate) struct Size {
     pub(crate) scalars: usize,
     pub(crate) depth: usize,
 }
 
-/// The size of an unknown type, which counts no scalars.
+/// The size of an unknown type: no scalars and depth 0.
 pub(crate) const UNKNOWN_SIZE: Size = Size {
     scalars: 0,
     depth: 0,
 };
 
-/// The size of INTEGER and BOOLEAN.
+/// The size of INTEGER and BOOLEAN: one scalar and depth 0.
 const SCALAR_SIZE: Size = Size {
     scalars: 1,
     depth: 0,
 };
 
 impl Size {
-    /// Returns the size of an array of `count` elements that each have this size. Numbers that don't fit 64 bits are
-    /// capped.
+    /// Returns the size of an array of `count` elements that each have this size. A number that
+    /// doesn't fit 64 bits becomes 2^64 - 1.
     pub(crate) fn size_of_array(self, count: usize) -> Size
         ensures { size_of result ≡ capped_size (array_size count (size_of self)) }
     {
@@ -89,7 +90,8 @@ impl Size {
         }
     }
 
-    /// Returns the size of two parts next to each other, such as two fields. Numbers that don't fit 64 bits are capped.
+    /// Returns the size of two parts together, such as two fields: the sum of their scalars and the
+    /// greater of their depths. A number that doesn't fit 64 bits becomes 2^64 - 1.
     pub(crate) fn combine(self, other: Size) -> Size
         ensures { size_of result ≡ capped_size (sum_of_sizes (size_of self) (size_of other)) }
     {
@@ -99,7 +101,8 @@ impl Size {
         }
     }
 
-    /// Returns the size of a record whose fields together have this size. A record has at least one scalar.
+    /// Returns the size of a record whose fields together have this size. A record counts as at
+    /// least one scalar.
     pub(crate) fn size_of_record(self) -> Size
         ensures { size_of result ≡ capped_size (record_size (size_of self)) }
     {
@@ -109,7 +112,7 @@ impl Size {
         }
     }
 
-    /// Returns true if a type of this size is within the limits on scalars and on depth.
+    /// Returns whether a type of this size is within the limits on scalars and on depth.
     fn is_within_limits(self) -> bool
         ensures { result ≡ is_within_limits (size_of self) }
     {
@@ -120,8 +123,8 @@ impl Size {
     }
 }
 
-/// Returns the sum of two numbers, or an error if the sum doesn't fit 64 bits. No text is long enough for such an
-/// error.
+/// Returns the sum of two numbers, or an error if the sum doesn't fit 64 bits. No text is long
+/// enough to cause this error.
 pub(crate) fn sum_or_error(a: usize, b: usize) -> Result<usize, AllocError>
     ensures { MatchResult result (λ n. n ≡ a + b) (λ _. 2 ^ 64 ≤ a + b) }
 {
@@ -135,10 +138,11 @@ pub(crate) fn sum_or_error(a: usize, b: usize) -> Result<usize, AllocError>
 #[derive(Drop)]
 pub(crate) struct CheckerState<'t> {
     pub(crate) resolved: &'t Resolved<'t>,
-    /// The meanings of declarations by ordinal, or None for each declaration that isn't known yet. A name is bound only
-    /// to an earlier declaration.
+    /// The meaning of each declaration, by ordinal. The meaning is None until the walk has reached
+    /// the declaration. A name can only be bound to an earlier declaration in the text.
     pub(crate) meanings: Vec<Option<Meaning>>,
-    /// The arrays and records found so far; a `TypeId` has an index into this list.
+    /// The arrays and records found so far. A `TypeId` of an array or record has an index into this
+    /// list.
     pub(crate) composites: Vec<TypeEntry>,
 }
 
@@ -150,7 +154,8 @@ impl<'t> CheckerState<'t> {
         text_at(self.resolved.tokens(), token)
     }
 
-    /// Returns the token after this one. The end of the text has no token after it and is returned unchanged.
+    /// Returns the index of the token after this one. At the end of the text, returns `token`
+    /// unchanged.
     pub(crate) fn token_after(&self, token: usize) -> usize
         ensures { result ≡ token_after self.now.resolved.now.module_read.source token }
     {
@@ -198,8 +203,8 @@ impl<'t> CheckerState<'t> {
         self.report(faults, code, token, token)
     }
 
-    /// Returns the meaning of the name at a token. Returns None if the name is unbound or its declaration isn't known
-    /// yet.
+    /// Returns the meaning of the name at a token. Returns None if the name is unbound or its
+    /// declaration isn't known yet.
     pub(crate) fn meaning_of_name(&self, token: usize) -> Option<&Meaning>
         ensures { option_map (λ m. m.now) result ≡ meaning_in_state self.now token }
     {
@@ -209,7 +214,8 @@ impl<'t> CheckerState<'t> {
         }
     }
 
-    /// Returns the meaning of the declaration with this ordinal. Returns None if it isn't known yet.
+    /// Returns the meaning of the declaration with this ordinal. Returns None if the declaration
+    /// isn't known yet, or if there is no such ordinal.
     fn meaning_of(&self, ordinal: usize) -> Option<&Meaning>
         ensures { option_map (λ m. m.now) result
             ≡ slice_index_or self.now.meanings.items ordinal None }
@@ -234,7 +240,8 @@ impl<'t> CheckerState<'t> {
         }
     }
 
-    /// Records the meaning of the declaration with this ordinal. If there is no such ordinal, nothing changes.
+    /// Records the meaning of the declaration with this ordinal. If there is no such ordinal,
+    /// nothing changes.
     fn declare(&mut self, ordinal: usize, meaning: Meaning)
         ensures { declarations_in_state self.new
             ≡ with_meaning (declarations_in_state self.old) (known_meaning meaning) (Some ordinal) }
@@ -257,8 +264,8 @@ impl<'t> CheckerState<'t> {
         }
     }
 
-    /// Returns the size of the array or record at this index of the list. If there is none, returns
-    /// the size of a scalar.
+    /// Returns the size of the array or record at the index `place` of the list of arrays and
+    /// records. If there is no such index, returns the size of a scalar.
     fn composite_size(&self, place: usize) -> Size
         ensures { size_of result ≡ size_at (declarations_in_state self.now).made (type.Array place) }
     {
@@ -268,8 +275,8 @@ impl<'t> CheckerState<'t> {
         }
     }
 
-    /// Returns the element type of the array at an index of the list of arrays and records. The type is unknown if
-    /// there is no array.
+    /// Returns the element type of the array at the index `place` of the list of arrays and
+    /// records. Returns the unknown type if there is no array at this index.
     pub(crate) fn element_type_at(&self, place: usize) -> TypeId
         ensures { result ≡ entry_element_type (slice_get self.now.composites.items place) }
     {
@@ -282,8 +289,8 @@ impl<'t> CheckerState<'t> {
         }
     }
 
-    /// Returns the type of the first field with this name in the record at an index of the list of arrays and records.
-    /// Returns None if there is no such field.
+    /// Returns the type of the first field with this name in the record at the index `place` of the
+    /// list of arrays and records. Returns None if there is no such record or field.
     pub(crate) fn field_type_at(&self, place: usize, name: &str) -> Option<TypeId>
         ensures { result ≡ entry_field_type (slice_get self.now.composites.items place) name.now }
     {
@@ -297,8 +304,8 @@ impl<'t> CheckerState<'t> {
     }
 
     /// Returns the ordinal of the next word ARRAY or RECORD, that is, the number of such words
-    /// before it. The next word is inside `around` such words. Returns an error if the ordinal
-    /// doesn't fit 64 bits.
+    /// before it. `around` is the number of arrays and records that enclose the next word. Returns
+    /// an error if the ordinal doesn't fit 64 bits.
     pub(crate) fn next_type_ordinal(&self, around: usize) -> Result<usize, AllocError>
         ensures { MatchResult result (λ n. n ≡ next_type_ordinal around (declarations_in_state self.now))
             (λ _. 2 ^ 64 ≤ next_type_ordinal around (declarations_in_state self.now)) }
@@ -306,9 +313,9 @@ impl<'t> CheckerState<'t> {
         sum_or_error(self.composites.len(), around)
     }
 
-    /// Adds an array or record and returns its type. `token` is its word ARRAY or RECORD. If the
-    /// array or record is too large, reports `TypeTooLarge` at `token` and returns the unknown
-    /// type.
+    /// Appends an array or record to the list and returns its type. `token` is its word ARRAY or
+    /// RECORD. If the array or record is too large, reports `TypeTooLarge` at `token` and returns
+    /// the unknown type.
     pub(crate) fn make_type(
         &mut self,
         faults: &mut Vec<Fault>,

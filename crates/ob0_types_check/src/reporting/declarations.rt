@@ -1,4 +1,5 @@
-//! Walks the declarations in text order, and records the meaning of each for the text after it.
+//! Walks the declarations in text order. Records the meaning of each declaration for the text after
+//! it.
 
 ghost use Rattle.std.specs.Prelude.{◌≡◌, ◌∷◌, ◌++◌, [], map, IfOk, OnOk};
 ghost use Rattle.ob0_language_names.specs.Parts.{formal_sections, section_constants, section_types, section_variables};
@@ -90,8 +91,8 @@ impl<'t> Reporter<'t> {
         Ok(())
     }
 
-    /// Reports the faults of a procedure. The procedure's name is declared after the heading, so its own body can call
-    /// the procedure.
+    /// Reports the faults of a procedure. The procedure's name is declared after the heading, so
+    /// its own body can call the procedure.
     #[cycle(blocks)]
     fn report_procedure(
         &mut self,
@@ -147,7 +148,8 @@ impl<'t> Reporter<'t> {
         }
     }
 
-    /// Reports the faults of a procedure's heading, declares its parameters as variables, and returns them.
+    /// Reports the faults of a procedure's heading, declares the parameters as variables, and
+    /// returns the parameters.
     fn report_heading(
         &mut self,
         sections: &Option<Vec<ParameterSection>>,
@@ -162,7 +164,8 @@ impl<'t> Reporter<'t> {
         Ok(formals)
     }
 
-    /// Reports the faults of the sections of a heading, if there are any. Appends their parameters to `formals`.
+    /// Reports the faults of a heading's sections and appends their parameters to `formals`. Does
+    /// nothing if the heading has no sections (None).
     fn report_sections_if_any(
         &mut self,
         sections: &Option<Vec<ParameterSection>>,
@@ -179,7 +182,8 @@ impl<'t> Reporter<'t> {
         }
     }
 
-    /// Reports the faults of these sections of a heading, and appends their parameters to `formals`.
+    /// Reports the faults of these sections of a heading, and appends their parameters to
+    /// `formals`.
     fn report_sections(
         &mut self,
         sections: &[ParameterSection],
@@ -196,7 +200,8 @@ impl<'t> Reporter<'t> {
         Ok(())
     }
 
-    /// Reports the faults of the type of one section, and appends a parameter of this type for each of its names.
+    /// Reports the faults of the type of one section of a heading. For each of the section's names,
+    /// appends a parameter of this type to `formals` and declares a variable.
     fn report_section(
         &mut self,
         s: &ParameterSection,

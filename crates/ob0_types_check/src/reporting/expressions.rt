@@ -22,7 +22,8 @@ use ob0_tree::{
 use ob0_types_table::{TypeId, number_at, operators};
 use std::alloc::AllocError;
 
-/// The result of checking an expression: its type, its value, whether it can be a place, and its tokens.
+/// The result of checking an expression: its type (`of`), its value, whether it may be a variable,
+/// and its first and last token.
 #[derive(Clone, Copy)]
 pub(crate) struct Operand {
     pub(crate) of: TypeId,
@@ -60,7 +61,7 @@ fn multiply_operand_type(operator: MultiplyOperator) -> TypeId
 
 /// Returns the type that a relation requires of both operands. `=` and `#` compare two numbers or
 /// two truth values. If the left operand's type is unknown, `=` and `#` require nothing of the
-/// right operand.
+/// right operand. All other relations require INTEGER.
 fn relation_operand_type(relation: Relation, left: TypeId) -> TypeId
     ensures { result ≡ relation_operand_type (known_types []) relation left }
 {
@@ -74,8 +75,8 @@ fn relation_operand_type(relation: Relation, left: TypeId) -> TypeId
     }
 }
 
-/// Returns the type that `=` or `#` requires of both operands. It is the left operand's type if
-/// that is INTEGER or unknown, otherwise BOOLEAN.
+/// Returns the type that `=` or `#` requires of both operands. The result is the left operand's
+/// type if this is INTEGER or unknown, otherwise BOOLEAN.
 fn equality_operand_type(left: TypeId) -> TypeId
     ensures { result ≡ equality_operand_type (known_types []) left }
 {
@@ -88,8 +89,8 @@ fn equality_operand_type(left: TypeId) -> TypeId
     }
 }
 
-/// Returns the type of a comparison whose operands have this type: BOOLEAN, or unknown if the type of the operands is
-/// unknown.
+/// Returns the type of a comparison whose operands have this type: BOOLEAN, or unknown if the type
+/// of the operands is unknown.
 fn type_of_comparison(operands: TypeId) -> TypeId
     ensures { result ≡ comparison_type (known_types []) operands }
 {
@@ -102,22 +103,23 @@ fn type_of_comparison(operands: TypeId) -> TypeId
     }
 }
 
-/// Returns true if the types are equal. Two arrays or records are equal if they have the same index in the list.
+/// Returns whether the types are equal. Two arrays, or two records, are equal if they have the same
+/// index in the list of arrays and records.
 pub(crate) fn same_type(a: TypeId, b: TypeId) -> bool
     ensures { result ≡ same_type a b }
 {
     a == b
 }
 
-/// Returns true if a type is accepted at a place that requires the type `wanted`. The unknown type
-/// is accepted everywhere. If `wanted` is the unknown type, every type is accepted.
+/// Returns whether the type `of` is accepted if the type `wanted` is required. The unknown type is
+/// always accepted. If `wanted` is the unknown type, every type is accepted.
 fn fits(of: TypeId, wanted: TypeId) -> bool
     ensures { result ≡ fits (known_types []) of wanted }
 {
     same_type(of, wanted) || same_type(of, TypeId::Unknown) || same_type(wanted, TypeId::Unknown)
 }
 
-/// Returns the required type if the operand has it, otherwise the unknown type.
+/// Returns `wanted` if `of` is the same type, otherwise the unknown type.
 fn required_type_or_unknown(of: TypeId, wanted: TypeId) -> TypeId
     ensures { result ≡ (if same_type of wanted then wanted else type.Unknown) }
 {
@@ -129,7 +131,8 @@ fn required_type_or_unknown(of: TypeId, wanted: TypeId) -> TypeId
 }
 
 impl Operand {
-    /// Returns the operand for a sign or `~` applied to this operand, with the type `of` and this value.
+    /// Returns the operand of the expression in which a sign or `~` precedes this operand. The
+    /// result has the type `of` and the given value.
     fn signed_operand(self, of: TypeId, value: Option<Scalar>) -> Operand
         ensures { operand_of result
             ≡ signed_operand of (option_map scalar_value value) (operand_of self) }
@@ -143,7 +146,8 @@ impl Operand {
         }
     }
 
-    /// Returns the operand for an operation on this operand and the operand `right`, with the type `of` and this value.
+    /// Returns the operand of an operation on this operand and the operand `right`. The result has
+    /// the type `of` and the given value.
     fn join_operand(self, right: Operand, of: TypeId, value: Option<Scalar>) -> Operand
         ensures { operand_of result
             ≡ joint_operand of (option_map scalar_value value) (operand_of self)
@@ -158,7 +162,8 @@ impl Operand {
         }
     }
 
-    /// Returns the operand for the part of this designator that ends at the token `last`, with the type `of`.
+    /// Returns the operand of a designator that extends this one up to the token `last`. The result
+    /// has the type `of` and no value.
     fn designator_part(self, of: TypeId, last: usize) -> Operand
         ensures { operand_of result ≡ part_of (operand_of self) of last }
     {
@@ -186,8 +191,8 @@ impl<'t> CheckerState<'t> {
         self.report(faults, code, operand.first, operand.last)
     }
 
-    /// Reports a mismatch if the operand's type is known and differs from the required type. Returns the required type
-    /// if the operand has it, otherwise the unknown type.
+    /// Reports a mismatch if the operand's type and the required type are both known and differ.
+    /// Returns the required type if the operand has this type, otherwise the unknown type.
     pub(crate) fn require_type(
         &self,
         faults: &mut Vec<Fault>,
@@ -203,9 +208,9 @@ impl<'t> CheckerState<'t> {
         Ok(required_type_or_unknown(operand.of, wanted))
     }
 
-    /// Requires the type `wanted` of both operands of an operation. Reports a mismatch at the left operand, or at the
-    /// right one if the left one has none. Returns the required type if both operands have it, otherwise the unknown
-    /// type.
+    /// Requires the type `wanted` of both operands of an operation. Reports a mismatch at the left
+    /// operand, or at the right operand if the left operand has none. Returns `wanted` if both
+    /// operands have this type, otherwise the unknown type.
     fn require_both(
         &self,
         faults: &mut Vec<Fault>,
@@ -228,8 +233,8 @@ impl<'t> CheckerState<'t> {
         }
     }
 
-    /// Reports the faults of an expression and returns its operand. If `only_constants` is true, a variable's name is a
-    /// fault.
+    /// Reports the faults of an expression and returns its operand. If `only_constants` is true, a
+    /// variable's name is a fault.
     #[cycle(expressions)]
     pub(crate) fn check_expression(
         &self,
@@ -304,7 +309,8 @@ impl<'t> CheckerState<'t> {
         Ok(so_far)
     }
 
-    /// Reports the faults of `+`, `-` or OR between two operands, and returns the resulting operand.
+    /// Reports the faults of `+`, `-` or OR between two operands, and returns the resulting
+    /// operand.
     fn check_sum(
         &self,
         faults: &mut Vec<Fault>,
@@ -321,8 +327,8 @@ impl<'t> CheckerState<'t> {
         Ok(left.join_operand(right, of, value))
     }
 
-    /// Returns the operand with its sign applied. If there is a sign and the operand isn't INTEGER, reports that.
-    /// Without a sign, returns the operand unchanged.
+    /// Returns the operand with its sign applied. A sign requires INTEGER, and a mismatch is
+    /// reported. Without a sign, the operand is returned unchanged.
     fn check_sign(
         &self,
         faults: &mut Vec<Fault>,
@@ -360,7 +366,8 @@ impl<'t> CheckerState<'t> {
         Ok(so_far)
     }
 
-    /// Reports the faults of `*`, DIV, MOD or `&` between two operands, and returns the resulting operand.
+    /// Reports the faults of `*`, DIV, MOD or `&` between two operands, and returns the resulting
+    /// operand.
     fn check_product(
         &self,
         faults: &mut Vec<Fault>,
@@ -435,7 +442,8 @@ impl<'t> CheckerState<'t> {
         }
     }
 
-    /// Reports the fault of `~`, which requires BOOLEAN, and returns the resulting operand.
+    /// Reports a mismatch if the operand of `~` isn't BOOLEAN, and returns the resulting operand.
+    /// An operand with an unknown type isn't reported.
     fn check_negation(
         &self,
         faults: &mut Vec<Fault>,
@@ -448,8 +456,9 @@ impl<'t> CheckerState<'t> {
         Ok(operand.signed_operand(of, operators::complement(operand.value)))
     }
 
-    /// Returns the operand of a name that must refer to a value: a constant, or a variable unless `only_constants` is
-    /// true. A type, a procedure or an excluded variable is reported.
+    /// Returns the operand of a name that must refer to a value: a constant, or a variable unless
+    /// `only_constants` is true. A type, a procedure or an excluded variable is reported. A name
+    /// without a known meaning isn't reported.
     fn operand_of_name(
         &self,
         faults: &mut Vec<Fault>,
@@ -489,7 +498,8 @@ impl<'t> CheckerState<'t> {
         }
     }
 
-    /// Returns the operand of a designator whose name has the operand `base`, and reports the faults of its selectors.
+    /// Returns the operand of the designator `d`, whose name has the operand `base`. Reports the
+    /// faults of the designator's selectors.
     #[cycle(expressions)]
     pub(crate) fn apply_selectors(
         &self,
@@ -532,8 +542,8 @@ impl<'t> CheckerState<'t> {
         }
     }
 
-    /// Returns the operand of an array's element, and reports the faults of the selection. An index must be INTEGER
-    /// even if the base isn't an array.
+    /// Returns the operand of the element of `base` at `index`, and reports the faults of the
+    /// selection. The index must be INTEGER even if `base` isn't an array.
     fn select_element(
         &self,
         faults: &mut Vec<Fault>,
@@ -548,8 +558,9 @@ impl<'t> CheckerState<'t> {
         Ok(base.designator_part(of, self.token_after(index.last)))
     }
 
-    /// Returns the type of an element of the type `base`, and reports `NotArray` if `base` is known and isn't an array.
-    /// The result is unknown if `index_type` isn't INTEGER.
+    /// Returns the type of an element of the type `base`, and reports `NotArray` if `base` is known
+    /// and isn't an array. The result is the unknown type if `base` isn't an array or `index_type`
+    /// isn't INTEGER.
     fn array_element_type(
         &self,
         faults: &mut Vec<Fault>,
@@ -586,8 +597,8 @@ impl<'t> CheckerState<'t> {
         Ok(TypeId::Unknown)
     }
 
-    /// Returns the operand of the designator `base` with the field at the token `name`, and reports the faults of the
-    /// selection.
+    /// Returns the operand of the field of `base` whose name is at the token `name`. Reports the
+    /// faults of the selection.
     fn select_field(
         &self,
         faults: &mut Vec<Fault>,
@@ -601,9 +612,9 @@ impl<'t> CheckerState<'t> {
         Ok(base.designator_part(of, name))
     }
 
-    /// Returns the type that the field at the token `name` has in the type `base`. Reports
+    /// Returns the type of the field of the type `base` whose name is at the token `name`. Reports
     /// `NotRecord` if `base` is known and isn't a record, and `NoField` if the record has no such
-    /// field. In both cases the type is unknown.
+    /// field. In both cases, and if `base` is unknown, the result is the unknown type.
     fn field_type(
         &self,
         faults: &mut Vec<Fault>,
@@ -637,7 +648,7 @@ impl<'t> CheckerState<'t> {
         Ok(TypeId::Unknown)
     }
 
-    /// Reports the faults of a constant's right side. Returns its value, or None if there is a fault.
+    /// Reports the faults of a constant's right side. Returns its value, or None if it has a fault.
     pub(crate) fn constant_value(
         &self,
         faults: &mut Vec<Fault>,
@@ -651,8 +662,8 @@ impl<'t> CheckerState<'t> {
         self.operand_value(faults, constant_operand)
     }
 
-    /// Returns the value of a constant expression, or reports `ConstFault` if its evaluation fails. If the expression's
-    /// type is unknown, it isn't evaluated. The result is None in both cases.
+    /// Returns the value of a constant expression, or reports `ConstFault` if its evaluation fails.
+    /// If the expression's type is unknown, it isn't evaluated. The result is None in both cases.
     fn operand_value(
         &self,
         faults: &mut Vec<Fault>,
@@ -672,8 +683,8 @@ impl<'t> CheckerState<'t> {
     }
 }
 
-/// Returns the operand of a constant's name at a token. The constant has this value, or None if its declaration has a
-/// fault.
+/// Returns the operand of a constant's name at a token. The constant has this value, or None if its
+/// declaration has a fault.
 fn constant_operand(value: Option<Scalar>, token: usize) -> Operand
     ensures { operand_of result
         ≡ constant_name_operand (known_types []) (option_map scalar_value value) token }

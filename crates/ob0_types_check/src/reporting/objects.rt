@@ -9,8 +9,8 @@ use ob0_scope_table::{READ_ORDINAL, WRITE_LN_ORDINAL, WRITE_ORDINAL};
 use ob0_types_table::{Object, StandardProcedure};
 use std::alloc::{AllocError, Global};
 
-/// Returns the objects of declarations with these meanings, in the same order. A declaration without a meaning has no
-/// object.
+/// Returns the objects of the declarations with these meanings, in the same order. If a declaration
+/// has no meaning (None), its object is None.
 pub(crate) fn objects_of(
     alloc: Global,
     meanings: Vec<Option<Meaning>>,
@@ -35,7 +35,8 @@ fn object_if_any(meaning: Option<Meaning>) -> Option<Object>
     }
 }
 
-/// Returns the object of a declaration with this meaning. A constant without a value becomes `FaultyConstant`.
+/// Returns the object of a declaration with this meaning. A constant without a value becomes
+/// `FaultyConstant`.
 fn object_of(meaning: Meaning) -> Object
     ensures { result ≡ table_object meaning }
 {
@@ -50,8 +51,9 @@ fn object_of(meaning: Meaning) -> Object
     }
 }
 
-/// Replaces the objects of Read, Write and WriteLn by standard procedures. During the walk they are ordinary procedures
-/// with parameters, so that their arguments are checked like any others.
+/// Replaces the objects of Read, Write and WriteLn by standard procedures. During the walk these
+/// three are ordinary procedures with parameters, so that their arguments are checked like any
+/// others.
 pub(crate) fn define_standard_procedures(objects: &mut Vec<Option<Object>>)
     ensures { objects.new.items ≡ with_standard_procedures objects.old.items }
 {
@@ -60,7 +62,8 @@ pub(crate) fn define_standard_procedures(objects: &mut Vec<Option<Object>>)
     define_standard_procedure(objects, WRITE_LN_ORDINAL, StandardProcedure::WriteLn);
 }
 
-/// Replaces the object with this ordinal by a standard procedure. If there is no such ordinal, nothing changes.
+/// Replaces the object with this ordinal by a standard procedure. If there is no such ordinal,
+/// nothing changes.
 fn define_standard_procedure(
     objects: &mut Vec<Option<Object>>,
     ordinal: usize,

@@ -129,9 +129,9 @@ impl<'t> CheckerState<'t> {
         self.check_typed_expression(faults, target.of, &a.value)
     }
 
-    /// Returns the type of the variable or parameter that an assignment's name refers to. A name
-    /// with another meaning is reported. If the name has no known meaning, nothing is reported. The
-    /// type is unknown in both cases.
+    /// Returns the type of the variable or parameter to which the assigned name at `token` refers.
+    /// If the name refers to something else, a fault is reported. If the name has no known meaning,
+    /// nothing is reported. In both cases the result is the unknown type.
     fn target_type(&self, faults: &mut Vec<Fault>, token: usize) -> Result<TypeId, AllocError>
         ensures { IfOk result (λ t. ReportsAfter faults.old.items faults.new.items t
             (target_name_type (facts_in self.now false) token)) }
@@ -192,7 +192,8 @@ impl<'t> CheckerState<'t> {
         }
     }
 
-    /// Reports that a called name isn't a procedure's, and then the faults of the arguments, which may have any type.
+    /// Reports that a called name isn't a procedure's, and then the faults of the arguments, which
+    /// may have any type.
     fn report_no_procedure(
         &self,
         faults: &mut Vec<Fault>,
@@ -224,8 +225,8 @@ impl<'t> CheckerState<'t> {
         Ok(())
     }
 
-    /// Reports the faults of a procedure call's arguments. If the number of arguments is wrong, that is the only fault
-    /// reported.
+    /// Reports the faults of a procedure call's arguments. If the number of arguments is wrong,
+    /// that is the only fault reported.
     fn report_arguments(
         &self,
         faults: &mut Vec<Fault>,
@@ -264,8 +265,9 @@ impl<'t> CheckerState<'t> {
         Ok(())
     }
 
-    /// Reports a mismatch of an argument's operand with its formal parameter. Returns the parameter's type if the
-    /// operand has it, otherwise the unknown type.
+    /// Reports a mismatch of an argument's operand with its formal parameter. Returns the
+    /// parameter's type if the operand has this type and nothing is reported, otherwise the unknown
+    /// type.
     fn check_argument_operand(
         &self,
         faults: &mut Vec<Fault>,

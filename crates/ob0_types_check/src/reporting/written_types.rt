@@ -52,7 +52,7 @@ pub(crate) struct KnownFields {
 }
 
 impl KnownFields {
-    /// Returns the state in which no field has been found.
+    /// Returns an empty list of fields, with no scalars and depth 0.
     fn new(alloc: Global) -> KnownFields
         ensures fields { fields_in result.fields.items ≡ [] }
         ensures size { size_of result.size ≡ empty_size }
@@ -75,9 +75,9 @@ impl KnownFields {
     }
 }
 
-/// Returns the token of the word RECORD. Between this token and the first field's name there are
-/// only semicolons, one for each group without fields before that name. Returns 0 if the record has
-/// no fields.
+/// Returns the token index of the word RECORD, given the record's groups of fields. Between RECORD
+/// and the first field's name there are only semicolons, one for each empty group. Returns 0 if the
+/// record has no fields.
 fn record_keyword(groups: &[Fields]) -> usize
     ensures { result ≡ record_keyword (items_of further_fields_of_group groups.now) }
 {
@@ -94,8 +94,9 @@ fn record_keyword(groups: &[Fields]) -> usize
 }
 
 impl<'t> CheckerState<'t> {
-    /// Returns the type that a name refers to. A name with another meaning is reported. If the name
-    /// has no known meaning, nothing is reported. The type is unknown in both cases.
+    /// Returns the type to which the name at `token` refers. If the name refers to something other
+    /// than a type, a fault is reported. If the name has no known meaning, nothing is reported. In
+    /// both cases the result is the unknown type.
     fn type_named_at(&self, faults: &mut Vec<Fault>, token: usize) -> Result<TypeId, AllocError>
         ensures { IfOk result (λ t. ReportsAfter faults.old.items faults.new.items t
             (type_named_at (facts_in self.now false) token)) }
@@ -120,8 +121,8 @@ impl<'t> CheckerState<'t> {
         Ok(TypeId::Unknown)
     }
 
-    /// Returns the length of an array, given the operand of its length expression. If the length has a fault, it is
-    /// reported, and the result is None.
+    /// Returns the length of an array, given the operand of its length expression. A fault of the
+    /// length is reported. Returns None if the length has a fault or the operand's type is unknown.
     fn check_length(
         &self,
         faults: &mut Vec<Fault>,
@@ -147,7 +148,8 @@ impl<'t> CheckerState<'t> {
 }
 
 impl<'t> Reporter<'t> {
-    /// Reports the faults of a written type and returns the type. Faulty parts of the type are unknown.
+    /// Reports the faults of a written type and returns the type. Faulty parts of the type are
+    /// unknown.
     pub(crate) fn check_written_type(&mut self, t: &WrittenType) -> Result<TypeId, AllocError>
         ensures { IfOk result (λ of. ReportsAfter self.old.faults.items self.new.faults.items
             (record { of = of; following = declarations_in_state self.new.checker_state })
@@ -156,7 +158,8 @@ impl<'t> Reporter<'t> {
         self.check_nested_type(t, 0)
     }
 
-    /// Reports the faults of a written type that is inside `around` words ARRAY and RECORD, and returns the type.
+    /// Reports the faults of a written type and returns the type. `around` is the number of arrays
+    /// and records that enclose it.
     #[cycle(types)]
     fn check_nested_type(&mut self, t: &WrittenType, around: usize) -> Result<TypeId, AllocError>
         ensures { IfOk result
@@ -172,7 +175,8 @@ impl<'t> Reporter<'t> {
         }
     }
 
-    /// Reports the faults of an array type and returns the type. It is inside `around` words ARRAY and RECORD.
+    /// Reports the faults of an array type and returns the type. `around` is the number of arrays
+    /// and records that enclose it.
     #[cycle(types)]
     fn check_array_type(&mut self, a: &ArrayType, around: usize) -> Result<TypeId, AllocError>
         ensures { IfOk result
@@ -191,9 +195,9 @@ impl<'t> Reporter<'t> {
         self.make_array(ordinal, size, length, element)
     }
 
-    /// Makes an array type and returns it. If the length has a fault (None), the array's type is
-    /// unknown, although its element type has been checked. The word ARRAY is the token before the
-    /// length.
+    /// Makes an array type and returns it. `size` is the operand of the length. If the length has a
+    /// fault (None), the array's type is unknown, although its element type has been checked. An
+    /// array that is too large is reported at the word ARRAY, the token before the length.
     fn make_array(
         &mut self,
         ordinal: usize,
@@ -224,7 +228,8 @@ impl<'t> Reporter<'t> {
         }
     }
 
-    /// Reports the faults of a record type and returns the type. It is inside `around` words ARRAY and RECORD.
+    /// Reports the faults of a record type and returns the type. `around` is the number of arrays
+    /// and records that enclose it.
     #[cycle(types)]
     fn check_record_type(&mut self, r: &RecordType, around: usize) -> Result<TypeId, AllocError>
         ensures { IfOk result
@@ -240,7 +245,8 @@ impl<'t> Reporter<'t> {
         self.make_record(word, ordinal, gathered)
     }
 
-    /// Reports the faults of all groups of fields of a record, and returns the fields.
+    /// Reports the faults of all groups of fields of a record, and returns the fields. `around` is
+    /// the number of arrays and records that enclose the fields.
     #[cycle(types)]
     fn check_field_groups(
         &mut self,
@@ -260,7 +266,8 @@ impl<'t> Reporter<'t> {
         Ok(gathered)
     }
 
-    /// Makes a record type of the gathered fields and returns it. `word` is the token RECORD.
+    /// Makes a record type of the gathered fields and returns it. A record that is too large is
+    /// reported at the token RECORD (`word`).
     fn make_record(
         &mut self,
         word: usize,
@@ -286,7 +293,8 @@ impl<'t> Reporter<'t> {
             .make_type(&mut self.faults, word, TypeEntry::Record(record))
     }
 
-    /// Reports the faults of one group of fields, which may be empty, and appends its fields.
+    /// Reports the faults of one group of fields, which may be empty. Appends the group's fields to
+    /// `gathered`.
     #[cycle(types)]
     fn check_optional_field_group(
         &mut self,
@@ -305,7 +313,8 @@ impl<'t> Reporter<'t> {
         }
     }
 
-    /// Reports the faults of a group's type, and appends a field of this type for each of its names.
+    /// Reports the faults of the type of a group of fields. Appends to `gathered` a field of this
+    /// type for each of the group's names.
     #[cycle(types)]
     fn check_field_group(
         &mut self,
@@ -326,7 +335,8 @@ impl<'t> Reporter<'t> {
 }
 
 impl<'t> CheckerState<'t> {
-    /// Appends a field of the type `of` for each of these names, and adds each field's size.
+    /// Appends to `gathered` a field of the type `of` for each of these names, and adds each
+    /// field's size to the total size.
     fn add_known_fields(
         &self,
         alloc: Global,
@@ -346,7 +356,8 @@ impl<'t> CheckerState<'t> {
         Ok(())
     }
 
-    /// Appends a field with this name and type to the fields of a record, and adds its size.
+    /// Appends to `gathered` a field of the type `of` with the name at the token `name`, and adds
+    /// the field's size to the total size.
     fn add_known_field(
         &self,
         alloc: Global,
