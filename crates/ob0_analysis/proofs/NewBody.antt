@@ -25,7 +25,7 @@ use Rattle.ob0_scope.specs.NewBody.{WasBoundElsewhere}
 use Rattle.ob0_scope_table.specs.Bindings.{resolution_with}
 use Rattle.ob0_scope_table.specs.BodyPlaces.{body_place_around, module_tree_of}
 use Rattle.ob0_tree.specs.FirstIdentifier.{first_token_of}
-use Rattle.ob0_scope_table.specs.BodyReplaced.{IsBodyReplaced, WayToBody, body_at, closing_name_in_module, moved_token_index, way_in_module, module_without_body}
+use Rattle.ob0_scope_table.specs.BodyReplaced.{IsBodyReplaced, PathToBody, body_at, closing_name_in_module, moved_token_index, way_in_module, module_without_body}
 use Rattle.ob0_scope_table.specs.OneBody.{is_outside}
 use Rattle.ob0_scope_table.proofs.BodyPlaces.{body_place_read}
 use Rattle.ob0_scope_table.proofs.Moved.{moved_above, moved_below, out_cases}
@@ -97,7 +97,7 @@ up_to_last f b u n v z = ap (λ l. f ++ (b ∷ l)) (append_assoc u (n ∷ v) z) 
 up_to_end : {A : Type 0} (f x : List A) (e c : A) (z : List A) → f ++ (x ++ (e ∷ c ∷ z)) ≡ ((f ++ x) ++ (e ∷ [])) ++ (c ∷ z)
 up_to_end f x e c z = sym (append_assoc f x (e ∷ c ∷ z)) ∙ sym (append_assoc (f ++ x) (e ∷ []) (c ∷ z))
 
-record Halves (m : ParsedModule) (way : WayToBody) (first closing : ℕ) : Type 0 where
+record Halves (m : ParsedModule) (way : PathToBody) (first closing : ℕ) : Type 0 where
   pub front : List (Terminal ℕ)
   pub inside : List (Terminal ℕ)
   pub back : List (Terminal ℕ)
@@ -110,7 +110,7 @@ record Halves (m : ParsedModule) (way : WayToBody) (first closing : ℕ) : Type 
   pub closes : before + 1 ≡ closing
   pub back_is : back ≡ drop before (marked 0 (kinds m.source.tokens))
 
-halves : (m : ParsedModule) → IsParsed m → (way : WayToBody) (first closing : ℕ) → first_token_of (identifiers role.Declaring (body_at way (tree_of m))) ≡ Some first → closing_name_in_module way (tree_of m) ≡ closing → Halves m way first closing
+halves : (m : ParsedModule) → IsParsed m → (way : PathToBody) (first closing : ℕ) → first_token_of (identifiers role.Declaring (body_at way (tree_of m))) ≡ Some first → closing_name_in_module way (tree_of m) ≡ closing → Halves m way first closing
 halves m parsed way first closing is_first is_closing =
     let t : Tree ℕ module_text = tree_of m in
     let c : ℕ = closing_name_in_module way t in
@@ -169,7 +169,7 @@ module _ (s : SameTokens) (old_range : s.prefix ≤ s.old_suffix) (new_range : s
 
 module _ (old new : ParsedModule) (s : SameTokens) (tokens : HasSameTokens s old.source.tokens new.source.tokens) where
   -- The new module without its body is the old module without its body, with its tokens moved.
-  without_same : (way new_way : WayToBody) (first closing now_closing : ℕ) → Halves old way first closing → Halves new new_way first now_closing → first < s.prefix → s.old_suffix < closing → now_closing + s.old_suffix ≡ closing + s.new_suffix
+  without_same : (way new_way : PathToBody) (first closing now_closing : ℕ) → Halves old way first closing → Halves new new_way first now_closing → first < s.prefix → s.old_suffix < closing → now_closing + s.old_suffix ≡ closing + s.new_suffix
       → module_without_body new_way (tree_of new) ≡ mapped (moved_token_index s) (moved_token_index s) (module_without_body way (tree_of old))
   without_same way new_way first closing now_closing was is front_side back_side same_closing =
       let ks : List TokenKind = kinds old.source.tokens in
@@ -220,8 +220,8 @@ words_outside s old new written range i out = ⊎_elim
 pub body_replaced : (old new : ParsedModule) (s : SameTokens) → IsScan old.source → IsScan new.source → IsParsed old → IsParsed new → HasSameTokens s old.source.tokens new.source.tokens → HasSameWords s old.source new.source
     → (was : BodyPlace) → body_place_around s.prefix s.old_suffix (tree_of old) ≡ Some was → IsSameBody was (body_place_around s.prefix s.new_suffix (tree_of new)) s → IsBodyReplaced old new (way_in_module s.prefix (tree_of old)) s
 body_replaced old new s old_scan new_scan old_parsed new_parsed tokens written place placed b =
-    let way : WayToBody = way_in_module s.prefix (tree_of old) in
-    let new_way : WayToBody = way_in_module s.prefix (tree_of new) in
+    let way : PathToBody = way_in_module s.prefix (tree_of old) in
+    let new_way : PathToBody = way_in_module s.prefix (tree_of new) in
     let first : ℕ = place.first in
     let p = body_place_read s.prefix s.old_suffix (tree_of old) place placed in
     let q = body_place_read s.prefix s.new_suffix (tree_of new) b.place b.is in

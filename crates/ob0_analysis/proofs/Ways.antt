@@ -5,7 +5,7 @@ use Rattle.ob0_scan.specs.declared.lexeme.ReservedWord.TheVariants as reserved
 use Rattle.ob0_scan.specs.declared.lexeme.Symbol.TheVariants as symbol
 use Rattle.ob0_tree.specs.Lexeme.{Terminal, Name, Mark}
 use Rattle.ob0_tree.specs.Tree.{Tree, block, body, declares, declares_procedure, end, has_body, is_module, item, items, mapped, maybe, module_text, more, one, procedure, spell}
-use Rattle.ob0_scope_table.specs.BodyReplaced.{WayToBody, block_without, body_among, body_at, body_in, body_inside, closing_name_in_procedures, closing_name_in_module, closing_name_in_block, closing_name_in_procedure, shift_way, procedure_without, procedures_without, way_in_procedures, way_in_block, way_in_module, module_without_body}
+use Rattle.ob0_scope_table.specs.BodyReplaced.{PathToBody, block_without, body_among, body_at, body_in, body_inside, closing_name_in_procedures, closing_name_in_module, closing_name_in_block, closing_name_in_procedure, shift_way, procedure_without, procedures_without, way_in_procedures, way_in_block, way_in_module, module_without_body}
 
 -- Holds if `whole` and `less` are the tokens of a part with a body and without it. Both have the same tokens before the
 -- body, and the END and the closing name of its block after it.
@@ -41,7 +41,7 @@ in_heading x n semi fs b e r f z is =
     ∙ sym (append_assoc fs (semi ∷ f) z)))
 
 mutual
-  around_block : {N : Type 0} (way : WayToBody) (own : N) (b : Tree N block) (after : List (Terminal N)) (y : Tree N (item body)) → body_in way b ≡ one y
+  around_block : {N : Type 0} (way : PathToBody) (own : N) (b : Tree N block) (after : List (Terminal N)) (y : Tree N (item body)) → body_in way b ≡ one y
       → Around (spell b ++ (Mark (kind.ReservedWord reserved.End) ∷ Name own ∷ after)) (spell (block_without way b) ++ (Mark (kind.ReservedWord reserved.End) ∷ Name own ∷ after)) (body_in way b) (closing_name_in_block way own b)
   around_block [] own (has_body ds statements) after y e =
       record { front = spell ds; back = after; whole_is = append_assoc (spell ds) (spell statements) _; less_is = append_assoc (spell ds) [] _ }
@@ -55,7 +55,7 @@ mutual
         less_is = in_declarations (spell cs) (spell ts) (spell vs) (spell (procedures_without k way ps)) (spell statements) r h.front _ h.less_is;
       }
 
-  around_among : {N : Type 0} (k : ℕ) (way : WayToBody) (own : N) (ps : Tree N (items procedure)) (after : List (Terminal N)) (y : Tree N (item body)) → body_among k way ps ≡ one y
+  around_among : {N : Type 0} (k : ℕ) (way : PathToBody) (own : N) (ps : Tree N (items procedure)) (after : List (Terminal N)) (y : Tree N (item body)) → body_among k way ps ≡ one y
       → Around (spell ps ++ after) (spell (procedures_without k way ps) ++ after) (body_among k way ps) (closing_name_in_procedures k way own ps)
   around_among k way own end after y e = absurd (cc (e))
   around_among zero way own (more p ps) after y e =
@@ -75,7 +75,7 @@ mutual
         less_is = in_later (spell p) (spell (procedures_without k way ps)) after h.front _ h.less_is;
       }
 
-  around_procedure : {N : Type 0} (way : WayToBody) (p : Tree N (item procedure)) (after : List (Terminal N)) (y : Tree N (item body)) → body_inside way p ≡ one y
+  around_procedure : {N : Type 0} (way : PathToBody) (p : Tree N (item procedure)) (after : List (Terminal N)) (y : Tree N (item body)) → body_inside way p ≡ one y
       → Around (spell p ++ after) (spell (procedure_without way p) ++ after) (body_inside way p) (closing_name_in_procedure way p)
   around_procedure way (declares_procedure n fs b c) after y e =
       let last : List (Terminal _) = Mark (kind.ReservedWord reserved.End) ∷ Name c ∷ Mark (kind.Symbol symbol.Semicolon) ∷ [] in
@@ -87,7 +87,7 @@ mutual
         less_is = in_heading _ _ _ (spell fs) (spell (block_without way b)) last after h.front _ h.less_is;
       }
 
-pub around_body : {N : Type 0} (way : WayToBody) (t : Tree N module_text) (y : Tree N (item body)) → body_at way t ≡ one y → Around (spell t) (spell (module_without_body way t)) (body_at way t) (closing_name_in_module way t)
+pub around_body : {N : Type 0} (way : PathToBody) (t : Tree N module_text) (y : Tree N (item body)) → body_at way t ≡ one y → Around (spell t) (spell (module_without_body way t)) (body_at way t) (closing_name_in_module way t)
 around_body way (is_module n b c) y e =
     let h = around_block way c b (Mark (kind.Symbol symbol.Dot) ∷ []) y e in
     record {
@@ -100,16 +100,16 @@ around_body way (is_module n b c) y e =
 -- ---- a way leads through procedures, so it doesn't depend on a body
 
 mutual
-  way_less_block : (low : ℕ) (way : WayToBody) (b : Tree ℕ block) → way_in_block low (block_without way b) ≡ way_in_block low b
+  way_less_block : (low : ℕ) (way : PathToBody) (b : Tree ℕ block) → way_in_block low (block_without way b) ≡ way_in_block low b
   way_less_block low [] (has_body (declares cs ts vs ps) statements) = refl
   way_less_block low (k ∷ way) (has_body (declares cs ts vs ps) statements) = way_less_among low k way ps
 
-  way_less_among : (low k : ℕ) (way : WayToBody) (ps : Tree ℕ (items procedure)) → way_in_procedures low (procedures_without k way ps) ≡ way_in_procedures low ps
+  way_less_among : (low k : ℕ) (way : PathToBody) (ps : Tree ℕ (items procedure)) → way_in_procedures low (procedures_without k way ps) ≡ way_in_procedures low ps
   way_less_among low k way end = refl
   way_less_among low zero way (more (declares_procedure n fs b c) ps) = ap (λ w. if nat_lt c low then shift_way (way_in_procedures low ps) else zero ∷ w) (way_less_block low way b)
   way_less_among low (suc k) way (more (declares_procedure n fs b c) ps) = ap (λ w. if nat_lt c low then shift_way w else zero ∷ way_in_block low b) (way_less_among low k way ps)
 
-pub way_less : (low : ℕ) (way : WayToBody) (t : Tree ℕ module_text) → way_in_module low (module_without_body way t) ≡ way_in_module low t
+pub way_less : (low : ℕ) (way : PathToBody) (t : Tree ℕ module_text) → way_in_module low (module_without_body way t) ≡ way_in_module low t
 way_less low way (is_module n b c) = way_less_block low way b
 
 module _ (low : ℕ) (f : ℕ → ℕ) (side : (c : ℕ) → nat_lt (f c) low ≡ nat_lt c low) where

@@ -38,6 +38,6 @@ prints_renamed text place new (Ok edits) before after u h p = record { has_text 
 prints_renamed text place new (Err refusal) before after u h p = absurd p
 
 pub refuses_name : (text : List ℕ) (place : Position) (new : List ℕ) (outcome : Result (Vec Edit Global) EditRefusal) (before after : Option (List ℕ))
-    → IsUtf8 text → FindsRenameResult Utf16 (chars text) place new (Some outcome) → (StderrLines : Option (List ℕ) → Type 0) → PrintsRefusal outcome StderrLines → after ≡ before → RefusesName text place new before after StderrLines
-refuses_name text place new (Ok edits) before after u h StderrLines p e = absurd p
-refuses_name text place new (Err refusal) before after u h StderrLines p e = record { has_text = text_file text h.names.module_read.source u h.read.scan; refusal = refusal; refused = h; nothing = e; said = p }
+    → IsUtf8 text → FindsRenameResult Utf16 (chars text) place new (Some outcome) → (IsPrintedOnStderr : Option (List ℕ) → Type 0) → PrintsRefusal outcome IsPrintedOnStderr → after ≡ before → RefusesName text place new before after IsPrintedOnStderr
+refuses_name text place new (Ok edits) before after u h IsPrintedOnStderr p e = absurd p
+refuses_name text place new (Err refusal) before after u h IsPrintedOnStderr p e = record { has_text = text_file text h.names.module_read.source u h.read.scan; refusal = refusal; refused = h; nothing = e; said = p }

@@ -12,7 +12,7 @@ use Rattle.ob0_run.specs.Outcomes.{meaning_of_end, output_items, run_of}
 use Rattle.ob0_commands.specs.declared.faults.FileFault.{FileFault}
 use Rattle.ob0_commands.specs.declared.faults.FileFault.TheVariants as fault
 use Rattle.ob0_commands.specs.Numbers.{IsUnusableInput, IsInputOf}
-use Rattle.ob0_commands.specs.Printed.{PrintsFaults, run_end_line, output_text}
+use Rattle.ob0_commands.specs.Printed.{PrintsDiagnostics, run_end_line, output_text}
 use Rattle.ob0_commands.specs.Statuses.{IsNonUtf8File, IsFaultOrMemory, StopsRunning, run_end_status}
 use Rattle.ob0_commands.specs.TextRuns.{IsLoweredTo, PrintsCompleteRun, PrintsErrorsOrStoppedRun, PrintsRun, TextRunsAs}
 
@@ -51,14 +51,14 @@ pub prints_done : (file : List ℕ) (given : Option (List ℕ)) (c t n : ℕ) (b
 prints_done file given c t n before after o printed is zero = (run_of o, printed, done o.end n is zero)
 
 pub prints_other : (file : List ℕ) (given : Option (List ℕ)) (c t n : ℕ) (before after : Option (List ℕ)) (o : Outcome) → PrintsRun file given c t before after (run_of o) → n ≡ run_end_status o.end → n ≡ 1
-    → (StderrLines : Option (List ℕ) → Type 0) → StderrLines (run_end_line o.end) → PrintsErrorsOrStoppedRun file given c t before after StderrLines
-prints_other file given c t n before after o printed is one StderrLines says =
+    → (IsPrintedOnStderr : Option (List ℕ) → Type 0) → IsPrintedOnStderr (run_end_line o.end) → PrintsErrorsOrStoppedRun file given c t before after IsPrintedOnStderr
+prints_other file given c t n before after o printed is one IsPrintedOnStderr says =
     inr (record { r = run_of o; prints = printed; otherwise = ended_otherwise o.end n is one; last = o.end; ends = refl; said = says })
 
-pub prints_wrong : (file text : List ℕ) (given : Option (List ℕ)) (c t : ℕ) (before mid after : Option (List ℕ)) → text ≡ file → mid ≡ before → PrintsFaults text mid after
-    → (StderrLines : Option (List ℕ) → Type 0) → StderrLines None → PrintsErrorsOrStoppedRun file given c t before after StderrLines
-prints_wrong file text given c t before mid after same kept wrong StderrLines silent =
-    inl (subst (λ (b : Option (List ℕ)). PrintsFaults file b after) kept (subst (λ (f : List ℕ). PrintsFaults f mid after) same wrong), silent)
+pub prints_wrong : (file text : List ℕ) (given : Option (List ℕ)) (c t : ℕ) (before mid after : Option (List ℕ)) → text ≡ file → mid ≡ before → PrintsDiagnostics text mid after
+    → (IsPrintedOnStderr : Option (List ℕ) → Type 0) → IsPrintedOnStderr None → PrintsErrorsOrStoppedRun file given c t before after IsPrintedOnStderr
+prints_wrong file text given c t before mid after same kept wrong IsPrintedOnStderr silent =
+    inl (subst (λ (b : Option (List ℕ)). PrintsDiagnostics file b after) kept (subst (λ (f : List ℕ). PrintsDiagnostics f mid after) same wrong), silent)
 
 -- If reading the numbers fails, `run` may stop with that fault.
 pub stops_reading : (file text : List ℕ) (program : Program) (given : Option (List ℕ)) (failed : Bool) (Otherwise : Type 0) (f : FileFault) → text ≡ file → IsLoweredTo text program → ¬ (IsNonUtf8File file)

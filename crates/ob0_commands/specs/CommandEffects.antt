@@ -9,9 +9,9 @@ use Rattle.ob0_cli.specs.declared.line.CommandLine.TheVariants.{Serve, Check, Ru
 use Rattle.ob0_commands.specs.Endings.{EndsByFault, EndsWithoutFault}
 use Rattle.ob0_commands.specs.Inputs.{TakesAtMost}
 use Rattle.ob0_commands.specs.Numbers.{max_input}
-use Rattle.ob0_commands.specs.Printed.{PrintsFaults}
+use Rattle.ob0_commands.specs.Printed.{PrintsDiagnostics}
 use Rattle.ob0_commands.specs.Renamed.{RenameEndsWithoutFault}
-use Rattle.ob0_commands.specs.Statuses.{IsNonUtf8File, InputFailureMatches, StopsPrintingFaults, StopsRunning}
+use Rattle.ob0_commands.specs.Statuses.{IsNonUtf8File, KeepsInputFailureUnlessInput, StopsPrintingFaults, StopsRunning}
 use Rattle.ob0_commands.specs.TextRuns.{RunEndsWithoutFault}
 
 -- States that `check` ends with this status. With status 0, the file has no diagnostics, and nothing is printed. With
@@ -21,16 +21,16 @@ abbrev pub ChecksFile : {O : Type 0}
     → (contents : O → Option (List ℕ))
     → (is_flushed has_failed : O → Bool)
     → (before after : O)
-    → (StderrLines : Option (List ℕ) → Type 0)
+    → (IsPrintedOnStderr : Option (List ℕ) → Type 0)
     → (file : List ℕ)
     → ℕ
     → Type 0
-ChecksFile contents is_flushed has_failed before after StderrLines file status =
+ChecksFile contents is_flushed has_failed before after IsPrintedOnStderr file status =
     EndsWithoutFault (Reports file [] × (after ≡ before))
-    (PrintsFaults file (contents before) (contents after) × (is_flushed after ≡ true))
-    (¬ IsNonUtf8File file × (has_failed after ≡ has_failed before) × StderrLines None)
+    (PrintsDiagnostics file (contents before) (contents after) × (is_flushed after ≡ true))
+    (¬ IsNonUtf8File file × (has_failed after ≡ has_failed before) × IsPrintedOnStderr None)
     status
-    ⊎ EndsByFault has_failed before after file (StopsPrintingFaults file) StderrLines status
+    ⊎ EndsByFault has_failed before after file (StopsPrintingFaults file) IsPrintedOnStderr status
 
 -- States that `run` ends with this status. With status 0 or 1, a run of the file's module on the
 -- numbers of the input is printed, or the file's errors are printed (`RunEndsWithoutFault`). With
@@ -39,7 +39,7 @@ abbrev pub RunsFile : {O I : Type 0}
     → (contents : O → Option (List ℕ))
     → (is_flushed has_failed : O → Bool)
     → (before after : O)
-    → (StderrLines : Option (List ℕ) → Type 0)
+    → (IsPrintedOnStderr : Option (List ℕ) → Type 0)
     → (file : List ℕ)
     → (remaining : I → Option (List ℕ))
     → (input_failed : I → Bool)
@@ -47,15 +47,15 @@ abbrev pub RunsFile : {O I : Type 0}
     → (c t : ℕ)
     → ℕ
     → Type 0
-RunsFile contents is_flushed has_failed before after StderrLines file remaining input_failed input left c t status =
-    RunEndsWithoutFault contents is_flushed before after StderrLines file (remaining input) c t
+RunsFile contents is_flushed has_failed before after IsPrintedOnStderr file remaining input_failed input left c t status =
+    RunEndsWithoutFault contents is_flushed before after IsPrintedOnStderr file (remaining input) c t
     (¬ IsNonUtf8File file × (has_failed after ≡ has_failed before)
     × (input_failed left ≡ input_failed input))
     status
     ⊎ EndsByFault has_failed before after file
     (λ fault. StopsRunning file (remaining input) (input_failed left) fault
-    × InputFailureMatches (input_failed input) (input_failed left) fault)
-    StderrLines status
+    × KeepsInputFailureUnlessInput (input_failed input) (input_failed left) fault)
+    IsPrintedOnStderr status
 
 -- States that `rename` ends with this status. With status 0, the file's text is printed with the
 -- new name. With status 1, the file's errors are printed or the name is refused. With any other
@@ -64,17 +64,17 @@ abbrev pub RenamesInFile : {O : Type 0}
     → (contents : O → Option (List ℕ))
     → (is_flushed has_failed : O → Bool)
     → (before after : O)
-    → (StderrLines : Option (List ℕ) → Type 0)
+    → (IsPrintedOnStderr : Option (List ℕ) → Type 0)
     → (file : List ℕ)
     → Position
     → (new : List ℕ)
     → ℕ
     → Type 0
-RenamesInFile contents is_flushed has_failed before after StderrLines file position new status =
-    RenameEndsWithoutFault contents is_flushed before after StderrLines file position new
+RenamesInFile contents is_flushed has_failed before after IsPrintedOnStderr file position new status =
+    RenameEndsWithoutFault contents is_flushed before after IsPrintedOnStderr file position new
     (¬ IsNonUtf8File file × (has_failed after ≡ has_failed before))
     status
-    ⊎ EndsByFault has_failed before after file (StopsPrintingFaults file) StderrLines status
+    ⊎ EndsByFault has_failed before after file (StopsPrintingFaults file) IsPrintedOnStderr status
 
 -- States that the command of this command line ends with this status, as `ChecksFile`, `RunsFile`
 -- or `RenamesInFile` says. Only `run` reads from the input: at most one byte over the limit
@@ -84,7 +84,7 @@ abbrev pub PerformsOnFile : {O I : Type 0}
     → (contents : O → Option (List ℕ))
     → (is_flushed has_failed : O → Bool)
     → (before after : O)
-    → (StderrLines : Option (List ℕ) → Type 0)
+    → (IsPrintedOnStderr : Option (List ℕ) → Type 0)
     → (file : List ℕ)
     → (remaining : I → Option (List ℕ))
     → (input_failed : I → Bool)
@@ -92,14 +92,14 @@ abbrev pub PerformsOnFile : {O I : Type 0}
     → CommandLine
     → ℕ
     → Type 0
-PerformsOnFile contents is_flushed has_failed before after StderrLines file remaining input_failed input left Serve status =
+PerformsOnFile contents is_flushed has_failed before after IsPrintedOnStderr file remaining input_failed input left Serve status =
     ⊥
-PerformsOnFile contents is_flushed has_failed before after StderrLines file remaining input_failed input left (Check path) status =
-    ChecksFile contents is_flushed has_failed before after StderrLines file status × (left ≡ input)
-PerformsOnFile contents is_flushed has_failed before after StderrLines file remaining input_failed input left (Run path c t) status =
-    RunsFile contents is_flushed has_failed before after StderrLines file remaining input_failed input left c t status
+PerformsOnFile contents is_flushed has_failed before after IsPrintedOnStderr file remaining input_failed input left (Check path) status =
+    ChecksFile contents is_flushed has_failed before after IsPrintedOnStderr file status × (left ≡ input)
+PerformsOnFile contents is_flushed has_failed before after IsPrintedOnStderr file remaining input_failed input left (Run path c t) status =
+    RunsFile contents is_flushed has_failed before after IsPrintedOnStderr file remaining input_failed input left c t status
     × TakesAtMost (suc max_input) (remaining input) (remaining left)
     × (¬ IsWellTypedModule file → left ≡ input)
-PerformsOnFile contents is_flushed has_failed before after StderrLines file remaining input_failed input left (Rename path position new) status =
-    RenamesInFile contents is_flushed has_failed before after StderrLines file position new.now status
+PerformsOnFile contents is_flushed has_failed before after IsPrintedOnStderr file remaining input_failed input left (Rename path position new) status =
+    RenamesInFile contents is_flushed has_failed before after IsPrintedOnStderr file position new.now status
     × (left ≡ input)

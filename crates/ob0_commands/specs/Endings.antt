@@ -21,14 +21,14 @@ pub record EndsWithoutFault (Good Other Both : Type 0) (status : ℕ) : Type 0 w
   pub both : Both
 
 -- States that a fault ends the command. `Stops` holds for the fault, the command's status is the
--- fault's status, and the fault's line is printed on standard error (`StderrLines`). The output is
+-- fault's status, and the fault's line is printed on standard error (`IsPrintedOnStderr`). The output is
 -- unchanged, unless the fault is `Write`.
 pub record EndsByFault {O : Type 0} (has_failed : O → Bool) (before after : O) (file : List ℕ)
-    (Stops : FileFault → Type 0) (StderrLines : Option (List ℕ) → Type 0) (status : ℕ) : Type 0 where
+    (Stops : FileFault → Type 0) (IsPrintedOnStderr : Option (List ℕ) → Type 0) (status : ℕ) : Type 0 where
   pub why : FileFault
   pub is : status ≡ status_of why
   pub stops : Stops why
   pub failed : OutputFailureMatches (has_failed before) (has_failed after) why
   pub kept : PrintsNothingUnlessWrite before after why
   pub memory : AllocatesOnlyIfShort file why
-  pub said : StderrLines (Some (fault_line why))
+  pub said : IsPrintedOnStderr (Some (fault_line why))

@@ -65,8 +65,8 @@ too_long_line = complaint_line_at (record { line = 0; character = 0 }) too_long_
 -- more bytes than a text may have, there is only one line. Otherwise the text isn't a well-typed
 -- module, and each diagnostic has a line. If the output's bytes aren't known, only the errors are
 -- stated.
-abbrev pub PrintsFaults : List ℕ → Option (List ℕ) → Option (List ℕ) → Type 0
-PrintsFaults file before after =
+abbrev pub PrintsDiagnostics : List ℕ → Option (List ℕ) → Option (List ℕ) → Type 0
+PrintsDiagnostics file before after =
     ((max_text < length file) × Appends before after too_long_line)
     ⊎ ((reported : List Complaint)
     × (¬ IsWellTypedModule file)

@@ -14,8 +14,8 @@ use Rattle.ob0_text.specs.declared.refusals.EditRefusal.{EditRefusal}
 use Rattle.ob0_edits.specs.Renamings.{IsRefusedIn, RenamesIn}
 use Rattle.ob0_commands.specs.Endings.{EndsWithoutFault}
 use Rattle.ob0_commands.specs.Outputs.{IsFlushedOrUnchanged}
-use Rattle.ob0_commands.specs.Printed.{PrintsFaults}
-use Rattle.ob0_commands.specs.StderrLines.{refusal_line}
+use Rattle.ob0_commands.specs.Printed.{PrintsDiagnostics}
+use Rattle.ob0_commands.specs.IsPrintedOnStderr.{refusal_line}
 use Rattle.ob0_commands.specs.Statuses.{IsTextFile}
 
 -- States that the edits can be applied to the text, and that the edited text is printed in UTF-8.
@@ -44,8 +44,8 @@ PrintsEditedText unit content (Err refusal) before after = ⊥
 abbrev pub PrintsRefusal : Result (Vec Edit Global) EditRefusal
     → (Option (List ℕ) → Type 0)
     → Type 0
-PrintsRefusal (Ok edits) StderrLines = ⊥
-PrintsRefusal (Err refusal) StderrLines = StderrLines (Some (refusal_line refusal))
+PrintsRefusal (Ok edits) IsPrintedOnStderr = ⊥
+PrintsRefusal (Err refusal) IsPrintedOnStderr = IsPrintedOnStderr (Some (refusal_line refusal))
 
 -- States that the file has a text, and that the edits `edits` rename the declaration at the
 -- position to the name `new`. The edited text is printed. Positions count UTF-16 units.
@@ -59,12 +59,12 @@ pub record PrintsRenamed (file : List ℕ) (position : Position) (new : List ℕ
 -- States that the file has a text, but that the name is refused. The refusal is printed on standard
 -- error, and the output is unchanged.
 pub record RefusesName (file : List ℕ) (position : Position) (new : List ℕ)
-    (before after : Option (List ℕ)) (StderrLines : Option (List ℕ) → Type 0) : Type 0 where
+    (before after : Option (List ℕ)) (IsPrintedOnStderr : Option (List ℕ) → Type 0) : Type 0 where
   pub has_text : IsTextFile file
   pub refusal : EditRefusal
   pub refused : IsRefusedIn Utf16 (chars file) position new refusal
   pub nothing : after ≡ before
-  pub said : StderrLines (Some (refusal_line refusal))
+  pub said : IsPrintedOnStderr (Some (refusal_line refusal))
 
 -- States that the file's errors are printed on the output and nothing is printed on standard error,
 -- or that the name is refused (`RefusesName`).
@@ -75,9 +75,9 @@ abbrev pub PrintsErrorsOrRefusal : List ℕ
     → Option (List ℕ)
     → (Option (List ℕ) → Type 0)
     → Type 0
-PrintsErrorsOrRefusal file position new before after StderrLines =
-    (PrintsFaults file before after × StderrLines None)
-    ⊎ RefusesName file position new before after StderrLines
+PrintsErrorsOrRefusal file position new before after IsPrintedOnStderr =
+    (PrintsDiagnostics file before after × IsPrintedOnStderr None)
+    ⊎ RefusesName file position new before after IsPrintedOnStderr
 
 -- States that `rename` ends with this status and that no fault stops it. With status 0, the text
 -- with the new name is printed and flushed, and nothing is printed on standard error. With status
@@ -87,17 +87,17 @@ abbrev pub RenameEndsWithoutFault : {O : Type 0}
     → (contents : O → Option (List ℕ))
     → (is_flushed : O → Bool)
     → (before after : O)
-    → (StderrLines : Option (List ℕ) → Type 0)
+    → (IsPrintedOnStderr : Option (List ℕ) → Type 0)
     → (file : List ℕ)
     → Position
     → (new : List ℕ)
     → (Both : Type 0)
     → ℕ
     → Type 0
-RenameEndsWithoutFault contents is_flushed before after StderrLines file position new =
+RenameEndsWithoutFault contents is_flushed before after IsPrintedOnStderr file position new =
     EndsWithoutFault
     (PrintsRenamed file position new (contents before) (contents after)
     × (is_flushed after ≡ true)
-    × StderrLines None)
-    (PrintsErrorsOrRefusal file position new (contents before) (contents after) StderrLines
+    × IsPrintedOnStderr None)
+    (PrintsErrorsOrRefusal file position new (contents before) (contents after) IsPrintedOnStderr
     × IsFlushedOrUnchanged (is_flushed after) before after)

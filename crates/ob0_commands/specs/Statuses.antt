@@ -76,8 +76,8 @@ abbrev pub ModuleLacksInput : List ℕ → Option (List ℕ) → (input_failed :
 ModuleLacksInput file given input_failed = IsWellTypedModule file × IsUnusableInput given input_failed
 
 -- States that the call didn't change whether the input has failed, unless the fault is `Input`.
-abbrev pub InputFailureMatches : (before after : Bool) → FileFault → Type 0
-InputFailureMatches before after f = f ≢ fault.Input → after ≡ before
+abbrev pub KeepsInputFailureUnlessInput : (before after : Bool) → FileFault → Type 0
+KeepsInputFailureUnlessInput before after f = f ≢ fault.Input → after ≡ before
 
 -- States that this fault may stop `run` on this file and this input. The fault is `Input`, and the module has no valid
 -- input. Or it is a fault that may stop any command on the file (`StopsPrintingFaults`).

@@ -14,7 +14,7 @@ use Rattle.ob0_run_machine.specs.declared.running.End.{End}
 use Rattle.ob0_run_machine.specs.declared.running.End.TheVariants as end
 use Rattle.ob0_commands.specs.Endings.{EndsWithoutFault}
 use Rattle.ob0_commands.specs.Numbers.{IsInputOf}
-use Rattle.ob0_commands.specs.Printed.{PrintsFaults, run_end_line, output_text}
+use Rattle.ob0_commands.specs.Printed.{PrintsDiagnostics, run_end_line, output_text}
 
 -- States that the text is a well-typed module and that `r` is its run on this input. At most `c`
 -- calls are open at a time, and each execution of a loop has at most `t` iterations.
@@ -55,13 +55,13 @@ PrintsCompleteRun file given c t before after =
 -- States that a run has an end other than `Done` and that its output is printed. The line that
 -- reports this end is printed on standard error.
 pub record PrintsStoppedRun (file : List ℕ) (given : Option (List ℕ)) (c t : ℕ)
-    (before after : Option (List ℕ)) (StderrLines : Option (List ℕ) → Type 0) : Type 0 where
+    (before after : Option (List ℕ)) (IsPrintedOnStderr : Option (List ℕ) → Type 0) : Type 0 where
   pub r : Run
   pub prints : PrintsRun file given c t before after r
   pub otherwise : r.ending ≢ meaning_of_end end.Done
   pub last : End
   pub ends : r.ending ≡ meaning_of_end last
-  pub said : StderrLines (run_end_line last)
+  pub said : IsPrintedOnStderr (run_end_line last)
 
 -- States that one of two cases applies. Either the file's errors are printed, and nothing is
 -- printed on standard error. Or a run with an end other than `Done` is printed
@@ -74,9 +74,9 @@ abbrev pub PrintsErrorsOrStoppedRun : List ℕ
     → Option (List ℕ)
     → (Option (List ℕ) → Type 0)
     → Type 0
-PrintsErrorsOrStoppedRun file given c t before after StderrLines =
-    (PrintsFaults file before after × StderrLines None)
-    ⊎ PrintsStoppedRun file given c t before after StderrLines
+PrintsErrorsOrStoppedRun file given c t before after IsPrintedOnStderr =
+    (PrintsDiagnostics file before after × IsPrintedOnStderr None)
+    ⊎ PrintsStoppedRun file given c t before after IsPrintedOnStderr
 
 -- States that `run` ends with this status and that no fault stops it. With status 0, the output of
 -- a run to the end of the module's body is printed, and nothing is printed on standard error. With
@@ -86,17 +86,17 @@ abbrev pub RunEndsWithoutFault : {O : Type 0}
     → (contents : O → Option (List ℕ))
     → (is_flushed : O → Bool)
     → (before after : O)
-    → (StderrLines : Option (List ℕ) → Type 0)
+    → (IsPrintedOnStderr : Option (List ℕ) → Type 0)
     → (file : List ℕ)
     → (given : Option (List ℕ))
     → (c t : ℕ)
     → (Both : Type 0)
     → ℕ
     → Type 0
-RunEndsWithoutFault contents is_flushed before after StderrLines file given c t =
+RunEndsWithoutFault contents is_flushed before after IsPrintedOnStderr file given c t =
     EndsWithoutFault
     (PrintsCompleteRun file given c t (contents before) (contents after)
     × (is_flushed after ≡ true)
-    × StderrLines None)
-    (PrintsErrorsOrStoppedRun file given c t (contents before) (contents after) StderrLines
+    × IsPrintedOnStderr None)
+    (PrintsErrorsOrStoppedRun file given c t (contents before) (contents after) IsPrintedOnStderr
     × (is_flushed after ≡ true))

@@ -7,8 +7,8 @@ ghost use Rattle.std.specs.Prelude.{◌≡◌, ◌≢◌, ◌<◌, ◌≤◌, []
 ghost use Rattle.std.specs.Io.KnownBytes.{Appends};
 ghost use Rattle.std.specs.Mem.{manually_drop_value};
 ghost use Rattle.ob0_commands.specs.CommandEffects.{ChecksFile};
-ghost use Rattle.ob0_commands.specs.Printed.{PrintsFaults, complaint_lines, complaint_line_at, complaint_lines_at, too_long_line};
-ghost use Rattle.ob0_commands.specs.StderrLines.{PrintsLine};
+ghost use Rattle.ob0_commands.specs.Printed.{PrintsDiagnostics, complaint_lines, complaint_line_at, complaint_lines_at, too_long_line};
+ghost use Rattle.ob0_commands.specs.IsPrintedOnStderr.{PrintsLine};
 ghost use Rattle.ob0_commands.specs.Statuses.{AllocatesOnlyIfShort, IsNonUtf8File, OutputFailureMatches, PrintsNothingUnlessWrite, StopsPrinting, StopsPrintingFaults};
 ghost use Rattle.ob0_commands.specs.declared.faults.FileFault.TheVariants as faults;
 ghost use Rattle.ob0_scan.specs.TextWithTokens.{max_text};
@@ -48,7 +48,7 @@ pub fn check_file<'f, O: Output>(
     out: &mut O,
 ) -> Result<Option<&'f str>, FileFault>
     ensures found { IfOk result (λ found. MatchOption found
-        (PrintsFaults file.entry.now (O.contents out.old) (O.contents out.new))
+        (PrintsDiagnostics file.entry.now (O.contents out.old) (O.contents out.new))
         (λ text. (text.now ≡ file.entry.now) × Reports file.entry.now [] × (out.new ≡ out.old))) }
     ensures flushed { IfOk result (λ found. IfNone found (O.is_flushed out.new ≡ true)) }
     ensures readable { OnOk result (¬ IsNonUtf8File file.entry.now) }

@@ -3,7 +3,7 @@
 
 ghost use Rattle.std.specs.Prelude.{◌≡◌, ◌≤◌, Some};
 ghost use Rattle.ob0_commands.specs.Printed.{fault_line};
-ghost use Rattle.ob0_commands.specs.StderrLines.{PrintsLine};
+ghost use Rattle.ob0_commands.specs.IsPrintedOnStderr.{PrintsLine};
 ghost use Rattle.ob0_commands.specs.Statuses.{status_of};
 
 use crate::tracked_output::{Output, print};

@@ -11,7 +11,7 @@ ghost use Rattle.std.specs.Prelude.{◌≡◌, true, IfOk, IfErr, OnErr};
 ghost use Rattle.ob0_commands.specs.Endings.{EndsWithoutFault};
 ghost use Rattle.ob0_commands.specs.CommandEffects.{RenamesInFile};
 ghost use Rattle.ob0_commands.specs.Renamed.{PrintsRefusal, PrintsEditedText, RenameEndsWithoutFault};
-ghost use Rattle.ob0_commands.specs.StderrLines.{PrintsLine};
+ghost use Rattle.ob0_commands.specs.IsPrintedOnStderr.{PrintsLine};
 ghost use Rattle.ob0_commands.specs.Statuses.{AllocatesOnlyIfShort, IsNonUtf8File, OutputFailureMatches, PrintsNothingUnlessWrite, StopsPrinting, StopsPrintingFaults};
 
 use crate::check_command::{analyse, decode_text, print_diagnoses};

@@ -21,9 +21,9 @@ ghost use Rattle.ob0_run.specs.Programs as lowered;
 ghost use Rattle.ob0_commands.specs.Inputs.{TakesAtMost};
 ghost use Rattle.ob0_commands.specs.Numbers.{max_input};
 ghost use Rattle.ob0_commands.specs.CommandEffects.{RunsFile};
-ghost use Rattle.ob0_commands.specs.Printed.{IsWrittenExcept, PrintsFaults, run_end_line, output_text, output_item_text};
-ghost use Rattle.ob0_commands.specs.StderrLines.{PrintsLine};
-ghost use Rattle.ob0_commands.specs.Statuses.{AllocatesOnlyIfShort, IsNonUtf8File, InputFailureMatches, OutputFailureMatches, PrintsNothingUnlessWrite, StopsPrinting, StopsRunning, run_end_status};
+ghost use Rattle.ob0_commands.specs.Printed.{IsWrittenExcept, PrintsDiagnostics, run_end_line, output_text, output_item_text};
+ghost use Rattle.ob0_commands.specs.IsPrintedOnStderr.{PrintsLine};
+ghost use Rattle.ob0_commands.specs.Statuses.{AllocatesOnlyIfShort, IsNonUtf8File, KeepsInputFailureUnlessInput, OutputFailureMatches, PrintsNothingUnlessWrite, StopsPrinting, StopsRunning, run_end_status};
 ghost use Rattle.ob0_commands.specs.declared.faults.FileFault.TheVariants as faults;
 ghost use Rattle.ob0_commands.specs.TextRuns.{IsLoweredTo, RunEndsWithoutFault, TextRunsAs};
 
@@ -96,7 +96,7 @@ fn run_file<R: Input, O: Output, E: Output>(
         (¬ IsNonUtf8File file.now × (O.has_failed out.new ≡ O.has_failed out.old)
         × (R.has_failed input.new ≡ R.has_failed input.old))) }
     ensures limit { TakesAtMost (suc max_input) (R.remaining input.old) (R.remaining input.new) }
-    ensures read { IfErr result (InputFailureMatches (R.has_failed input.old) (R.has_failed input.new)) }
+    ensures read { IfErr result (KeepsInputFailureUnlessInput (R.has_failed input.old) (R.has_failed input.new)) }
     ensures fault { IfErr result
         (StopsRunning file.now (R.remaining input.old) (R.has_failed input.new)) }
     ensures failed { IfErr result
@@ -126,7 +126,7 @@ fn lower_text<O: Output>(
     out: &mut O,
 ) -> Result<Option<Program>, FileFault>
     ensures found { IfOk result (λ found. MatchOption found
-        (PrintsFaults text.now (O.contents out.old) (O.contents out.new))
+        (PrintsDiagnostics text.now (O.contents out.old) (O.contents out.new))
         (λ program. IsLoweredTo text.now program × (out.new ≡ out.old))) }
     ensures flushed { IfOk result (λ found. IfNone found (O.is_flushed out.new ≡ true)) }
     ensures unfailed { OnOk result (O.has_failed out.new ≡ O.has_failed out.old) }

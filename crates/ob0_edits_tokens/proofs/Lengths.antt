@@ -10,7 +10,7 @@ use Rattle.ob0_scan.specs.Classes.{IsIdentifier, reserved_text}
 use Rattle.ob0_scan.specs.TextWithTokens.{TextWithTokens, IsScan, IsRangeOf, max_text}
 use Rattle.ob0_scan.proofs.Borders.{cut_depends_on_next_bytes}
 use Rattle.ob0_scan.proofs.Spans.{scan_token_ranges}
-use Rattle.ob0_text.specs.Patches.{Cut, pieced}
+use Rattle.ob0_text.specs.Patches.{Cut, text_with_cuts}
 use Rattle.ob0_edits_tokens.specs.Replaced.{span_at, AreIdentifierIndexes, cut_of}
 use Rattle.ob0_edits_tokens.specs.Removed.{IsDeclaration, removal_cut, text_after_removal}
 use Rattle.ob0_edits_tokens.proofs.Removals.{cleared}
@@ -40,20 +40,20 @@ chain_at s scan new places names =
     let done = swapped s.text s.tokens (codes "x") _ (a_name (codes "x") some_name) 0 0 scan.lexemes places [] scan.tokens refl (sym apart.0) apart.1 names in
     same_chain s.tokens (codes "x") new 0 places done.chain
 
-piece_length : (text : List ℕ) (end : ℕ) (c : Cut) (cs : List Cut) → end ≤ c.from → c.from ≤ length text → length (pieced text end (c ∷ cs)) ≡ (c.from - end) + length c.new + length (pieced text c.to cs)
-unfolding pieced
+piece_length : (text : List ℕ) (end : ℕ) (c : Cut) (cs : List Cut) → end ≤ c.from → c.from ≤ length text → length (text_with_cuts text end (c ∷ cs)) ≡ (c.from - end) + length c.new + length (text_with_cuts text c.to cs)
+unfolding text_with_cuts
 piece_length text end c cs up inside =
     let front : length (take (c.from - end) (drop end text)) ≡ c.from - end = length-take (c.from - end) (drop end text) ∙ omega (arith, length-drop end text) in
-    length-append (take (c.from - end) (drop end text)) (c.new ++ pieced text c.to cs) ∙ omega (arith, front, length-append c.new (pieced text c.to cs))
+    length-append (take (c.from - end) (drop end text)) (c.new ++ text_with_cuts text c.to cs) ∙ omega (arith, front, length-append c.new (text_with_cuts text c.to cs))
 
-pub last_length : (text : List ℕ) (end : ℕ) → length (pieced text end []) ≡ length text - end
-unfolding pieced
+pub last_length : (text : List ℕ) (end : ℕ) → length (text_with_cuts text end []) ≡ length text - end
+unfolding text_with_cuts
 last_length text end = length-drop end text
 
 -- states that the new text is counted up to here, and that the rest of the old text begins at `end`
 pub record Counted (s : TextWithTokens) (new places : List ℕ) (total count end i : ℕ) : Type 0 where
   pub scan : IsScan s
-  pub sum : count + length (pieced s.text end (map (cut_of s.tokens new) (drop i places))) ≡ total
+  pub sum : count + length (text_with_cuts s.text end (map (cut_of s.tokens new) (drop i places))) ≡ total
   pub chain : Chain end (map (cut_of s.tokens new) (drop i places))
   pub inside : end ≤ length s.text
   pub short : count ≤ max_text
@@ -61,7 +61,7 @@ pub record Counted (s : TextWithTokens) (new places : List ℕ) (total count end
   pub names : AreIdentifierIndexes s.tokens least (drop i places)
 
 pub counted_start : (s : TextWithTokens) → IsScan s → (new places : List ℕ) (count end : ℕ) → AreIdentifierIndexes s.tokens 0 places → Chain end (map (cut_of s.tokens new) places) → count ≤ end → end ≤ length s.text
-    → Counted s new places (count + length (pieced s.text end (map (cut_of s.tokens new) places))) count end 0
+    → Counted s new places (count + length (text_with_cuts s.text end (map (cut_of s.tokens new) places))) count end 0
 counted_start s scan new places count end names chain low inside = record {
   scan = scan;
   sum = refl;
@@ -98,10 +98,10 @@ module _ (s : TextWithTokens) (new places : List ℕ) (total count end i : ℕ) 
     pub ends_inside : (span_at s.tokens (get_or places i 0)).end ≤ length s.text
     ends_inside = range.end.0
 
-    all_here : count + (((span_at s.tokens (get_or places i 0)).start - end) + length new + length (pieced s.text (span_at s.tokens (get_or places i 0)).end (map (cut_of s.tokens new) (drop (i + 1) places)))) ≡ total
+    all_here : count + (((span_at s.tokens (get_or places i 0)).start - end) + length new + length (text_with_cuts s.text (span_at s.tokens (get_or places i 0)).end (map (cut_of s.tokens new) (drop (i + 1) places)))) ≡ total
     all_here =
         ap (λ n. count + n) (sym (piece_length s.text end (cut_of s.tokens new (get_or places i 0)) (map (cut_of s.tokens new) (drop (i + 1) places)) begins_following range.start.0))
-        ∙ ap (λ ps. count + length (pieced s.text end (map (cut_of s.tokens new) ps))) (sym here) ∙ c.sum
+        ∙ ap (λ ps. count + length (text_with_cuts s.text end (map (cut_of s.tokens new) ps))) (sym here) ∙ c.sum
 
     pub counted_next : (more : ℕ) → more ≡ count + ((span_at s.tokens (get_or places i 0)).start - end + length new) → more ≤ max_text
         → Counted s new places total more (span_at s.tokens (get_or places i 0)).end (i + 1)
@@ -120,7 +120,7 @@ module _ (s : TextWithTokens) (new places : List ℕ) (total count end i : ℕ) 
 
   pub counted_all : length places ≤ i → count + (length s.text - end) ≡ total
   counted_all done =
-      ap (λ n. count + n) (sym (last_length s.text end)) ∙ ap (λ ps. count + length (pieced s.text end (map (cut_of s.tokens new) ps))) (sym (drop_all i places done)) ∙ c.sum
+      ap (λ n. count + n) (sym (last_length s.text end)) ∙ ap (λ ps. count + length (text_with_cuts s.text end (map (cut_of s.tokens new) ps))) (sym (drop_all i places done)) ∙ c.sum
 
 -- The removal of a declaration and the cuts after it follow one another.
 pub chain_without : (s : TextWithTokens) (scan : IsScan s) (new places : List ℕ) (first last : ℕ) → IsDeclaration s.tokens first last → AreIdentifierIndexes s.tokens (suc last) places → Chain 0 (removal_cut s.tokens first last ∷ map (cut_of s.tokens new) places)
@@ -131,7 +131,7 @@ chain_without s scan new places first last decl names =
     (done.chain.0, done.chain.1, same_chain s.tokens (codes "x") new (span_at s.tokens last).end places done.chain.2)
 
 pub length_without : (s : TextWithTokens) (scan : IsScan s) (new places : List ℕ) (first last : ℕ) → IsDeclaration s.tokens first last → AreIdentifierIndexes s.tokens (suc last) places
-    → (span_at s.tokens first).start + length (pieced s.text (span_at s.tokens last).end (map (cut_of s.tokens new) places)) ≡ length (text_after_removal s first last places new)
+    → (span_at s.tokens first).start + length (text_with_cuts s.text (span_at s.tokens last).end (map (cut_of s.tokens new) places)) ≡ length (text_after_removal s first last places new)
 length_without s scan new places first last decl names =
     let range = scan_token_ranges s scan first _ (omega (arith, decl.order, decl.inside)) in
     let parts = piece_length s.text 0 (removal_cut s.tokens first last) (map (cut_of s.tokens new) places) (omega arith) range.start.0 in

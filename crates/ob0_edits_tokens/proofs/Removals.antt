@@ -18,7 +18,7 @@ use Rattle.ob0_scan.specs.Ends.{continues_lexeme, EachEndsBeforeNext}
 use Rattle.ob0_scan.specs.TextWithTokens.{Word, word_of, words_of_lexemes, span_from, token_at, tokens_from}
 use Rattle.ob0_scan.proofs.Cuts.{nonempty}
 use Rattle.ob0_scan.proofs.Runs.{letter_or_digit}
-use Rattle.ob0_text.specs.Patches.{Cut, pieced}
+use Rattle.ob0_text.specs.Patches.{Cut, text_with_cuts}
 use Rattle.ob0_edits_tokens.specs.Changed.{WordChanges, changed_words, changes_at, replacement_or_word}
 use Rattle.ob0_edits_tokens.specs.Replaced as place
 use Rattle.ob0_edits_tokens.specs.Replaced.{AreIdentifierIndexes, span_at, cut_of, ReplacesName}
@@ -155,7 +155,7 @@ module _ (text : List ℕ) (tokens : List Token) (new : List ℕ) (ws : List Wor
     pub lexemes : List Lexeme
     pub apart : EachEndsBeforeNext lexemes
     pub read : words_of_lexemes lexemes ≡ changed_words changes k (words_of_lexemes ls)
-    pub whole : joined lexemes ≡ pieced text at cuts
+    pub whole : joined lexemes ≡ text_with_cuts text at cuts
     pub front : (kind : LexemeKind) → (k ≡ first → OfBorder kind) → continues_lexeme kind (get_or (joined ls) 0 0) ≡ false → MeetsLoosely kind lexemes
     pub chain : Chain at cuts
     pub clear : AllClear text cuts

@@ -18,7 +18,7 @@ use Rattle.ob0_scan.specs.Ends.{continues_lexeme, EachEndsBeforeNext}
 use Rattle.ob0_scan.specs.TextWithTokens.{Word, word_of, words_of_lexemes, span_from, token_at, tokens_from}
 use Rattle.ob0_scan.proofs.Cuts.{nonempty}
 use Rattle.ob0_scan.proofs.Reusing.{joined_append}
-use Rattle.ob0_text.specs.Patches.{Cut, pieced}
+use Rattle.ob0_text.specs.Patches.{Cut, text_with_cuts}
 use Rattle.ob0_edits_tokens.specs.Changed.{changed_words, changes_at, is_among, replacement_or_word}
 use Rattle.ob0_edits_tokens.specs.Replaced as place
 use Rattle.ob0_edits_tokens.specs.Replaced.{AreIdentifierIndexes, span_at, cut_of, AreInOrder, ReplacesName}
@@ -69,15 +69,15 @@ pub further : (text : List ℕ) (at : ℕ) (front rest : List ℕ) → drop at t
 further text at front rest e = sym (drop-drop (length front) at text) ∙ ap (drop (length front)) e ∙ drop_front front rest
 
 -- The text before the first cut is kept.
-pub pieced_keep : (text : List ℕ) (at : ℕ) (front rest : List ℕ) (cs : List Cut) → drop at text ≡ front ++ rest → Chain (at + length front) cs → pieced text at cs ≡ front ++ pieced text (at + length front) cs
-unfolding pieced
+pub pieced_keep : (text : List ℕ) (at : ℕ) (front rest : List ℕ) (cs : List Cut) → drop at text ≡ front ++ rest → Chain (at + length front) cs → text_with_cuts text at cs ≡ front ++ text_with_cuts text (at + length front) cs
+unfolding text_with_cuts
 pieced_keep text at front rest [] e chain = e ∙ ap (λ t. front ++ t) (sym (further text at front rest e))
 pieced_keep text at front rest (c ∷ cs) e chain =
     let next = further text at front rest e in
     let far : c.from - at ≡ length front + (c.from - (at + length front)) = omega (arith, chain.0) in
-    ap (λ t. t ++ (c.new ++ pieced text c.to cs))
+    ap (λ t. t ++ (c.new ++ text_with_cuts text c.to cs))
     ((λ i. take (far i) (e i)) ∙ take-append-add front rest (c.from - (at + length front)) ∙ ap (λ t. front ++ take (c.from - (at + length front)) t) (sym next))
-    ∙ append_assoc front (take (c.from - (at + length front)) (drop (at + length front) text)) (c.new ++ pieced text c.to cs)
+    ∙ append_assoc front (take (c.from - (at + length front)) (drop (at + length front) text)) (c.new ++ text_with_cuts text c.to cs)
 
 pub same_first : (w xs ys : List ℕ) → 0 < length w → get_or (w ++ xs) 0 0 ≡ get_or (w ++ ys) 0 0
 same_first [] xs ys h = absurd (omega arith)
@@ -100,14 +100,14 @@ byte_at (b ∷ text) (suc at) i =
     ap (λ n. get_or (b ∷ text) n 0) up ∙ byte_at text at i
 
 -- If the first cut begins at the place, the text begins with the cut's new text.
-pub pieced_here : (text : List ℕ) (at : ℕ) (c : Cut) (end : ℕ) (cs : List Cut) → c.from ≡ at → c.to ≡ end → pieced text at (c ∷ cs) ≡ c.new ++ pieced text end cs
-unfolding pieced
+pub pieced_here : (text : List ℕ) (at : ℕ) (c : Cut) (end : ℕ) (cs : List Cut) → c.from ≡ at → c.to ≡ end → text_with_cuts text at (c ∷ cs) ≡ c.new ++ text_with_cuts text end cs
+unfolding text_with_cuts
 pieced_here text at c end cs f t =
     let none : c.from - at ≡ 0 = omega (arith, f) in
-    λ i. take (none i) (drop at text) ++ (c.new ++ pieced text (t i) cs)
+    λ i. take (none i) (drop at text) ++ (c.new ++ text_with_cuts text (t i) cs)
 
-pieced_end : (text : List ℕ) (at : ℕ) → drop at text ≡ pieced text at []
-unfolding pieced
+pieced_end : (text : List ℕ) (at : ℕ) → drop at text ≡ text_with_cuts text at []
+unfolding text_with_cuts
 pieced_end text at = refl
 
 abbrev pub make_token : TokenKind → Span → Token
@@ -120,7 +120,7 @@ module _ (text : List ℕ) (tokens : List Token) (new : List ℕ) (ws : List Wor
     pub lexemes : List Lexeme
     pub apart : EachEndsBeforeNext lexemes
     pub read : words_of_lexemes lexemes ≡ changed_words (changes_at places ws) k (words_of_lexemes ls)
-    pub whole : joined lexemes ≡ pieced text at (map (cut_of tokens new) places)
+    pub whole : joined lexemes ≡ text_with_cuts text at (map (cut_of tokens new) places)
     pub front : (kind : LexemeKind) → continues_lexeme kind (get_or (joined ls) 0 0) ≡ false → continues_lexeme kind (get_or (joined lexemes) 0 0) ≡ false
     pub chain : Chain at (map (cut_of tokens new) places)
     pub clear : AllClear text (map (cut_of tokens new) places)

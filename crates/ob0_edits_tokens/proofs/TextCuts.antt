@@ -12,7 +12,7 @@ use Rattle.ob0_text.specs.declared.position_types.Unit as counting
 use Rattle.ob0_text.specs.Units.{width_of}
 use Rattle.ob0_text.proofs.Widths.{wide}
 use Rattle.ob0_text.specs.Texts.{CR, LF, before, position_of, byte_len, IsInsideEnding}
-use Rattle.ob0_text.specs.Patches.{Cut, place, cut_at, are_disjoint, all_apart, is_before, insert_in_order, in_text_order, pieced, patched_by_cuts}
+use Rattle.ob0_text.specs.Patches.{Cut, place, cut_at, are_disjoint, all_apart, is_before, insert_in_order, in_text_order, text_with_cuts, patched_by_cuts}
 use Rattle.ob0_text.proofs.RoundTrip.{places_go_back}
 use Rattle.ob0_text.proofs.Prefixes.{border_at}
 use Rattle.ob0_text.proofs.CutOrder.{bytes_further}
@@ -147,8 +147,8 @@ module _ (unit : counting.Unit) (bytes : List ℕ) (u : IsUtf8 bytes) where
   border : (at k : ℕ) → CanCountFrom bytes at k → IsCharBoundary bytes at
   border at k p = subst (IsCharBoundary bytes) p.here (border_at bytes u k)
 
-  pub pieces : (at k : ℕ) (bs cs : List Cut) → CanCountFrom bytes at k → AreSame bs cs → Chain at bs → IsTextOf (pieced bytes at bs) (pieced (chars bytes) k cs)
-  unfolding AreSame pieced
+  pub pieces : (at k : ℕ) (bs cs : List Cut) → CanCountFrom bytes at k → AreSame bs cs → Chain at bs → IsTextOf (text_with_cuts bytes at bs) (text_with_cuts (chars bytes) k cs)
+  unfolding AreSame text_with_cuts
   pieces at k [] [] p same chain = record {
     utf8 = IsUtf8-drop bytes at u (border at k p);
     same = (λ i. chars (drop (sym p.here i) (sym (encodes-chars bytes u) i))) ∙ last_chars (chars bytes) (scalars-chars bytes u) k;
@@ -161,9 +161,9 @@ module _ (unit : counting.Unit) (bytes : List ℕ) (u : IsUtf8 bytes) where
       (λ i. chars (take (sym same.0.from.here i - sym p.here i) (drop (sym p.here i) (sym (encodes-chars bytes u) i))))
       ∙ middle_chars (chars bytes) (scalars-chars bytes u) k c.from up in
       record {
-        utf8 = IsUtf8-append (take (b.from - at) (drop at bytes)) (b.new ++ pieced bytes b.to bs) kept (IsUtf8-append b.new (pieced bytes b.to bs) same.0.utf8 rest.utf8);
-        same = chars-append (take (b.from - at) (drop at bytes)) (b.new ++ pieced bytes b.to bs) kept
-            ∙ ap₂ (λ xs ys. xs ++ ys) middle (chars-append b.new (pieced bytes b.to bs) same.0.utf8 ∙ ap₂ (λ xs ys. xs ++ ys) (sym same.0.new) rest.same);
+        utf8 = IsUtf8-append (take (b.from - at) (drop at bytes)) (b.new ++ text_with_cuts bytes b.to bs) kept (IsUtf8-append b.new (text_with_cuts bytes b.to bs) same.0.utf8 rest.utf8);
+        same = chars-append (take (b.from - at) (drop at bytes)) (b.new ++ text_with_cuts bytes b.to bs) kept
+            ∙ ap₂ (λ xs ys. xs ++ ys) middle (chars-append b.new (text_with_cuts bytes b.to bs) same.0.utf8 ∙ ap₂ (λ xs ys. xs ++ ys) (sym same.0.new) rest.same);
       }
   pieces at k _ _ p same chain = absurd same
 
@@ -189,13 +189,13 @@ unfolding all_apart
 all_are_apart at [] chain = refl
 all_are_apart at (c ∷ cs) chain = rw (apart_from_later c c.to cs (omega arith) chain.2, all_are_apart c.to cs chain.2) refl
 
-patched_in_order : (text : List ℕ) (cs : List Cut) → Chain 0 cs → patched_by_cuts text cs ≡ Some (pieced text 0 cs)
+patched_in_order : (text : List ℕ) (cs : List Cut) → Chain 0 cs → patched_by_cuts text cs ≡ Some (text_with_cuts text 0 cs)
 unfolding patched_by_cuts
 patched_in_order text cs chain =
-    ap (λ b. if b then Some (pieced text 0 (in_text_order cs)) else None) (all_are_apart 0 cs chain) ∙ ap (λ xs. Some (pieced text 0 xs)) (order_stays 0 cs chain)
+    ap (λ b. if b then Some (text_with_cuts text 0 (in_text_order cs)) else None) (all_are_apart 0 cs chain) ∙ ap (λ xs. Some (text_with_cuts text 0 xs)) (order_stays 0 cs chain)
 
 -- Cuts in bytes leave the same text as the same cuts in characters.
-pub patched_by_same : (unit : counting.Unit) (bytes : List ℕ) (u : IsUtf8 bytes) (bs cs : List Cut) → AreSame unit bytes u bs cs → Chain 0 bs → IsUtf8 (pieced bytes 0 bs) × (patched_by_cuts (chars bytes) cs ≡ Some (chars (pieced bytes 0 bs)))
+pub patched_by_same : (unit : counting.Unit) (bytes : List ℕ) (u : IsUtf8 bytes) (bs cs : List Cut) → AreSame unit bytes u bs cs → Chain 0 bs → IsUtf8 (text_with_cuts bytes 0 bs) × (patched_by_cuts (chars bytes) cs ≡ Some (chars (text_with_cuts bytes 0 bs)))
 patched_by_same unit bytes u bs cs same chain =
     let start : CanCountFrom bytes 0 0 = record { inside = omega arith; here = refl } in
     let made = pieces unit bytes u 0 0 bs cs start same chain in

@@ -8,7 +8,7 @@ use Rattle.ob0_scan.specs.declared.lexeme.TokenKind.TheVariants as token
 use Rattle.ob0_scan.specs.declared.lexeme.Span.{Span}
 use Rattle.ob0_scan.specs.declared.lexeme.Token.{Token}
 use Rattle.ob0_scan.specs.TextWithTokens.{TextWithTokens}
-use Rattle.ob0_text.specs.Patches.{Cut, pieced}
+use Rattle.ob0_text.specs.Patches.{Cut, text_with_cuts}
 use Rattle.ob0_edits_tokens.specs.Changed.{WordChanges}
 use Rattle.ob0_edits_tokens.specs.Replaced.{token_or_empty, span_at, cut_of}
 
@@ -47,4 +47,4 @@ removal_cut tokens first last =
 -- indexes.
 abbrev pub text_after_removal : TextWithTokens → ℕ → ℕ → List ℕ → List ℕ → List ℕ
 text_after_removal s first last places new =
-    pieced s.text 0 (removal_cut s.tokens first last ∷ map (cut_of s.tokens new) places)
+    text_with_cuts s.text 0 (removal_cut s.tokens first last ∷ map (cut_of s.tokens new) places)

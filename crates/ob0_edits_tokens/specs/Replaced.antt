@@ -15,7 +15,7 @@ use Rattle.ob0_text.specs.declared.edits.Edit.{Edit}
 use Rattle.ob0_text.specs.declared.position_types.Range.{Range}
 use Rattle.ob0_text.specs.declared.position_types.Unit as counting
 use Rattle.ob0_text.specs.Units.{width_of}
-use Rattle.ob0_text.specs.Patches.{Cut, pieced, patched}
+use Rattle.ob0_text.specs.Patches.{Cut, text_with_cuts, patched}
 use Rattle.ob0_edits_tokens.specs.Changed.{words_of}
 use Rattle.ob0_edits_tokens.specs.Ranges.{range_of}
 
@@ -48,7 +48,7 @@ cut_of tokens new p =
 
 -- Returns the text in which the token at each of the places is replaced by `new`.
 abbrev pub text_after_replacement : TextWithTokens → List ℕ → List ℕ → List ℕ
-text_after_replacement s places new = pieced s.text 0 (map (cut_of s.tokens new) places)
+text_after_replacement s places new = text_with_cuts s.text 0 (map (cut_of s.tokens new) places)
 
 -- States that each cut begins at or after the end of the previous cut, and removes at least one
 -- byte. The first cut begins at or after the byte offset `at`.

@@ -9,7 +9,7 @@ ghost use Rattle.ob0_edits_tokens.specs.Changed.{words_of, changed_words, change
 ghost use Rattle.ob0_edits_tokens.specs.Replaced.{AreIdentifierIndexes, AreInOrder, cut_of, text_after_replacement, ReplacesName, parts, edit_at, LeavesWords};
 ghost use Rattle.ob0_text.specs.Units.{width_of};
 ghost use Rattle.ob0_edits_tokens.specs.Ranges.{range_of};
-ghost use Rattle.ob0_text.specs.Patches.{pieced};
+ghost use Rattle.ob0_text.specs.Patches.{text_with_cuts};
 ghost use Rattle.ob0_edits_tokens.specs.Removed.{changes_with_removal, IsDeclaration, span_of_tokens, text_after_removal};
 
 use crate::positions::{ranges, spans_of};
@@ -151,7 +151,7 @@ fn is_too_long(tokens: &Tokens, counted: usize, end: usize, places: &[usize], ne
     requires inside { end ≤ length tokens.now.text }
     ensures { result
         ≡ nat_lt max_text (counted
-        + length (pieced tokens.now.text end (map (cut_of tokens.now.tokens new.now) places.now))) }
+        + length (text_with_cuts tokens.now.text end (map (cut_of tokens.now.tokens new.now) places.now))) }
 {
     let text = tokens.text();
     let mut length = counted;

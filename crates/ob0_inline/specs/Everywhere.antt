@@ -15,7 +15,7 @@ use Rattle.ob0_tree.specs.Tree.{Tree, identifiers, module_text, occurrences}
 use Rattle.ob0_edits_tokens.specs.Ranges.{range_of}
 use Rattle.ob0_edits_tokens.specs.Removed.{span_of_tokens, text_after_removal}
 use Rattle.ob0_edits_tokens.specs.Replaced.{edit_at, parts}
-use Rattle.ob0_language_names.specs.NonFactorNames.{non_factor_names}
+use Rattle.ob0_language_names.specs.NonFactorNames.{names_beside_factors}
 use Rattle.ob0_language_names.specs.Inlining.{inlined_everywhere}
 use Rattle.ob0_language_names.specs.Names.{Name, declared, same_label}
 use Rattle.ob0_language_names.specs.Occurrences.{bindings, binds}
@@ -66,7 +66,7 @@ uses_of m d =
 -- States that each use of the declaration with the ordinal `d` is a whole factor: a name without
 -- selectors in an expression.
 abbrev pub UsesAreFactors : ParsedModule → ℕ → Type 0
-UsesAreFactors m d = All (λ l. l ≢ declared d) (non_factor_names (numbered (named_tree_of m)))
+UsesAreFactors m d = All (λ l. l ≢ declared d) (names_beside_factors (numbered (named_tree_of m)))
 
 -- Returns the tree of the module after the constant is inlined everywhere. The constant's value
 -- replaces all its uses, and its declaration is removed.

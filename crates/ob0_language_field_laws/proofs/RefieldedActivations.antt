@@ -4,7 +4,7 @@ use Rattle.std.proofs.lemmas.List.{length-map, map-append}
 use Rattle.ob0_tree.specs.Tree.{Tree, block, body, constant, constants, declares, declares_constant, declares_type, declares_variable, end, expression, further_section, has_body, item, items, maybe, more, procedure, then_section, type_name, type_names, variable, variables, written_type}
 use Rattle.ob0_language_names.specs.Names.{Name, naming_by_spelling, same_name}
 use Rattle.ob0_language_names.specs.Parts.{names_in_list, procedure_formals, procedure_name, section_constants, section_type, section_types, section_variables}
-use Rattle.ob0_language_types.specs.Declarations.{constructor_after_types, constructor_after_variables, declare_constants, declare_types, procedure_constructor_count}
+use Rattle.ob0_language_types.specs.Declarations.{constructors_before_variables, constructor_after_variables, declare_constants, declare_types, procedure_constructor_count}
 use Rattle.ob0_language_types.specs.Environments.{environment_from_binding, meanings, newest_object}
 use Rattle.ob0_language_types.specs.Expressions.{Object, a_constant, a_procedure, a_standard, a_type, a_variable}
 use Rattle.ob0_language_types.specs.Typing.{constant_of, constant_value, constructor_count, denoted, type_of_name}
@@ -265,19 +265,19 @@ declared_parts-both l k j n cs ts vs ps inner f =
 
 declare_block-parts : (l : FieldRenaming) (checked : TypeEnvironment Name) (k : ℕ) (cs : Tree Name (maybe constants)) (ts : Tree Name (maybe type_names)) (vs : Tree Name (maybe variables)) (ps : Tree Name (items procedure)) (statements : Tree Name (maybe body)) (f : Stage)
     → declare_block naming_by_spelling k (rename_fields_in_block l checked k (has_body (declares cs ts vs ps) statements)) (frame_by l f)
-    ≡ declared_parts l k (constructor_after_types k (has_body (declares cs ts vs ps) statements)) (constructor_after_variables k (has_body (declares cs ts vs ps) statements)) (section_constants cs) (section_types ts) (section_variables vs) ps (environment_after_variables checked k (has_body (declares cs ts vs ps) statements)) f
+    ≡ declared_parts l k (constructors_before_variables k (has_body (declares cs ts vs ps) statements)) (constructor_after_variables k (has_body (declares cs ts vs ps) statements)) (section_constants cs) (section_types ts) (section_variables vs) ps (environment_after_variables checked k (has_body (declares cs ts vs ps) statements)) f
 unfolding declare_block
 declare_block-parts l checked k cs ts vs ps statements f = λ i.
     let b : Tree Name block = has_body (declares cs ts vs ps) statements in
-    option_and_then (λ env. option_map (declare_procedures_in_frame (k + types_count-rename_fields l k ts i + variables_count-rename_fields l (constructor_after_types k b) vs i) (rename_fields_in_procedures l (environment_after_variables checked k b) (constructor_after_variables k b) ps))
-    (declare_variables naming_by_spelling (k + types_count-rename_fields l k ts i) (section_variables-rename_fields l (constructor_after_types k b) vs i) record { env = env; store = store_by l f.store }))
+    option_and_then (λ env. option_map (declare_procedures_in_frame (k + types_count-rename_fields l k ts i + variables_count-rename_fields l (constructors_before_variables k b) vs i) (rename_fields_in_procedures l (environment_after_variables checked k b) (constructor_after_variables k b) ps))
+    (declare_variables naming_by_spelling (k + types_count-rename_fields l k ts i) (section_variables-rename_fields l (constructors_before_variables k b) vs i) record { env = env; store = store_by l f.store }))
     (option_and_then (λ env. declare_types naming_by_spelling env k (section_types-rename_fields l k ts i)) (declare_constants naming_by_spelling (env_as l f.scene) (section_constants cs)))
 
 pub declare_block-both : (l : FieldRenaming) (checked : TypeEnvironment Name) (k : ℕ) (b : Tree Name block) (f : Stage)
     → FramesBoth l (declare_block naming_by_spelling k (rename_fields_in_block tagged checked k b) (frame_by tagged f)) (declare_block naming_by_spelling k (rename_fields_in_block l checked k b) (frame_by l f))
 declare_block-both l checked k (has_body (declares cs ts vs ps) statements) f =
     subst₂ (λ a b. FramesBoth l a b) (sym (declare_block-parts tagged checked k cs ts vs ps statements f)) (sym (declare_block-parts l checked k cs ts vs ps statements f))
-    (declared_parts-both l k (constructor_after_types k (has_body (declares cs ts vs ps) statements)) (constructor_after_variables k (has_body (declares cs ts vs ps) statements)) (section_constants cs) (section_types ts) (section_variables vs) ps (environment_after_variables checked k (has_body (declares cs ts vs ps) statements)) f)
+    (declared_parts-both l k (constructors_before_variables k (has_body (declares cs ts vs ps) statements)) (constructor_after_variables k (has_body (declares cs ts vs ps) statements)) (section_constants cs) (section_types ts) (section_variables vs) ps (environment_after_variables checked k (has_body (declares cs ts vs ps) statements)) f)
 
 -- Binding parameters to arguments does the same in both runs.
 

@@ -3,11 +3,11 @@ use Rattle.std.proofs.Common.{◌≡◌, ℕ, ◌+◌, true, false, ◌&&◌, Li
 use Rattle.ob0_tree.specs.Tree.{Tree, begins, block, body, constant, declares, declares_constant, declares_procedure, declares_type, declares_types, declares_variable, declares_variables, end, formals, further_section, has_body, is_module, item, items, maybe, more, no_formals, none, one, procedure, section, then_section, type_name, type_names, value_section, variable, variable_section, variables, written_type}
 use Rattle.ob0_language_names.specs.Names.{Name, naming_by_spelling, same_name}
 use Rattle.ob0_language_names.specs.Parts.{formal_sections, names_in_list, procedure_formals, procedure_name, section_constants, section_names, section_type, section_types, section_variables}
-use Rattle.ob0_language_types.specs.Declarations.{constructor_after_formals, constructor_after_types, constructor_after_variables, block_constructor_count, declare_constants, declare_first, declare_types, formals_constructor_count, procedure_constructor_count, procedures_constructor_count, types_constructor_count, variables_constructor_count}
+use Rattle.ob0_language_types.specs.Declarations.{constructor_after_formals, constructors_before_variables, constructor_after_variables, block_constructor_count, declare_constants, declare_first, declare_types, formals_constructor_count, procedure_constructor_count, procedures_constructor_count, types_constructor_count, variables_constructor_count}
 use Rattle.ob0_language_types.specs.Environments.{environment_from_binding, meanings, newest_object, outermost}
 use Rattle.ob0_language_types.specs.Expressions.{Object, a_constant, a_procedure, a_type, a_variable}
 use Rattle.ob0_language_types.specs.Typing.{constant_of, constant_value, constructor_count, denoted, type_of_name}
-use Rattle.ob0_language_types.specs.WellTyped.{Mode, Signature, TypeEnvironment, TypedParameter, bind_names, bind_typed_parameters, block_fits, body_fits, declare_typed, fits_over, bind_procedure, some_satisfies, procedure_fits, procedures_fit, section_mode, sequence_fits, typed_parameters}
+use Rattle.ob0_language_types.specs.WellTyped.{Mode, Signature, TypeEnvironment, TypedParameter, bind_names, bind_typed_parameters, block_fits, body_fits, declare_typed, passes_type_check, bind_procedure, some_satisfies, procedure_fits, procedures_fit, section_mode, sequence_fits, typed_parameters}
 use Rattle.ob0_language_values.specs.Values.{Shape}
 use Rattle.ob0_language_fields.specs.Fields.{FieldRenaming, environment_after_heading, environment_after_procedures, environment_after_variables, parameters_of, rename_fields, rename_fields_in_block, rename_fields_in_formals, rename_fields_in_procedure, rename_fields_in_procedures, rename_fields_in_section, rename_fields_in_sections, rename_fields_in_type, rename_fields_in_type_section, rename_fields_in_types, rename_fields_in_variable_section, rename_fields_in_variables}
 use Rattle.ob0_language_fields.proofs.NamesMeant.{named, parameter_of, object_in}
@@ -117,7 +117,7 @@ mutual
   pub block_constructor_count-rename_fields : (l : FieldRenaming) (env : TypeEnvironment Name) (k : ℕ) (b : Tree Name block) → block_constructor_count (rename_fields_in_block l env k b) ≡ block_constructor_count b
   block_constructor_count-rename_fields l env k (has_body (declares cs ts vs ps) statements) = λ i.
       types_count-rename_fields l k ts i
-      + (variables_count-rename_fields l (constructor_after_types k (has_body (declares cs ts vs ps) statements)) vs i
+      + (variables_count-rename_fields l (constructors_before_variables k (has_body (declares cs ts vs ps) statements)) vs i
       + procedures_constructor_count-rename_fields l (environment_after_variables env k (has_body (declares cs ts vs ps) statements)) (constructor_after_variables k (has_body (declares cs ts vs ps) statements)) ps i)
 
   pub procedures_constructor_count-rename_fields : (l : FieldRenaming) (env : TypeEnvironment Name) (k : ℕ) (ps : Tree Name (items procedure)) → procedures_constructor_count (rename_fields_in_procedures l env k ps) ≡ procedures_constructor_count ps
@@ -202,11 +202,11 @@ mutual
   pub block_fits-rename_fields : (l : FieldRenaming) → KeepsFieldsDistinct l → (env : TypeEnvironment Name) (k : ℕ) (b : Tree Name block) → block_fits naming_by_spelling (env_by l env) k (rename_fields_in_block l env k b) ≡ block_fits naming_by_spelling env k b
   block_fits-rename_fields l apart env k (has_body (declares cs ts vs ps) statements) =
       let b : Tree Name block = has_body (declares cs ts vs ps) statements in
-      let o : Option (TypeEnvironment Name) = option_and_then (declare_typed naming_by_spelling (constructor_after_types k b) (section_variables vs)) (declare_first naming_by_spelling env k b) in
-      (λ i. some_satisfies (option_and_then (declare_typed naming_by_spelling (k + types_count-rename_fields l k ts i) (section_variables-rename_fields l (constructor_after_types k b) vs i)) (option_and_then (λ env. declare_types naming_by_spelling env k (section_types-rename_fields l k ts i)) (declare_constants naming_by_spelling (env_by l env) (section_constants cs))))
-      (λ inner. procedures_fit naming_by_spelling inner (k + types_count-rename_fields l k ts i + variables_count-rename_fields l (constructor_after_types k b) vs i) (rename_fields l (meanings naming_by_spelling (environment_after_procedures (environment_after_variables env k b) (constructor_after_variables k b) ps)) None statements) (rename_fields_in_procedures l (environment_after_variables env k b) (constructor_after_variables k b) ps)))
+      let o : Option (TypeEnvironment Name) = option_and_then (declare_typed naming_by_spelling (constructors_before_variables k b) (section_variables vs)) (declare_first naming_by_spelling env k b) in
+      (λ i. some_satisfies (option_and_then (declare_typed naming_by_spelling (k + types_count-rename_fields l k ts i) (section_variables-rename_fields l (constructors_before_variables k b) vs i)) (option_and_then (λ env. declare_types naming_by_spelling env k (section_types-rename_fields l k ts i)) (declare_constants naming_by_spelling (env_by l env) (section_constants cs))))
+      (λ inner. procedures_fit naming_by_spelling inner (k + types_count-rename_fields l k ts i + variables_count-rename_fields l (constructors_before_variables k b) vs i) (rename_fields l (meanings naming_by_spelling (environment_after_procedures (environment_after_variables env k b) (constructor_after_variables k b) ps)) None statements) (rename_fields_in_procedures l (environment_after_variables env k b) (constructor_after_variables k b) ps)))
       ∙ (ap (λ o. some_satisfies o (λ inner. procedures_fit naming_by_spelling inner (constructor_after_variables k b) (rename_fields l (meanings naming_by_spelling (environment_after_procedures (environment_after_variables env k b) (constructor_after_variables k b) ps)) None statements) (rename_fields_in_procedures l (environment_after_variables env k b) (constructor_after_variables k b) ps)))
-      (declared-by l env k (constructor_after_types k b) (section_constants cs) (section_types ts) (section_variables vs))
+      (declared-by l env k (constructors_before_variables k b) (section_constants cs) (section_types ts) (section_variables vs))
       ∙ (elim o as (λ o. some_satisfies (option_map (env_by l) o) (λ inner. procedures_fit naming_by_spelling inner (constructor_after_variables k b) (rename_fields l (meanings naming_by_spelling (environment_after_procedures (unwrap_or o env) (constructor_after_variables k b) ps)) None statements) (rename_fields_in_procedures l (unwrap_or o env) (constructor_after_variables k b) ps))
       ≡ some_satisfies o (λ inner. procedures_fit naming_by_spelling inner (constructor_after_variables k b) statements ps))
       [ None ↦ refl | Some inner ↦ procedures_fit-rename_fields l apart inner (constructor_after_variables k b) statements ps ]))
@@ -237,5 +237,5 @@ mutual
       ∙ block_fits-rename_fields l apart env (k + formals_constructor_count (formal_sections fs)) b
 
 pub field_renaming_keeps_type_check-holds : FieldRenamingKeepsTypeCheck
-unfolding fits_over
+unfolding passes_type_check
 field_renaming_keeps_type_check-holds l (is_module x b closing) apart = block_fits-rename_fields l apart (outermost naming_by_spelling) 0 b

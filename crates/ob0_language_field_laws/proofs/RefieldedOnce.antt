@@ -7,7 +7,7 @@ use Rattle.ob0_language_names.specs.DeclaredOnce.{are_distinct, block_once, decl
 use Rattle.ob0_language_names.specs.Mapping.{map_names}
 use Rattle.ob0_language_names.specs.Names.{Name, naming_by_spelling, same_name}
 use Rattle.ob0_language_names.specs.Parts.{constant_names, formal_names, formal_sections, further_names, declared_type_names, names_in_list, section_constants, section_type, section_types, section_variables, variable_names}
-use Rattle.ob0_language_types.specs.Declarations.{constructor_after_formals, constructor_after_types, constructor_after_variables, procedure_constructor_count}
+use Rattle.ob0_language_types.specs.Declarations.{constructor_after_formals, constructors_before_variables, constructor_after_variables, procedure_constructor_count}
 use Rattle.ob0_language_types.specs.Environments.{outermost}
 use Rattle.ob0_language_types.specs.Typing.{constructor_count, group_constructor_count}
 use Rattle.ob0_language_types.specs.WellTyped.{TypeEnvironment, bind_typed_parameters}
@@ -95,10 +95,10 @@ mutual
       let b : Tree Name block = has_body (declares cs ts vs ps) statements in λ i.
       are_distinct (own ++ (constant_names (section_constants cs)
       ++ ((ap declared_type_names (section_types-rename_fields l k ts) ∙ declared_type_names-rename_fields l k (section_types ts)) i
-      ++ ((ap variable_names (section_variables-rename_fields l (constructor_after_types k b) vs) ∙ variable_names-rename_fields l (constructor_after_types k b) (section_variables vs)) i
+      ++ ((ap variable_names (section_variables-rename_fields l (constructors_before_variables k b) vs) ∙ variable_names-rename_fields l (constructors_before_variables k b) (section_variables vs)) i
       ++ procedure_names-rename_fields l (environment_after_variables env k b) (constructor_after_variables k b) ps i))))
       && ((ap types_have_distinct_fields (section_types-rename_fields l k ts) ∙ types_have_distinct_fields-rename_fields l apart k (section_types ts)) i
-      && ((ap variables_have_distinct_fields (section_variables-rename_fields l (constructor_after_types k b) vs) ∙ variables_have_distinct_fields-rename_fields l apart (constructor_after_types k b) (section_variables vs)) i
+      && ((ap variables_have_distinct_fields (section_variables-rename_fields l (constructors_before_variables k b) vs) ∙ variables_have_distinct_fields-rename_fields l apart (constructors_before_variables k b) (section_variables vs)) i
       && procedures_once-rename_fields l apart (environment_after_variables env k b) (constructor_after_variables k b) ps i))
 
   pub procedures_once-rename_fields : (l : FieldRenaming) → KeepsFieldsDistinct l → (env : TypeEnvironment Name) (k : ℕ) (ps : Tree Name (items procedure)) → procedures_once (rename_fields_in_procedures l env k ps) ≡ procedures_once ps

@@ -6,7 +6,7 @@ use Rattle.ob0_language_names.specs.Parts.{block_procedures, block_statements, f
 use Rattle.ob0_language_types.specs.Declarations.{constructor_after_variables, formals_constructor_count}
 use Rattle.ob0_language_types.specs.Environments.{meanings, outermost}
 use Rattle.ob0_language_types.specs.Expressions.{reads, writes, writes_line}
-use Rattle.ob0_language_types.specs.WellTyped.{TypeEnvironment, TypeMeanings, fits_over}
+use Rattle.ob0_language_types.specs.WellTyped.{TypeEnvironment, TypeMeanings, passes_type_check}
 use Rattle.ob0_language_values.specs.Values.{Stuck, boolean_shape, integer_shape}
 use Rattle.ob0_language_runs.specs.Runs.{Activation, CallFunction, Frame, Progress, State, activate, bind_parameters, call, declare_block, execute_all, execute_body, run_result, continue_in_frame, parameters, run_over, running, stopped}
 use Rattle.ob0_language_runs.proofs.SoundCalls.{fitting-run}
@@ -127,7 +127,7 @@ unfolding run_over
 run-parts l x closing b input c t = refl
 
 -- A well-typed module has the same run with tagged fields and with fields under other names.
-pub run-tagged : (l : FieldRenaming) → KeepsFieldsDistinct l → (m : Tree Name module_text) → fits_over naming_by_spelling m ≡ true → (input : List ℤ) (c t : ℕ) → run_over naming_by_spelling (rename_fields_in_module tagged m) input c t ≡ run_over naming_by_spelling (rename_fields_in_module l m) input c t
+pub run-tagged : (l : FieldRenaming) → KeepsFieldsDistinct l → (m : Tree Name module_text) → passes_type_check naming_by_spelling m ≡ true → (input : List ℤ) (c t : ℕ) → run_over naming_by_spelling (rename_fields_in_module tagged m) input c t ≡ run_over naming_by_spelling (rename_fields_in_module l m) input c t
 run-tagged l apart (is_module x b closing) fits input c t =
     run-parts tagged x closing b input c t
     ∙ (same-finish l (run_parts tagged b input c t) (run_parts l b input c t)

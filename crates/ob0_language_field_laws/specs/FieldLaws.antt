@@ -4,7 +4,7 @@
 use Rattle.std.specs.Prelude.{◌≡◌, ℕ, Some}
 use Rattle.ob0_tree.specs.Tree.{Tree, module_text}
 use Rattle.ob0_language_names.specs.Names.{Name, naming_by_spelling, same_name}
-use Rattle.ob0_language_types.specs.WellTyped.{WellTyped, fits_over}
+use Rattle.ob0_language_types.specs.WellTyped.{WellTyped, passes_type_check}
 use Rattle.ob0_language_runs.specs.EditLaws.{HaveSameRuns}
 use Rattle.ob0_language_fields.specs.Fields.{FieldRenaming, rename_fields_in_module}
 use Rattle.ob0_language_fields.specs.Renaming.{IsFreeFieldName, with_renamed_field}
@@ -19,7 +19,7 @@ abbrev pub FieldRenamingKeepsTypeCheck : Type 0
 FieldRenamingKeepsTypeCheck =
     (l : FieldRenaming) (m : Tree Name module_text)
     → KeepsFieldsDistinct l
-    → fits_over naming_by_spelling (rename_fields_in_module l m) ≡ fits_over naming_by_spelling m
+    → passes_type_check naming_by_spelling (rename_fields_in_module l m) ≡ passes_type_check naming_by_spelling m
 
 -- States that a well-typed module remains well-typed and has the same runs if its fields are renamed. Different fields
 -- of the same record must get different names.

@@ -4,11 +4,11 @@ use Rattle.std.proofs.Common.{◌≡◌, ℕ, ◌+◌, true, false, ◌&&◌, Li
 use Rattle.ob0_tree.specs.Tree.{Tree, begins, block, body, constant, declares, declares_constant, declares_procedure, declares_type, declares_types, declares_variable, declares_variables, end, formals, further_section, has_body, is_module, item, items, maybe, module_text, more, no_formals, none, one, procedure, section, some_formals, then_section, type_name, type_names, value_section, variable, variable_section, variables}
 use Rattle.ob0_language_names.specs.Names.{Name, naming_by_spelling, same_name}
 use Rattle.ob0_language_names.specs.Parts.{formal_sections, names_in_list, procedure_formals, procedure_name, section_constants, section_names, section_type, section_types, section_variables}
-use Rattle.ob0_language_types.specs.Declarations.{constructor_after_formals, constructor_after_types, constructor_after_variables, declare_constants, declare_first, declare_types, formals_constructor_count, procedure_constructor_count}
+use Rattle.ob0_language_types.specs.Declarations.{constructor_after_formals, constructors_before_variables, constructor_after_variables, declare_constants, declare_first, declare_types, formals_constructor_count, procedure_constructor_count}
 use Rattle.ob0_language_types.specs.Environments.{environment_from_binding, meanings, newest_object, outermost}
 use Rattle.ob0_language_types.specs.Expressions.{Object, a_constant, a_type, a_variable}
 use Rattle.ob0_language_types.specs.Typing.{constant_value, constructor_count, denoted}
-use Rattle.ob0_language_types.specs.WellTyped.{Mode, TypeEnvironment, TypedParameter, Signature, bind_names, bind_typed_parameters, block_fits, body_fits, declare_typed, fits_over, bind_procedure, procedure_fits, procedures_fit, section_mode, typed_parameters}
+use Rattle.ob0_language_types.specs.WellTyped.{Mode, TypeEnvironment, TypedParameter, Signature, bind_names, bind_typed_parameters, block_fits, body_fits, declare_typed, passes_type_check, bind_procedure, procedure_fits, procedures_fit, section_mode, typed_parameters}
 use Rattle.ob0_language_types.proofs.Conditions.{both_true, hold-true}
 use Rattle.ob0_language_types.proofs.Literals.{some_inverse}
 use Rattle.ob0_language_types.proofs.TypedElsewhere.{then_some}
@@ -142,15 +142,15 @@ mutual
   pub block-alike : (p q : FieldRenaming) (env : TypeEnvironment Name) (k : ℕ) (b : Tree Name block) → EnvironmentAgrees p q env → RecordsAgree p q (records_in_block k b) → block_fits naming_by_spelling env k b ≡ true → rename_fields_in_block p env k b ≡ rename_fields_in_block q env k b
   block-alike p q env k (has_body (declares cs ts vs ps) statements) h r e =
       let b : Tree Name block = has_body (declares cs ts vs ps) statements in
-      let r₁ = records-split p q (records_in_types k (section_types ts)) (records_in_variables (constructor_after_types k b) (section_variables vs) ++ records_in_procedures (constructor_after_variables k b) ps) r in
-      let r₂ = records-split p q (records_in_variables (constructor_after_types k b) (section_variables vs)) (records_in_procedures (constructor_after_variables k b) ps) r₁.1 in
-      let (inner, e₁, e₂) = hold-true (option_and_then (declare_typed naming_by_spelling (constructor_after_types k b) (section_variables vs)) (declare_first naming_by_spelling env k b)) (λ inner. procedures_fit naming_by_spelling inner (constructor_after_variables k b) statements ps) e in
-      let (first, ef, e₃) = then_some (declare_first naming_by_spelling env k b) (declare_typed naming_by_spelling (constructor_after_types k b) (section_variables vs)) inner e₁ in
+      let r₁ = records-split p q (records_in_types k (section_types ts)) (records_in_variables (constructors_before_variables k b) (section_variables vs) ++ records_in_procedures (constructor_after_variables k b) ps) r in
+      let r₂ = records-split p q (records_in_variables (constructors_before_variables k b) (section_variables vs)) (records_in_procedures (constructor_after_variables k b) ps) r₁.1 in
+      let (inner, e₁, e₂) = hold-true (option_and_then (declare_typed naming_by_spelling (constructors_before_variables k b) (section_variables vs)) (declare_first naming_by_spelling env k b)) (λ inner. procedures_fit naming_by_spelling inner (constructor_after_variables k b) statements ps) e in
+      let (first, ef, e₃) = then_some (declare_first naming_by_spelling env k b) (declare_typed naming_by_spelling (constructors_before_variables k b) (section_variables vs)) inner e₁ in
       let (consts, ec, e₄) = then_some (declare_constants naming_by_spelling env (section_constants cs)) (λ env. declare_types naming_by_spelling env k (section_types ts)) first ef in
       let agrees : EnvironmentAgrees p q inner =
-      variables-agree p q first (constructor_after_types k b) (section_variables vs) inner (types-agree p q consts k (section_types ts) first (constants-agree p q env (section_constants cs) consts h ec) r₁.0 e₄) r₂.0 e₃ in
+      variables-agree p q first (constructors_before_variables k b) (section_variables vs) inner (types-agree p q consts k (section_types ts) first (constants-agree p q env (section_constants cs) consts h ec) r₁.0 e₄) r₂.0 e₃ in
       let alike = subst (λ inner. ProceduresAlike p q inner (constructor_after_variables k b) statements ps) (sym (ap (λ o. unwrap_or o env) e₁)) (procedures-alike p q inner (constructor_after_variables k b) statements ps agrees r₂.1 e₂) in
-      λ i. has_body (declares cs (type_section-alike p q k ts r₁.0 i) (variable_section-alike p q (constructor_after_types k b) vs r₂.0 i) (alike.0 i)) (alike.1 i)
+      λ i. has_body (declares cs (type_section-alike p q k ts r₁.0 i) (variable_section-alike p q (constructors_before_variables k b) vs r₂.0 i) (alike.0 i)) (alike.1 i)
 
   pub procedures-alike : (p q : FieldRenaming) (env : TypeEnvironment Name) (k : ℕ) (statements : Tree Name (maybe body)) (ps : Tree Name (items procedure)) → EnvironmentAgrees p q env → RecordsAgree p q (records_in_procedures k ps)
       → procedures_fit naming_by_spelling env k statements ps ≡ true → ProceduresAlike p q env k statements ps
@@ -175,6 +175,6 @@ mutual
       let r₁ = records-split p q (records_in_sections k (formal_sections fs)) (records_in_block (constructor_after_formals k (declares_procedure x fs b closing)) b) r in
       λ i. declares_procedure x (formals-alike p q k fs r₁.0 i) (block-alike p q env (k + formals_constructor_count (formal_sections fs)) b h r₁.1 e i) closing
 
-pub module-alike : (p q : FieldRenaming) (m : Tree Name module_text) → RecordsAgree p q (records m) → fits_over naming_by_spelling m ≡ true → rename_fields_in_module p m ≡ rename_fields_in_module q m
-unfolding fits_over
+pub module-alike : (p q : FieldRenaming) (m : Tree Name module_text) → RecordsAgree p q (records m) → passes_type_check naming_by_spelling m ≡ true → rename_fields_in_module p m ≡ rename_fields_in_module q m
+unfolding passes_type_check
 module-alike p q (is_module x b closing) r e = λ i. is_module x (block-alike p q (outermost naming_by_spelling) 0 b (tt, (tt, (tt, (tt, (tt, (tt, (tt, tt))))))) r e i) closing

@@ -4,7 +4,7 @@ use Rattle.ob0_tree.specs.Tree.{Sort, Tree, adds, array_type, assigns, begins, b
 use Rattle.ob0_language_names.specs.Names.{Name, naming_by_spelling}
 use Rattle.ob0_language_names.specs.Parts.{section_type}
 use Rattle.ob0_language_names.proofs.SameNames.{map_names-id}
-use Rattle.ob0_language_types.specs.Declarations.{constructor_after_formals, constructor_after_types, constructor_after_variables, procedure_constructor_count}
+use Rattle.ob0_language_types.specs.Declarations.{constructor_after_formals, constructors_before_variables, constructor_after_variables, procedure_constructor_count}
 use Rattle.ob0_language_types.specs.Environments.{meanings, outermost}
 use Rattle.ob0_language_types.specs.Typing.{constructor_count, group_constructor_count, object_type}
 use Rattle.ob0_language_types.specs.WellTyped.{TypeEnvironment, TypeMeanings, bind_typed_parameters}
@@ -91,7 +91,7 @@ mutual
   rename_fields_in_block-bare : (env : TypeEnvironment Name) (k : ℕ) (b : Tree Name block) → rename_fields_in_block bare env k b ≡ b
   rename_fields_in_block-bare env k (has_body (declares cs ts vs ps) statements) =
       let b : Tree Name block = has_body (declares cs ts vs ps) statements in λ i.
-      has_body (declares cs (rename_fields_in_type_section-bare k ts i) (rename_fields_in_variable_section-bare (constructor_after_types k b) vs i) (rename_fields_in_procedures-bare (environment_after_variables env k b) (constructor_after_variables k b) ps i))
+      has_body (declares cs (rename_fields_in_type_section-bare k ts i) (rename_fields_in_variable_section-bare (constructors_before_variables k b) vs i) (rename_fields_in_procedures-bare (environment_after_variables env k b) (constructor_after_variables k b) ps i))
       (rename_fields-bare (meanings naming_by_spelling (environment_after_procedures (environment_after_variables env k b) (constructor_after_variables k b) ps)) None statements i)
 
   rename_fields_in_procedures-bare : (env : TypeEnvironment Name) (k : ℕ) (ps : Tree Name (items procedure)) → rename_fields_in_procedures bare env k ps ≡ ps

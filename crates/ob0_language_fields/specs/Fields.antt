@@ -6,7 +6,7 @@ use Rattle.ob0_tree.specs.Tree.{Item, Sort, Tree, adds, array_type, assigns, beg
 use Rattle.ob0_language_names.specs.Mapping.{map_names}
 use Rattle.ob0_language_names.specs.Names.{Name, naming_by_spelling}
 use Rattle.ob0_language_names.specs.Parts.{block_variables, procedure_formals, procedure_name, section_type}
-use Rattle.ob0_language_types.specs.Declarations.{constructor_after_formals, constructor_after_types, constructor_after_variables, declare_first, procedure_constructor_count}
+use Rattle.ob0_language_types.specs.Declarations.{constructor_after_formals, constructors_before_variables, constructor_after_variables, declare_first, procedure_constructor_count}
 use Rattle.ob0_language_types.specs.Environments.{meanings, outermost}
 use Rattle.ob0_language_types.specs.Typing.{constructor_count, element_type, field_type, group_constructor_count, object_type}
 use Rattle.ob0_language_types.specs.WellTyped.{TypeEnvironment, TypeMeanings, TypedParameter, bind_typed_parameters, declare_typed, bind_procedure, typed_parameters}
@@ -181,7 +181,7 @@ rename_fields_in_formals l k (one (some_formals f fs)) =
 -- before the block.
 abbrev pub environment_after_variables : TypeEnvironment Name → ℕ → Tree Name block → TypeEnvironment Name
 environment_after_variables env k b =
-    unwrap_or (option_and_then (declare_typed naming_by_spelling (constructor_after_types k b) (block_variables b))
+    unwrap_or (option_and_then (declare_typed naming_by_spelling (constructors_before_variables k b) (block_variables b))
     (declare_first naming_by_spelling env k b)) env
 
 -- returns the parameters of a procedure, or an empty list if a parameter's type has an error; `k`
@@ -219,7 +219,7 @@ abbrev mutual
   rename_fields_in_block l env k (has_body (declares cs ts vs ps) statements) =
       has_body
       (declares cs (rename_fields_in_type_section l k ts)
-      (rename_fields_in_variable_section l (constructor_after_types k (has_body (declares cs ts vs ps) statements)) vs)
+      (rename_fields_in_variable_section l (constructors_before_variables k (has_body (declares cs ts vs ps) statements)) vs)
       (rename_fields_in_procedures l
       (environment_after_variables env k (has_body (declares cs ts vs ps) statements))
       (constructor_after_variables k (has_body (declares cs ts vs ps) statements)) ps))

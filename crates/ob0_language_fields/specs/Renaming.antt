@@ -8,7 +8,7 @@ use Rattle.ob0_language_names.specs.DeclaredOnce.{group_fields, further_group_fi
 use Rattle.ob0_language_names.specs.Names.{Name, same_name}
 use Rattle.ob0_language_names.specs.Parts.{formal_sections, module_block, section_type, section_types, section_variables}
 use Rattle.ob0_language_names.specs.Scopes.{same_ordinal}
-use Rattle.ob0_language_types.specs.Declarations.{constructor_after_formals, constructor_after_types, constructor_after_variables, procedure_constructor_count}
+use Rattle.ob0_language_types.specs.Declarations.{constructor_after_formals, constructors_before_variables, constructor_after_variables, procedure_constructor_count}
 use Rattle.ob0_language_types.specs.Typing.{constructor_count, group_constructor_count}
 use Rattle.ob0_language_fields.specs.Fields.{FieldRenaming, rename_fields_in_module}
 
@@ -77,7 +77,7 @@ abbrev mutual
   pub records_in_block : ℕ → Tree Name block → List RecordFields
   records_in_block k (has_body (declares cs ts vs ps) statements) =
       records_in_types k (section_types ts)
-      ++ (records_in_variables (constructor_after_types k (has_body (declares cs ts vs ps) statements))
+      ++ (records_in_variables (constructors_before_variables k (has_body (declares cs ts vs ps) statements))
       (section_variables vs)
       ++ records_in_procedures (constructor_after_variables k (has_body (declares cs ts vs ps) statements)) ps)
 

@@ -7,7 +7,7 @@ use Rattle.ob0_language_names.specs.Parts.{block_statements, constant_names, for
 use Rattle.ob0_language_names.specs.Scopes.{Labelling, Scope, ordinal_after_block, ordinal_after_names, ordinal_after_procedure, ordinal_after_procedures, label_from_ordinal, body_scope, declare_names, declare_procedure_names, first_procedure_ordinal, first_type_ordinal, first_variable_ordinal, label_names, label_of, predeclared_scope, procedures_scope, relabel_block, relabel_constants, relabel_formals, relabel_procedure, relabel_procedures, relabel_section, relabel_sections, relabel_type_section, relabel_types, relabel_uses, relabel_variable_section, relabel_variables, relabel_module, types_scope, variables_scope}
 use Rattle.ob0_language_names.proofs.Ordinals.{ordinal_after_names-append, declare_names-append, le-ordinal_after_procedure}
 use Rattle.ob0_language_names.proofs.Relabelled.{constants-section, formals-section, names-relabel, types-section, variables-section}
-use Rattle.ob0_language_types.specs.Declarations.{constructor_after_types, constructor_after_variables, declare_constants, declare_first, declare_types, formals_constructor_count, procedure_constructor_count, types_constructor_count, variables_constructor_count}
+use Rattle.ob0_language_types.specs.Declarations.{constructors_before_variables, constructor_after_variables, declare_constants, declare_first, declare_types, formals_constructor_count, procedure_constructor_count, types_constructor_count, variables_constructor_count}
 use Rattle.ob0_language_types.specs.Environments.{meanings, newest_object}
 use Rattle.ob0_language_types.specs.Expressions.{Object, a_constant, a_procedure, a_standard, a_type, a_variable, reads, writes, writes_line}
 use Rattle.ob0_language_types.specs.Typing.{constant_of, constant_value, constructor_count, denoted, type_of_name}
@@ -268,27 +268,27 @@ block_declared {N} naming j k f below (has_body (declares cs ts vs ps) statement
     let vs-same : variables_constructor_count (section_variables (relabel_variable_section naming (label_from_ordinal naming) (variables_scope k b scope) (first_variable_ordinal k b) vs)) ≡ variables_constructor_count (section_variables vs) =
     ap variables_constructor_count (variables-section naming (label_from_ordinal naming) (variables_scope k b scope) (first_variable_ordinal k b) vs) ∙ variables_constructor_count-relabel naming (label_from_ordinal naming) (variables_scope k b scope) (first_variable_ordinal k b) (section_variables vs) in
     agree-then by_name (by_ordinal naming) (Within (first_variable_ordinal k b) (variables_scope k b scope)) frame_by_name (frame_by_ordinal naming) (FrameWithin (ordinal_after_block k b) (body_scope k b scope))
-    (λ env. option_map (declare_procedures_in_frame (constructor_after_variables j b) ps) (declare_variables naming (constructor_after_types j b) (section_variables vs) record { env = env; store = f.store }))
+    (λ env. option_map (declare_procedures_in_frame (constructor_after_variables j b) ps) (declare_variables naming (constructors_before_variables j b) (section_variables vs) record { env = env; store = f.store }))
     (λ env. option_map (declare_procedures_in_frame (constructor_after_variables j (relabel_block naming (label_from_ordinal naming) scope k b)) (relabel_procedures naming (label_from_ordinal naming) (procedures_scope k b scope) (first_procedure_ordinal k b) ps))
-    (declare_variables naming_by_label (constructor_after_types j (relabel_block naming (label_from_ordinal naming) scope k b)) (section_variables (relabel_variable_section naming (label_from_ordinal naming) (variables_scope k b scope) (first_variable_ordinal k b) vs)) record { env = env; store = f.store }))
+    (declare_variables naming_by_label (constructors_before_variables j (relabel_block naming (label_from_ordinal naming) scope k b)) (section_variables (relabel_variable_section naming (label_from_ordinal naming) (variables_scope k b scope) (first_variable_ordinal k b) vs)) record { env = env; store = f.store }))
     (declare_first naming (by_name f.noted) j b) (declare_first naming_by_label (by_ordinal naming f.noted) j (relabel_block naming (label_from_ordinal naming) scope k b))
     (firsts_declared naming j k f.noted below b)
     (λ inner within. subst (λ s. Agree frame_by_name (frame_by_ordinal naming) (FrameWithin (ordinal_after_block k b) (declare_procedure_names (first_procedure_ordinal k b) ps (declare_names (first_variable_ordinal k b) (variable_names (section_variables vs)) s)))
-    (option_map (declare_procedures_in_frame (constructor_after_variables j b) ps) (declare_variables naming (constructor_after_types j b) (section_variables vs) record { env = by_name inner; store = f.store }))
+    (option_map (declare_procedures_in_frame (constructor_after_variables j b) ps) (declare_variables naming (constructors_before_variables j b) (section_variables vs) record { env = by_name inner; store = f.store }))
     (option_map (declare_procedures_in_frame (constructor_after_variables j (relabel_block naming (label_from_ordinal naming) scope k b)) (relabel_procedures naming (label_from_ordinal naming) (declare_names (first_variable_ordinal k b) (variable_names (section_variables vs)) s) (first_procedure_ordinal k b) ps))
-    (declare_variables naming_by_label (constructor_after_types j (relabel_block naming (label_from_ordinal naming) scope k b)) (section_variables (relabel_variable_section naming (label_from_ordinal naming) s (first_variable_ordinal k b) vs)) record { env = by_ordinal naming inner; store = f.store })))
+    (declare_variables naming_by_label (constructors_before_variables j (relabel_block naming (label_from_ordinal naming) scope k b)) (section_variables (relabel_variable_section naming (label_from_ordinal naming) s (first_variable_ordinal k b) vs)) record { env = by_ordinal naming inner; store = f.store })))
     within.0
     (subst₂ (λ u v. Agree frame_by_name (frame_by_ordinal naming) (FrameWithin (ordinal_after_block k b) (declare_procedure_names (first_procedure_ordinal k b) ps (declare_names (first_variable_ordinal k b) (variable_names (section_variables vs)) (scope_of inner))))
-    (option_map (declare_procedures_in_frame (constructor_after_variables j b) ps) (declare_variables naming (constructor_after_types j b) (section_variables vs) record { env = by_name inner; store = f.store }))
+    (option_map (declare_procedures_in_frame (constructor_after_variables j b) ps) (declare_variables naming (constructors_before_variables j b) (section_variables vs) record { env = by_name inner; store = f.store }))
     (option_map (declare_procedures_in_frame (j + u + v) (relabel_procedures naming (label_from_ordinal naming) (declare_names (first_variable_ordinal k b) (variable_names (section_variables vs)) (scope_of inner)) (first_procedure_ordinal k b) ps))
     (declare_variables naming_by_label (j + u) (section_variables (relabel_variable_section naming (label_from_ordinal naming) (scope_of inner) (first_variable_ordinal k b) vs)) record { env = by_ordinal naming inner; store = f.store })))
     (sym ts-same) (sym vs-same)
     (subst (λ gs. Agree frame_by_name (frame_by_ordinal naming) (FrameWithin (ordinal_after_block k b) (declare_procedure_names (first_procedure_ordinal k b) ps (declare_names (first_variable_ordinal k b) (variable_names (section_variables vs)) (scope_of inner))))
-    (option_map (declare_procedures_in_frame (constructor_after_variables j b) ps) (declare_variables naming (constructor_after_types j b) (section_variables vs) record { env = by_name inner; store = f.store }))
+    (option_map (declare_procedures_in_frame (constructor_after_variables j b) ps) (declare_variables naming (constructors_before_variables j b) (section_variables vs) record { env = by_name inner; store = f.store }))
     (option_map (declare_procedures_in_frame (constructor_after_variables j b) (relabel_procedures naming (label_from_ordinal naming) (declare_names (first_variable_ordinal k b) (variable_names (section_variables vs)) (scope_of inner)) (first_procedure_ordinal k b) ps))
-    (declare_variables naming_by_label (constructor_after_types j b) gs record { env = by_ordinal naming inner; store = f.store })))
+    (declare_variables naming_by_label (constructors_before_variables j b) gs record { env = by_ordinal naming inner; store = f.store })))
     (sym (variables-section naming (label_from_ordinal naming) (scope_of inner) (first_variable_ordinal k b) vs))
-    (rest_declared naming (constructor_after_types j b) (constructor_after_variables j b) (first_variable_ordinal k b) record { noted = inner; store = f.store } within.1 (section_variables vs) ps))))
+    (rest_declared naming (constructors_before_variables j b) (constructor_after_variables j b) (first_variable_ordinal k b) record { noted = inner; store = f.store } within.1 (section_variables vs) ps))))
 
 -- `parameter_names` returns the names of parameters. `label_parameters` returns the parameters with labels instead of
 -- names.

@@ -8,7 +8,7 @@ use Rattle.ob0_language_names.proofs.Ordinals.{ordinal_after_names-append, le-or
 use Rattle.ob0_language_names.proofs.Places.{EachBlock, EachProcedure, EachVariable, OneProcedure}
 use Rattle.ob0_language_values.specs.Values.{Place, Store, Stuck, Value, initial, truth}
 use Rattle.ob0_language_types.specs.ConstantValues.{ConstantEnvironment, non_constant, value_in_block, value_in_procedure, value_in_procedures}
-use Rattle.ob0_language_types.specs.Declarations.{constructor_after_types, constructor_after_variables, declare_constants, declare_first, formals_constructor_count, procedure_constructor_count, types_constructor_count, variables_constructor_count}
+use Rattle.ob0_language_types.specs.Declarations.{constructors_before_variables, constructor_after_variables, declare_constants, declare_first, formals_constructor_count, procedure_constructor_count, types_constructor_count, variables_constructor_count}
 use Rattle.ob0_language_types.specs.Environments.{meanings}
 use Rattle.ob0_language_types.specs.Expressions.{Meanings, Object, a_constant, a_procedure, a_standard, a_type, a_variable}
 use Rattle.ob0_language_types.specs.Typing.{constructor_count, denoted}
@@ -291,7 +291,7 @@ block-kept edit w lit i j k f s seven (has_body (declares cs ts vs ps) statement
     (sym (ap types_constructor_count (types-of edit jt ts) ∙ types_constructor_count-leaf edit jt (section_types ts)))
     (sym (ap variables_constructor_count (variables-of edit jv vs) ∙ variables_constructor_count-leaf edit jv (section_variables vs)))
     (agree-then (read before) (read_edited edit (after edit)) Middle frame_before (frame_after edit) Result
-    (λ env. option_map (declare_procedures_in_frame (constructor_after_variables i b) ps) (declare_variables naming_by_spelling (constructor_after_types i b) (section_variables vs) record { env = env; store = f.store }))
+    (λ env. option_map (declare_procedures_in_frame (constructor_after_variables i b) ps) (declare_variables naming_by_spelling (constructors_before_variables i b) (section_variables vs) record { env = env; store = f.store }))
     (there (types_constructor_count (section_types ts)) (variables_constructor_count (section_variables vs)) (leaf edit jv (section_variables vs)))
     (declare_first naming_by_spelling (read before f.marks) i b) (declare_first naming_by_spelling (read_edited edit (after edit) f.marks) i (edited_block edit j k b))
     (first-edited edit w lit (IsText edit w) before (after edit) i j k f.marks s seven b here has_value)
@@ -300,8 +300,8 @@ block-kept edit w lit i j k f s seven (has_body (declares cs ts vs ps) statement
     agree-map frame_before (frame_after edit) (LeftFrame edit w (first_procedure_ordinal k b) (declare_names (first_variable_ordinal k b) (variable_names (section_variables vs)) (scope_marked inner)) (Some (bind_names (variable_names (section_variables vs)) non_constant (knowns inner))))
     frame_before (frame_after edit) Result
     (declare_procedures_in_frame (constructor_after_variables i b) ps) (declare_procedures_in_frame (constructor_after_variables i b) ps')
-    (declare_variables naming_by_spelling (constructor_after_types i b) (section_variables vs) (frame_before g)) (declare_variables naming_by_spelling (constructor_after_types i b) (leaf edit jv (section_variables vs)) (frame_after edit g))
-    (variables-kept edit w lit (constructor_after_types i b) jv (first_variable_ordinal k b) g left.sound (omega (arith, seven, above, types)) (section_variables vs)
+    (declare_variables naming_by_spelling (constructors_before_variables i b) (section_variables vs) (frame_before g)) (declare_variables naming_by_spelling (constructors_before_variables i b) (leaf edit jv (section_variables vs)) (frame_after edit g))
+    (variables-kept edit w lit (constructors_before_variables i b) jv (first_variable_ordinal k b) g left.sound (omega (arith, seven, above, types)) (section_variables vs)
     (subst (λ scope. EachVariable (Here edit w) jv scope (first_variable_ordinal k b) (section_variables vs)) (sym left.scoped) here.2)
     (λ l m. types-outside edit w (knowns f.marks) k b has_value (omega (arith, l, types)) m))
     (λ h last.

@@ -7,7 +7,7 @@ use Rattle.ob0_tree.specs.Tree.{Tree, begins, block, body, constant, declares_co
 use Rattle.ob0_language_names.specs.Names.{Naming}
 use Rattle.ob0_language_names.specs.Parts.{block_constants, block_procedures, block_statements, block_types, block_variables, module_block, names_in_list, procedure_block, procedure_formals, procedure_name}
 use Rattle.ob0_language_names.proofs.SameNames.{map_names-id}
-use Rattle.ob0_language_types.specs.Declarations.{constructor_after_formals, constructor_after_types, constructor_after_variables, declare_constants, declare_first, declare_types, procedure_constructor_count}
+use Rattle.ob0_language_types.specs.Declarations.{constructor_after_formals, constructors_before_variables, constructor_after_variables, declare_constants, declare_first, declare_types, procedure_constructor_count}
 use Rattle.ob0_language_types.specs.Environments.{environment_from_binding, meanings, newest_object, outermost}
 use Rattle.ob0_language_types.specs.Expressions.{Object, a_constant, a_procedure, a_standard, a_type, a_variable}
 use Rattle.ob0_language_types.specs.Typing.{constant_of, constant_value, constructor_count, denoted, type_of_name}
@@ -199,10 +199,10 @@ module _ {N : Type 0} (naming : Naming N) where
   unfolding declare_block
   block-is at k b f g h =
       option-then (EnvironmentIs at) (FrameGrown at) (declare_first naming f.env k b) (declare_first naming g.env k b)
-      (λ env. option_map (declare_procedures_in_frame (constructor_after_variables k b) (block_procedures b)) (declare_variables naming (constructor_after_types k b) (block_variables b) record { env = env; store = f.store }))
-      (λ env. option_map (declare_procedures_in_frame (constructor_after_variables k b) (block_procedures b)) (declare_variables naming (constructor_after_types k b) (block_variables b) record { env = env; store = g.store })) (first-are at f.env g.env k b h.same_bindings)
-      (λ env other same. declare_procedures_in_frame-are at (constructor_after_variables k b) (block_procedures b) (declare_variables naming (constructor_after_types k b) (block_variables b) record { env = env; store = f.store }) (declare_variables naming (constructor_after_types k b) (block_variables b) record { env = other; store = g.store })
-      (variables-are at (constructor_after_types k b) (block_variables b) record { env = env; store = f.store } record { env = other; store = g.store } record { same_variables = h.same_variables; same_bindings = same }))
+      (λ env. option_map (declare_procedures_in_frame (constructor_after_variables k b) (block_procedures b)) (declare_variables naming (constructors_before_variables k b) (block_variables b) record { env = env; store = f.store }))
+      (λ env. option_map (declare_procedures_in_frame (constructor_after_variables k b) (block_procedures b)) (declare_variables naming (constructors_before_variables k b) (block_variables b) record { env = env; store = g.store })) (first-are at f.env g.env k b h.same_bindings)
+      (λ env other same. declare_procedures_in_frame-are at (constructor_after_variables k b) (block_procedures b) (declare_variables naming (constructors_before_variables k b) (block_variables b) record { env = env; store = f.store }) (declare_variables naming (constructors_before_variables k b) (block_variables b) record { env = other; store = g.store })
+      (variables-are at (constructors_before_variables k b) (block_variables b) record { env = env; store = f.store } record { env = other; store = g.store } record { same_variables = h.same_variables; same_bindings = same }))
 
   parameter-is : (at : List ℕ) (p : Parameter N) (a b : Argument) (f g : Frame N) → ArgumentIs at a b → FrameIs at f g → OptionIs (FrameGrown at) (bind_parameter p.mode p.name a f) (bind_parameter p.mode p.name b g)
   parameter-is at p a b f g is h = go p.mode a b is

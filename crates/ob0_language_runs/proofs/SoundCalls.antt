@@ -4,12 +4,12 @@ use Rattle.ob0_tree.specs.Tree.{Tree, begins, block, body, constant, declares, d
 use Rattle.ob0_language_names.specs.Names.{Naming, naming_by_spelling}
 use Rattle.ob0_language_names.specs.Parts.{block_statements, formal_sections, names_in_list, procedure_formals, procedure_name, section_constants, section_names, section_type, section_types, section_variables}
 use Rattle.ob0_language_names.proofs.SameNames.{map_names-id}
-use Rattle.ob0_language_types.specs.Declarations.{constructor_after_types, constructor_after_variables, declare_constants, declare_first, declare_types, formals_constructor_count, procedure_constructor_count}
+use Rattle.ob0_language_types.specs.Declarations.{constructors_before_variables, constructor_after_variables, declare_constants, declare_first, declare_types, formals_constructor_count, procedure_constructor_count}
 use Rattle.ob0_language_types.specs.Environments.{environment_from_binding, meanings, newest_object, outermost}
 use Rattle.ob0_language_types.specs.Expressions.{Object, a_constant, a_procedure, a_standard, a_type, a_variable}
 use Rattle.ob0_language_types.specs.Typing.{constant_of, constant_value, constructor_count, denoted, type_of_name}
 use Rattle.ob0_language_values.specs.Values.{FieldShapes, Place, Shape, Store, Stuck, Value, array_shape, copies, count_values, fits, initial, initial_members, next_field_shape, no_field_shape, record_shape}
-use Rattle.ob0_language_types.specs.WellTyped.{FormalParameter, Mode, Signature, TypeEnvironment, TypedParameter, WellTyped, bind_names, bind_typed_parameters, block_fits, body_fits, declare_typed, fits_over, bind_procedure, procedure_fits, procedures_fit, section_mode, signature_of, typed_parameters}
+use Rattle.ob0_language_types.specs.WellTyped.{FormalParameter, Mode, Signature, TypeEnvironment, TypedParameter, WellTyped, bind_names, bind_typed_parameters, block_fits, body_fits, declare_typed, passes_type_check, bind_procedure, procedure_fits, procedures_fit, section_mode, signature_of, typed_parameters}
 use Rattle.ob0_language_types.proofs.Literals.{some_inverse}
 use Rattle.ob0_language_types.proofs.TypeNaturality.{constant_value-map, denoted-map}
 use Rattle.ob0_language_types.proofs.TypesByOrdinal.{typed_parameter}
@@ -215,16 +215,16 @@ pub block-run : {N : Type 0} (naming : Naming N) (typing : StoreTyping) (checked
 unfolding block_fits declare_block
 block-run {N} naming typing checked k (has_body (declares cs ts vs ps) statements) f store env e =
     let b : Tree N block = has_body (declares cs ts vs ps) statements in
-    let (inner, e₁, e₂) = hold-true (option_and_then (declare_typed naming (constructor_after_types k b) (section_variables vs)) (declare_first naming checked k b)) (λ inner. procedures_fit naming inner (constructor_after_variables k b) statements ps) e in
-    let (first, ef, e₃) = then_some (declare_first naming checked k b) (declare_typed naming (constructor_after_types k b) (section_variables vs)) inner e₁ in
+    let (inner, e₁, e₂) = hold-true (option_and_then (declare_typed naming (constructors_before_variables k b) (section_variables vs)) (declare_first naming checked k b)) (λ inner. procedures_fit naming inner (constructor_after_variables k b) statements ps) e in
+    let (first, ef, e₃) = then_some (declare_first naming checked k b) (declare_typed naming (constructors_before_variables k b) (section_variables vs)) inner e₁ in
     let (consts, ec, e₄) = then_some (declare_constants naming checked (section_constants cs)) (λ env. declare_types naming env k (section_types ts)) first ef in
     let (d₁, ed₁, fit₁) = constants-run naming typing checked f.env (section_constants cs) consts env ec in
     let (d₂, ed₂, fit₂) = types-run naming typing consts d₁ k (section_types ts) first fit₁ e₄ in
-    let (g, eg, fit₃) = variables-run naming typing first (constructor_after_types k b) (section_variables vs) inner record { env = d₂; store = f.store } store fit₂ e₃ in
+    let (g, eg, fit₃) = variables-run naming typing first (constructors_before_variables k b) (section_variables vs) inner record { env = d₂; store = f.store } store fit₂ e₃ in
     let (after, fit₄, fits) = procedures-run naming (typing ++ fit₃.0) inner g.env (constructor_after_variables k b) statements ps fit₃.2 e₂ in (
       declare_procedures_in_frame (constructor_after_variables k b) ps g,
       after,
-      ap (option_and_then (λ env. option_map (declare_procedures_in_frame (constructor_after_variables k b) ps) (declare_variables naming (constructor_after_types k b) (section_variables vs) record { env = env; store = f.store }))) (ap (option_and_then (λ env. declare_types naming env k (section_types ts))) ed₁ ∙ ed₂) ∙ ap (option_map (declare_procedures_in_frame (constructor_after_variables k b) ps)) eg,
+      ap (option_and_then (λ env. option_map (declare_procedures_in_frame (constructor_after_variables k b) ps) (declare_variables naming (constructors_before_variables k b) (section_variables vs) record { env = env; store = f.store }))) (ap (option_and_then (λ env. declare_types naming env k (section_types ts))) ed₁ ∙ ed₂) ∙ ap (option_map (declare_procedures_in_frame (constructor_after_variables k b) ps)) eg,
       (fit₃.0, fit₃.1, fit₄),
       fits,
     )
@@ -319,8 +319,8 @@ not-stuck typing (running s) h = λ e. cc
 not-stuck typing (stopped e out) h = h
 
 -- No run of a well-typed module gets stuck.
-pub fitting-run : {N : Type 0} (naming : Naming N) (m : Tree N module_text) (input : List ℤ) (c t : ℕ) → fits_over naming m ≡ true → (run_over naming m input c t).ending ≢ Stuck
-unfolding run_over fits_over
+pub fitting-run : {N : Type 0} (naming : Naming N) (m : Tree N module_text) (input : List ℤ) (c t : ℕ) → passes_type_check naming m ≡ true → (run_over naming m input c t).ending ≢ Stuck
+unfolding run_over passes_type_check
 fitting-run {N} naming (is_module x b closing) input c t h =
     let start : State = record { store = []; input = input; output = [] } in
     let (g, after, eg, fit, fits) = block-run naming [] (outermost naming) 0 b record { env = outermost naming; store = [] } tt (refl, refl, (refl, refl, (refl, refl, (refl, refl, (refl, refl, (refl, refl, (refl, refl, tt))))))) h in

@@ -7,7 +7,7 @@ use Rattle.ob0_tree.specs.Tree.{Tree, assigns, begins, block, body, branches, ca
 use Rattle.ob0_language_names.specs.Names.{Label, Name, Naming, naming_by_label, naming_by_spelling}
 use Rattle.ob0_language_names.specs.Parts.{block_procedures, block_statements, block_variables, module_block, names_in_list, procedure_block, procedure_formals, procedure_name, section_names}
 use Rattle.ob0_language_types.specs.Arguments.{arguments_listed}
-use Rattle.ob0_language_types.specs.Declarations.{constructor_after_formals, constructor_after_types, constructor_after_variables, declare_first, procedure_constructor_count}
+use Rattle.ob0_language_types.specs.Declarations.{constructor_after_formals, constructors_before_variables, constructor_after_variables, declare_first, procedure_constructor_count}
 use Rattle.ob0_language_types.specs.Environments.{Environment, environment_from_binding, meanings, outermost}
 use Rattle.ob0_language_types.specs.Expressions.{Meanings, Object, a_constant, a_procedure, a_standard, a_type, a_variable, designate, evaluate, reads, writes, writes_line}
 use Rattle.ob0_language_types.specs.Typing.{constructor_count, denoted, lone_designator}
@@ -297,7 +297,7 @@ unfoldable pub declare_block : {N : Type 0}
 unfolding declare_first declare_variables
 declare_block naming k b f =
     option_and_then (λ env. option_map (declare_procedures_in_frame (constructor_after_variables k b) (block_procedures b))
-    (declare_variables naming (constructor_after_types k b) (block_variables b)
+    (declare_variables naming (constructors_before_variables k b) (block_variables b)
     record { env = env; store = f.store }))
     (declare_first naming f.env k b)
 

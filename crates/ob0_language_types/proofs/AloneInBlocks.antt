@@ -1,7 +1,7 @@
 -- In a well-typed block, each use of a constant is a whole factor.
 use Rattle.std.proofs.Common.{Bool, List, None, Option, Some, ap, arith, eq-eqb, if◌then◌else◌, le_of_lt, le_refl, length, map, ne_eqb, option_and_then, option_map, subst, suc, sym, true, ℕ, ◌&&◌, ◌++◌, ◌+◌, ◌<◌, ◌==◌, ◌∙◌, ◌∷◌, ◌≡◌, ◌≤◌}
 use Rattle.ob0_tree.specs.Tree.{Tree, begins, block, body, constant, declares, declares_constant, declares_procedure, declares_type, declares_variable, end, further_section, has_body, item, items, maybe, more, none, occurrences, one, procedure, then_section, type_name, variable, written_type}
-use Rattle.ob0_language_names.specs.NonFactorNames.{non_factor_names}
+use Rattle.ob0_language_names.specs.NonFactorNames.{names_beside_factors}
 use Rattle.ob0_language_names.specs.Names.{Name, naming_by_spelling}
 use Rattle.ob0_language_names.specs.Parts.{block_constants, block_types, block_variables, constant_names, formal_names, formal_sections, declared_type_names, names_in_list, section_constants, section_names, section_type, section_types, section_variables, variable_names}
 use Rattle.ob0_language_names.specs.Scopes.{Scope, ordinal_after_block, ordinal_after_names, ordinal_after_procedure, ordinal_after_procedures, declare_names, declare_procedure_names, first_procedure_ordinal, first_type_ordinal, first_variable_ordinal, ordinal_of, procedures_scope, types_scope, variables_scope}
@@ -11,7 +11,7 @@ use Rattle.ob0_language_names.proofs.Ordinals.{ordinal_after_names-append, le-or
 use Rattle.ob0_language_names.proofs.Places.{EachBlock, EachConstant, EachProcedure, EachSection, EachType, EachVariable, Placed}
 use Rattle.ob0_language_values.specs.Values.{Shape, Value, fits}
 use Rattle.ob0_language_types.specs.ConstantValues.{non_constant, value_among, value_in_block, value_in_procedure, value_in_procedures}
-use Rattle.ob0_language_types.specs.Declarations.{constructor_after_types, constructor_after_variables, declare_constants, declare_first, declare_types, formals_constructor_count, procedure_constructor_count}
+use Rattle.ob0_language_types.specs.Declarations.{constructors_before_variables, constructor_after_variables, declare_constants, declare_first, declare_types, formals_constructor_count, procedure_constructor_count}
 use Rattle.ob0_language_types.specs.Environments.{Environment, meanings}
 use Rattle.ob0_language_types.specs.Expressions.{a_constant, a_procedure, a_type, a_variable}
 use Rattle.ob0_language_types.specs.Typing.{constant_value, constructor_count, denoted}
@@ -33,7 +33,7 @@ abbrev pub IsOf : ℕ → Scope Name → Name → Type 0
 IsOf d scope x = ordinal_of naming_by_spelling scope x ≡ Some d
 
 abbrev pub UsesAreFactors : ℕ → Placed
-UsesAreFactors d s j scope t = NoneOf (IsOf d scope) (non_factor_names t)
+UsesAreFactors d s j scope t = NoneOf (IsOf d scope) (names_beside_factors t)
 
 pub holds-constant : {V P Q : Type 0} (edit : Edit) (w : Value) (X : Marks V P → Name → ℕ → P → Type 0) (p : ℕ → P → Q) (n : ℕ) (marks : Marks V P) → Sound edit w X n marks → AreConstant (IsOf edit.constant (scope_marked marks)) (read_meanings p marks) w
 holds-constant edit w X p n marks s x k = read-object_for p marks x ∙ has_value-found edit w p (found marks x) (found-right edit w X n marks x s) (sym (ordinal-found marks x) ∙ k)
@@ -127,7 +127,7 @@ alone-sections edit w i j k marks s seven (more (then_section f) fs) outside ps 
           (ap (λ env. typed_parameters naming_by_spelling env (i + constructor_count t) fs) (sym bound.1) ∙ er)),
     )
 
-pub alone-body : (edit : Edit) (w : Value) (n : ℕ) (marks : Marks Shape Signature) → Checked edit w n marks → (statements : Tree Name (maybe body)) → body_fits naming_by_spelling (read as_signed marks) statements ≡ true → NoneOf (IsOf edit.constant (scope_marked marks)) (non_factor_names statements)
+pub alone-body : (edit : Edit) (w : Value) (n : ℕ) (marks : Marks Shape Signature) → Checked edit w n marks → (statements : Tree Name (maybe body)) → body_fits naming_by_spelling (read as_signed marks) statements ≡ true → NoneOf (IsOf edit.constant (scope_marked marks)) (names_beside_factors statements)
 unfolding body_fits
 alone-body edit w n marks s none h = tt
 alone-body edit w n marks s (one (begins a)) h = sequence-elsewhere (IsOf edit.constant (scope_marked marks)) (read_meanings as_signed marks) w (holds-constant edit w anything as_signed n marks s) a h
@@ -153,8 +153,8 @@ mutual
       let types : first_type_ordinal k b ≤ first_variable_ordinal k b = le-ordinal_after_names (first_type_ordinal k b) (declared_type_names (section_types ts)) in
       let variables : first_variable_ordinal k b ≤ first_procedure_ordinal k b = le-ordinal_after_names (first_variable_ordinal k b) (variable_names (section_variables vs)) in
       let above : k ≤ first_type_ordinal k b = le-ordinal_after_names k (constant_names (section_constants cs)) in
-      let (env₂, e₂, fits) = hold-true (option_and_then (declare_typed naming_by_spelling (constructor_after_types i b) (section_variables vs)) (declare_first naming_by_spelling (read as_signed marks) i b)) (λ inner. procedures_fit naming_by_spelling inner (constructor_after_variables i b) statements ps) h in
-      let (env₁, e₁, f₁) = then_some (declare_first naming_by_spelling (read as_signed marks) i b) (declare_typed naming_by_spelling (constructor_after_types i b) (section_variables vs)) env₂ e₂ in
+      let (env₂, e₂, fits) = hold-true (option_and_then (declare_typed naming_by_spelling (constructors_before_variables i b) (section_variables vs)) (declare_first naming_by_spelling (read as_signed marks) i b)) (λ inner. procedures_fit naming_by_spelling inner (constructor_after_variables i b) statements ps) h in
+      let (env₁, e₁, f₁) = then_some (declare_first naming_by_spelling (read as_signed marks) i b) (declare_typed naming_by_spelling (constructors_before_variables i b) (section_variables vs)) env₂ e₂ in
       let (env₀, e₀, f₀) = constants_first (read as_signed marks) i b env₁ e₁ in
       let (inner₀, left₀, r₀) = agree-some (read as_signed) (read_edited edit as_signed) (LeftTyped edit w (first_type_ordinal k b) (types_scope k b (scope_marked marks)) (declare_constants naming_by_spelling (knowns marks) (section_constants cs)))
       (declare_constants naming_by_spelling (read as_signed marks) (section_constants cs)) (declare_constants naming_by_spelling (read_edited edit as_signed marks) (edited_constants edit j k (section_constants cs)))
@@ -164,8 +164,8 @@ mutual
       (first-edited edit w lit anything as_signed as_signed i j k marks s seven b here has_value) env₁ e₁ in
       let (inner₂, left₂, r₂) = agree-some (read as_signed) (read_edited edit as_signed)
       (LeftTyped edit w (first_procedure_ordinal k b) (procedures_scope k b (scope_marked marks)) (option_map (bind_names (variable_names (section_variables vs)) non_constant) (option_map (bind_names (declared_type_names (section_types ts)) non_constant) (declare_constants naming_by_spelling (knowns marks) (section_constants cs)))))
-      (option_and_then (declare_typed naming_by_spelling (constructor_after_types i b) (section_variables vs)) (declare_first naming_by_spelling (read as_signed marks) i b))
-      (option_and_then (declare_typed naming_by_spelling (constructor_after_types i (edited_block edit j k b)) (block_variables (edited_block edit j k b))) (declare_first naming_by_spelling (read_edited edit as_signed marks) i (edited_block edit j k b)))
+      (option_and_then (declare_typed naming_by_spelling (constructors_before_variables i b) (section_variables vs)) (declare_first naming_by_spelling (read as_signed marks) i b))
+      (option_and_then (declare_typed naming_by_spelling (constructors_before_variables i (edited_block edit j k b)) (block_variables (edited_block edit j k b))) (declare_first naming_by_spelling (read_edited edit as_signed marks) i (edited_block edit j k b)))
       (declarations-edited edit w lit i j k marks s seven b here has_value) env₂ e₂ in
       let later = alone-procedures edit w lit (constructor_after_variables i b) jp js (first_procedure_ordinal k b) inner₂ left₂.sound (omega (arith, seven, above, types, variables)) statements ps
       (subst (λ scope. EachProcedure (Here edit w) jp scope (first_procedure_ordinal k b) ps) (sym left₂.scoped) here.3) (procedures-has_value edit w (knowns marks) (knowns inner₂) k b has_value left₂.value)
@@ -175,16 +175,16 @@ mutual
             (alone-types edit w anything as_signed i jt (first_type_ordinal k b) inner₀ left₀.sound (omega (arith, seven, above)) (section_types ts) (λ l m. types-outside edit w (knowns marks) k b has_value l (omega (arith, m, variables))) env₁
             (ap (λ env. declare_types naming_by_spelling env i (section_types ts)) r₀ ∙ f₀)),
         subst (λ scope. EachVariable (UsesAreFactors d) jv scope (first_variable_ordinal k b) (section_variables vs)) left₁.scoped
-            (alone-variables edit w (constructor_after_types i b) jv (first_variable_ordinal k b) inner₁ left₁.sound (omega (arith, seven, above, types)) (section_variables vs) (λ l m. types-outside edit w (knowns marks) k b has_value (omega (arith, l, types)) m) env₂
-            (ap (declare_typed naming_by_spelling (constructor_after_types i b) (section_variables vs)) r₁ ∙ f₁)),
+            (alone-variables edit w (constructors_before_variables i b) jv (first_variable_ordinal k b) inner₁ left₁.sound (omega (arith, seven, above, types)) (section_variables vs) (λ l m. types-outside edit w (knowns marks) k b has_value (omega (arith, l, types)) m) env₂
+            (ap (declare_typed naming_by_spelling (constructors_before_variables i b) (section_variables vs)) r₁ ∙ f₁)),
         subst (λ scope. EachProcedure (UsesAreFactors d) jp scope (first_procedure_ordinal k b) ps) left₂.scoped later.0,
-        subst (λ scope. NoneOf (IsOf d (declare_procedure_names (first_procedure_ordinal k b) ps scope)) (non_factor_names statements)) left₂.scoped later.1,
+        subst (λ scope. NoneOf (IsOf d (declare_procedure_names (first_procedure_ordinal k b) ps scope)) (names_beside_factors statements)) left₂.scoped later.1,
       )
 
   pub alone-procedures : (edit : Edit) (w : Value) → Literal edit w → (i j js k : ℕ) (marks : Marks Shape Signature) → Checked edit w k marks → 7 ≤ k → (statements : Tree Name (maybe body)) (ps : Tree Name (items procedure))
       → EachProcedure (Here edit w) j (scope_marked marks) k ps → HasValueBetween edit w k (ordinal_after_procedures k ps) (value_in_procedures (knowns marks) edit.constant k ps)
       → procedures_fit naming_by_spelling (read as_signed marks) i statements ps ≡ true
-      → EachProcedure (UsesAreFactors edit.constant) j (scope_marked marks) k ps × NoneOf (IsOf edit.constant (declare_procedure_names k ps (scope_marked marks))) (non_factor_names statements)
+      → EachProcedure (UsesAreFactors edit.constant) j (scope_marked marks) k ps × NoneOf (IsOf edit.constant (declare_procedure_names k ps (scope_marked marks))) (names_beside_factors statements)
   alone-procedures edit w lit i j js k marks s seven statements end here has_value h = (tt, alone-body edit w k marks s statements h)
   alone-procedures edit w lit i j js k marks s seven statements (more (declares_procedure x fs b closing) rest) here has_value h =
       let p : Tree Name (item procedure) = declares_procedure x fs b closing in

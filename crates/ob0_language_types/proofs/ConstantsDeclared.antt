@@ -11,14 +11,14 @@ use Rattle.ob0_language_names.specs.Parts.{block_constants, block_procedures, bl
 use Rattle.ob0_language_names.specs.Scopes.{Scope, ordinal_after_block, ordinal_after_names, ordinal_after_procedure, ordinal_after_procedures, label_from_ordinal, declare_names, first_procedure_ordinal, first_type_ordinal, first_variable_ordinal, numbered, procedures_scope, relabel_block, relabel_constants, relabel_formals, relabel_names, relabel_procedures, relabel_sections, relabel_types, relabel_uses, relabel_variables, types_scope, variables_scope}
 use Rattle.ob0_language_names.proofs.Ordinals.{ordinal_after_names-append, declare_names-append, le-ordinal_after_names, le-ordinal_after_block, le-ordinal_after_procedure, le-ordinal_after_procedures}
 use Rattle.ob0_language_names.proofs.Relabelled.{constants-section, formals-section, names-relabel, types-section, variables-section}
-use Rattle.ob0_language_types.specs.Bindings.{block_bindings, declared_object, list_if_some, bound_object, procedure_bindings, procedures_bindings, bindings_since}
+use Rattle.ob0_language_types.specs.Bindings.{block_bindings, declared_object, list_if_some, object_of_ordinal, procedure_bindings, procedures_bindings, bindings_since}
 use Rattle.ob0_language_types.specs.Declaring.{declare_block, declare_procedure}
 use Rattle.ob0_language_types.specs.ConstantValues.{ConstantEnvironment, keep_constant, non_constant, predeclared_constants, value_among, value_in_block, value_in_procedure, value_in_procedures, value_of_constant}
-use Rattle.ob0_language_types.specs.Declarations.{constructor_after_types, constructor_after_variables, declare_constants, declare_first, declare_types, formals_constructor_count, procedure_constructor_count}
+use Rattle.ob0_language_types.specs.Declarations.{constructors_before_variables, constructor_after_variables, declare_constants, declare_first, declare_types, formals_constructor_count, procedure_constructor_count}
 use Rattle.ob0_language_types.specs.Environments.{environment_from_binding, meanings, newest_object, outermost}
 use Rattle.ob0_language_types.specs.Expressions.{Object, a_constant, a_procedure, a_standard, a_type, a_variable}
 use Rattle.ob0_language_types.specs.Typing.{constant_of, constant_value, constructor_count, denoted}
-use Rattle.ob0_language_types.specs.WellTyped.{Signature, TypeEnvironment, TypedParameter, WellTyped, bind_names, bind_typed_parameters, block_fits, declare_typed, fits_over, bind_procedure, procedure_fits, procedures_fit, typed_parameters}
+use Rattle.ob0_language_types.specs.WellTyped.{Signature, TypeEnvironment, TypedParameter, WellTyped, bind_names, bind_typed_parameters, block_fits, declare_typed, passes_type_check, bind_procedure, procedure_fits, procedures_fit, typed_parameters}
 use Rattle.ob0_language_values.specs.Values.{Shape, Value}
 use Rattle.ob0_language_types.proofs.Agreeing.{Agree, HoldsOf}
 use Rattle.ob0_language_types.proofs.Bound.{headed_bindings, newest_object-append, newest_object-if, or_else, bindings_since-append}
@@ -31,7 +31,7 @@ use Rattle.ob0_language_types.proofs.TypesByOrdinal.{TypeNoted, TypedBelow, Type
 use Rattle.ob0_language_types.proofs.Conditions.{hold-true}
 
 abbrev pub has_value : TypeEnvironment Label → ℕ → Option Value
-has_value env d = constant_of (bound_object env d)
+has_value env d = constant_of (object_of_ordinal env d)
 
 -- holds if all bindings have ordinals from `k` to `n - 1`
 abbrev pub Binds : ℕ → ℕ → TypeEnvironment Label → Type 0
@@ -46,22 +46,22 @@ pub binds-wider : (k n j m : ℕ) (xs : TypeEnvironment Label) → j ≤ k → n
 binds-wider k n j m [] l h a = tt
 binds-wider k n j m (x ∷ xs) l h a = ((a.0.0, a.0.1, omega (arith, l, a.0.2), omega (arith, h, a.0.3)), binds-wider k n j m xs l h a.1)
 
-pub bound-elsewhere : (k n d : ℕ) (xs env : TypeEnvironment Label) → Binds k n xs → (k ≤ d → d < n → ⊥) → bound_object (xs ++ env) d ≡ bound_object env d
+pub bound-elsewhere : (k n d : ℕ) (xs env : TypeEnvironment Label) → Binds k n xs → (k ≤ d → d < n → ⊥) → object_of_ordinal (xs ++ env) d ≡ object_of_ordinal env d
 bound-elsewhere k n d [] env b h = refl
 bound-elsewhere k n d ((x, o) ∷ xs) env b h =
     newest_object-if (same_label (declared d) x) x o (xs ++ env) (environment_from_binding naming_by_label (xs ++ env) (declared d))
-    ∙ ap (λ t. cond t (Some o) (bound_object (xs ++ env) d)) (ap (same_label (declared d)) b.0.1 ∙ ne_eqb d b.0.0 (λ e. h (omega (arith, e, b.0.2)) (omega (arith, e, b.0.3))))
+    ∙ ap (λ t. cond t (Some o) (object_of_ordinal (xs ++ env) d)) (ap (same_label (declared d)) b.0.1 ∙ ne_eqb d b.0.0 (λ e. h (omega (arith, e, b.0.2)) (omega (arith, e, b.0.3))))
     ∙ bound-elsewhere k n d xs env b.1 h
 
 or-none : {A : Type 0} (o : Option A) → or_else o None ≡ o
 or-none None = refl
 or-none (Some a) = refl
 
-pub bound-first : (k n d : ℕ) (xs ys : TypeEnvironment Label) → Binds k n ys → (k ≤ d → d < n → ⊥) → bound_object (xs ++ ys) d ≡ bound_object xs d
+pub bound-first : (k n d : ℕ) (xs ys : TypeEnvironment Label) → Binds k n ys → (k ≤ d → d < n → ⊥) → object_of_ordinal (xs ++ ys) d ≡ object_of_ordinal xs d
 bound-first k n d xs ys b h =
     newest_object-append xs ys (declared d)
-    ∙ ap (or_else (bound_object xs d)) (ap (λ e. bound_object e d) (sym (append-nil ys)) ∙ bound-elsewhere k n d ys [] b h)
-    ∙ or-none (bound_object xs d)
+    ∙ ap (or_else (object_of_ordinal xs d)) (ap (λ e. object_of_ordinal e d) (sym (append-nil ys)) ∙ bound-elsewhere k n d ys [] b h)
+    ∙ or-none (object_of_ordinal xs d)
 
 -- holds if no binding is a constant's
 abbrev pub AllPlain : TypeEnvironment Label → Type 0
@@ -76,7 +76,7 @@ plain-has_value : (env : TypeEnvironment Label) (d : ℕ) → AllPlain env → h
 plain-has_value [] d a = refl
 plain-has_value ((x, o) ∷ env) d a =
     ap constant_of (newest_object-if (same_label (declared d) x) x o env (environment_from_binding naming_by_label env (declared d)))
-    ∙ (elim (same_label (declared d) x) as (λ t. constant_of (cond t (Some o) (bound_object env d)) ≡ None) [ true ↦ a.0 | false ↦ plain-has_value env d a.1 ])
+    ∙ (elim (same_label (declared d) x) as (λ t. constant_of (cond t (Some o) (object_of_ordinal env d)) ≡ None) [ true ↦ a.0 | false ↦ plain-has_value env d a.1 ])
 
 -- holds if both environments give each name the same constant, or none
 abbrev pub Knows : ConstantEnvironment → TypeNoted Name → Type 0
@@ -335,15 +335,15 @@ block-opened known noted j k knows below (has_body (declares cs ts vs ps) statem
     let b' : Tree Label block = relabel_block naming_by_spelling (label_from_ordinal naming_by_spelling) scope k b in
     let kt : ℕ = first_type_ordinal k b in
     let kv : ℕ = first_variable_ordinal k b in
-    let two = then_some (declare_first naming_by_label env j b') (declare_typed naming_by_label (constructor_after_types j b') (block_variables b')) inner h in
+    let two = then_some (declare_first naming_by_label env j b') (declare_typed naming_by_label (constructors_before_variables j b') (block_variables b')) inner h in
     let one = firsts env j b' two.0 two.1 in
     let c : Constants known noted k (section_constants cs) one.0 =
     constants-bound known noted k knows below (section_constants cs) one.0 (ap (declare_constants naming_by_label env) (sym (constants-section naming_by_spelling (label_from_ordinal naming_by_spelling) scope k cs)) ∙ one.1) in
     let t : LeavesPlain c.after kt (declared_type_names (section_types ts)) two.0 = types-bound c.after j kt c.within.1 (section_types ts) two.0
     ((λ i. declare_types naming_by_label (sym c.reads i) j ((ap (λ s. relabel_types naming_by_spelling (label_from_ordinal naming_by_spelling) s kt (section_types ts)) c.within.0 ∙ sym (types-section naming_by_spelling (label_from_ordinal naming_by_spelling) (types_scope k b scope) kt ts)) i)) ∙ one.2) in
     let at_types : typed_scope t.0 ≡ variables_scope k b scope = t.2.within.0 ∙ ap (declare_names kt (declared_type_names (section_types ts))) c.within.0 in
-    let v : LeavesPlain t.0 kv (variable_names (section_variables vs)) inner = variables-bound t.0 (constructor_after_types j b') kv t.2.within.1 (section_variables vs) inner
-    ((λ i. declare_typed naming_by_label (constructor_after_types j b') ((ap (λ s. relabel_variables naming_by_spelling (label_from_ordinal naming_by_spelling) s kv (section_variables vs)) at_types ∙ sym (variables-section naming_by_spelling (label_from_ordinal naming_by_spelling) (variables_scope k b scope) kv vs)) i) (sym t.1 i)) ∙ two.2) in
+    let v : LeavesPlain t.0 kv (variable_names (section_variables vs)) inner = variables-bound t.0 (constructors_before_variables j b') kv t.2.within.1 (section_variables vs) inner
+    ((λ i. declare_typed naming_by_label (constructors_before_variables j b') ((ap (λ s. relabel_variables naming_by_spelling (label_from_ordinal naming_by_spelling) s kv (section_variables vs)) at_types ∙ sym (variables-section naming_by_spelling (label_from_ordinal naming_by_spelling) (variables_scope k b scope) kv vs)) i) (sym t.1 i)) ∙ two.2) in
     record {
       mid = one.0;
       constants = c;
@@ -567,8 +567,8 @@ predeclared-below = (lit< tt, (lit< tt, (lit< tt, (lit< tt, (lit< tt, (lit< tt, 
 pub outermost-binds : Binds 0 7 (outermost naming_by_label)
 outermost-binds = ((6, refl, omega arith, omega arith), ((5, refl, omega arith, omega arith), ((4, refl, omega arith, omega arith), ((3, refl, omega arith, omega arith), ((2, refl, omega arith, omega arith), ((1, refl, omega arith, omega arith), ((0, refl, omega arith, omega arith), tt)))))))
 
-module-evaluates : (m : Tree Name module_text) → fits_over naming_by_label (numbered m) ≡ true → (d : ℕ) → 7 ≤ d → value_in_block predeclared_constants d 7 (module_block m) ≡ constant_of (declared_object m d)
-unfolding fits_over all_known
+module-evaluates : (m : Tree Name module_text) → passes_type_check naming_by_label (numbered m) ≡ true → (d : ℕ) → 7 ≤ d → value_in_block predeclared_constants d 7 (module_block m) ≡ constant_of (declared_object m d)
+unfolding passes_type_check all_known
 module-evaluates (is_module x b closing) h d l =
     let w = block-evaluates predeclared_constants (typed_outermost naming_by_spelling) 0 7 (knows-all (typed_outermost naming_by_spelling)) predeclared-below b h in
     w.has_value_is d l ∙ sym (ap constant_of (bound-first 0 7 d (block_bindings naming_by_label (outermost naming_by_label) 0 (relabel_block naming_by_spelling (label_from_ordinal naming_by_spelling) (typed_scope (typed_outermost naming_by_spelling)) 7 b)) (outermost naming_by_label) outermost-binds (λ a z. omega (arith, l, z))))

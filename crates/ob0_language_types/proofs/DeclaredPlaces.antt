@@ -11,14 +11,14 @@ use Rattle.ob0_language_names.specs.Names.{Label, Name, naming_by_label, naming_
 use Rattle.ob0_language_names.specs.Parts.{block_procedures, block_statements, formal_names, formal_sections, declared_type_names, section_types, section_variables, variable_names, module_block, procedure_formals, procedure_name}
 use Rattle.ob0_language_names.specs.Scopes.{Scope, ordinal_after_block, ordinal_after_names, ordinal_after_procedure, ordinal_after_procedures, label_from_ordinal, declare_names, first_procedure_ordinal, numbered, relabel_block, relabel_formals, relabel_procedures}
 use Rattle.ob0_language_names.proofs.Ordinals.{le-ordinal_after_names, le-ordinal_after_block, le-ordinal_after_procedure, le-ordinal_after_procedures}
-use Rattle.ob0_language_types.specs.Bindings.{block_bindings, list_if_some, module_bindings, bound_object, procedures_bindings}
+use Rattle.ob0_language_types.specs.Bindings.{block_bindings, list_if_some, module_bindings, object_of_ordinal, procedures_bindings}
 use Rattle.ob0_language_types.specs.Bodies.{BlockHas, BodyAt, BindingsMatchDeclarations, ProcedureHas, ProceduresHave, block_bodies, procedure_bodies, procedures_bodies}
 use Rattle.ob0_language_types.specs.Declaring.{declare_block}
 use Rattle.ob0_language_types.specs.ConstantValues.{ConstantEnvironment, non_constant}
 use Rattle.ob0_language_types.specs.Declarations.{constructor_after_variables, formals_constructor_count, procedure_constructor_count}
 use Rattle.ob0_language_types.specs.Environments.{outermost}
 use Rattle.ob0_language_types.specs.Expressions.{Object}
-use Rattle.ob0_language_types.specs.WellTyped.{Signature, TypeEnvironment, TypedParameter, WellTyped, bind_names, bind_typed_parameters, block_fits, fits_over, bind_procedure, procedures_fit, typed_parameters}
+use Rattle.ob0_language_types.specs.WellTyped.{Signature, TypeEnvironment, TypedParameter, WellTyped, bind_names, bind_typed_parameters, block_fits, passes_type_check, bind_procedure, procedures_fit, typed_parameters}
 use Rattle.ob0_language_values.specs.Values.{Shape}
 use Rattle.ob0_language_types.proofs.ConstantsDeclared.{Binds, Entered, FitParts, Knows, Opened, binds-append, binds-wider, block-listed, block-opened, block-parts, block-evaluates, bound-elsewhere, bound-first, knows-all, all_known, opened-above, opened-binds, opened-grown, opened-bindings_since, outermost-binds, predeclared-below, procedure-entered, procedure-parts, procedures-listed, procedures-evaluate}
 use Rattle.ob0_language_types.proofs.Bound.{bind_typed_parameters-append}
@@ -28,18 +28,18 @@ use Rattle.ob0_language_types.proofs.TypesByOrdinal.{TypeNoted, TypedBelow, Type
 
 -- holds if each binding in an environment is also found in a list of bindings
 abbrev pub Includes : TypeEnvironment Label → TypeEnvironment Label → Type 0
-Includes all env = (d : ℕ) (o : Object Shape Signature) → bound_object env d ≡ Some o → bound_object all d ≡ Some o
+Includes all env = (d : ℕ) (o : Object Shape Signature) → object_of_ordinal env d ≡ Some o → object_of_ordinal all d ≡ Some o
 
 -- holds if two lists of bindings bind the ordinals from `k` to `n - 1` in the same way
 abbrev Has : ℕ → ℕ → TypeEnvironment Label → TypeEnvironment Label → Type 0
-Has k n all xs = (d : ℕ) → k ≤ d → d < n → bound_object all d ≡ bound_object xs d
+Has k n all xs = (d : ℕ) → k ≤ d → d < n → object_of_ordinal all d ≡ object_of_ordinal xs d
 
 pub noted-binds : (n : ℕ) (noted : TypeNoted Name) → TypedBelow n noted → Binds 0 n (typed_by_ordinal noted)
 noted-binds n [] below = tt
 noted-binds n (b ∷ noted) below = ((b.ordinal, refl, omega arith, below.0), binds-wider 0 b.ordinal 0 n (typed_by_ordinal noted) (omega arith) (le_of_lt below.0) (noted-binds b.ordinal noted below.1))
 
-pub bound-none : (k n d : ℕ) (xs : TypeEnvironment Label) → Binds k n xs → (k ≤ d → d < n → ⊥) → bound_object xs d ≡ None
-bound-none k n d xs b h = ap (λ e. bound_object e d) (sym (append-nil xs)) ∙ bound-elsewhere k n d xs [] b h
+pub bound-none : (k n d : ℕ) (xs : TypeEnvironment Label) → Binds k n xs → (k ≤ d → d < n → ⊥) → object_of_ordinal xs d ≡ None
+bound-none k n d xs b h = ap (λ e. object_of_ordinal e d) (sym (append-nil xs)) ∙ bound-elsewhere k n d xs [] b h
 
 pub nothing : {A : Type 0} (o : A) → None ≡ Some o → ⊥
 nothing o e = cc
@@ -47,7 +47,7 @@ nothing o e = cc
 holds-grown : (all env own : TypeEnvironment Label) (k n : ℕ) → k ≤ n → Includes all env → Binds 0 k env → Binds k n own → Has k n all own → Includes all (own ++ env)
 holds-grown all env own k n le st envb ownb has = λ d o h. by d o h (nat_lt d k) refl (nat_lt d n) refl
   where
-    by : (d : ℕ) (o : Object Shape Signature) → bound_object (own ++ env) d ≡ Some o → (s : Bool) → nat_lt d k ≡ s → (t : Bool) → nat_lt d n ≡ t → bound_object all d ≡ Some o
+    by : (d : ℕ) (o : Object Shape Signature) → object_of_ordinal (own ++ env) d ≡ Some o → (s : Bool) → nat_lt d k ≡ s → (t : Bool) → nat_lt d n ≡ t → object_of_ordinal all d ≡ Some o
     by d o h true below t e = st d o (sym (bound-elsewhere k n d own env ownb (λ a z. omega (arith, a, ltb-true d k below))) ∙ h)
     by d o h false above true e = has d (ltb-false d k above) (ltb-true d n e) ∙ sym (bound-first 0 k d own env envb (λ a z. omega (arith, z, ltb-false d k above))) ∙ h
     by d o h false above false e =
@@ -81,7 +81,7 @@ module _ (all : TypeEnvironment Label) (Q : TypeEnvironment Label → Type 0) (s
         let listed : block_bindings naming_by_label env j b' ≡ P ++ own =
         block-listed env j b' parts.0 parts.1
         ∙ (λ i. procedures_bindings naming_by_label (o.reads i) jv (relabel_procedures naming_by_spelling (label_from_ordinal naming_by_spelling) (sym o.scoped i) kp ps) ++ opened-bindings_since known noted k b parts.0 o i) in
-        let each : Has k n all (P ++ own) = λ d l m. has d l m ∙ ap (λ e. bound_object e d) listed in
+        let each : Has k n all (P ++ own) = λ d l m. has d l m ∙ ap (λ e. object_of_ordinal e d) listed in
         let inner : Includes all (typed_by_ordinal o.last) = subst (Includes all) (sym (opened-grown known noted k b parts.0 o) ∙ o.reads)
         (holds-grown all env own k kp first st (noted-binds k noted below) own_binds (λ d l m. each d l (omega (arith, m, last)) ∙ bound-elsewhere kp n d P own p.binds (λ a z. omega (arith, a, m)))) in
         let same : parts.0 ≡ inner' = some_inverse (sym parts.1 ∙ given) in (
@@ -128,11 +128,11 @@ module _ (all : TypeEnvironment Label) (Q : TypeEnvironment Label → Type 0) (s
         let listed : procedures_bindings naming_by_label env j (more (declares_procedure (declared k) fs' b' (declared k)) rest') ≡ R ++ (B ++ H) =
         procedures-listed env j statements (declared k) fs' b' (declared k) rest' f
         ∙ (λ i. procedures_bindings naming_by_label (sym e.headed i) jr (relabel_procedures naming_by_spelling (label_from_ordinal naming_by_spelling) (sym e.own_scope i) q rest) ++ (block_bindings naming_by_label (sym e.opened i) jb (relabel_block naming_by_spelling (label_from_ordinal naming_by_spelling) (sym e.scoped i) m b) ++ H)) in
-        let each : Has k n all (R ++ (B ++ H)) = λ d l u. has d l u ∙ ap (λ z. bound_object z d) listed in
+        let each : Has k n all (R ++ (B ++ H)) = λ d l u. has d l u ∙ ap (λ z. object_of_ordinal z d) listed in
         let each_H : Has k m all H = λ d l u.
         each d l (omega (arith, u, inside, last)) ∙ bound-elsewhere q n d R (B ++ H) later.binds (λ a z. omega (arith, a, u, inside)) ∙ bound-elsewhere m q d B H inside_block.binds (λ a z. omega (arith, a, u)) in
         let each_top : Has k (suc k) all top = λ d l u.
-        each_H d l (omega (arith, u, above)) ∙ ap (λ z. bound_object z d) (bind_typed_parameters-append qs [] top) ∙ bound-elsewhere (suc k) m d (bind_typed_parameters qs []) top e.parameters_bind (λ a z. omega (arith, a, u)) in
+        each_H d l (omega (arith, u, above)) ∙ ap (λ z. object_of_ordinal z d) (bind_typed_parameters-append qs [] top) ∙ bound-elsewhere (suc k) m d (bind_typed_parameters qs []) top e.parameters_bind (λ a z. omega (arith, a, u)) in
         let inner : Includes all (typed_by_ordinal e.inner) = subst (Includes all) (sym (bind_typed_parameters-append qs top env) ∙ sym e.opened)
         (holds-grown all env H k m (omega (arith, above)) st (noted-binds k noted below) e.binds each_H) in
         let following : Includes all (typed_by_ordinal e.own) = subst (Includes all) (sym e.headed)
@@ -151,9 +151,9 @@ module _ (all : TypeEnvironment Label) (Q : TypeEnvironment Label → Type 0) (s
 pub module-has : (Q : TypeEnvironment Label → Type 0) (m : Tree Name module_text)
     → ((n : ℕ) (noted : TypeNoted Name) → TypedBelow n noted → Includes (module_bindings naming_by_label (numbered m)) (typed_by_ordinal noted) → Q (typed_by_ordinal noted))
     → WellTyped m → BlockHas Q (outermost naming_by_label) 0 (module_block (numbered m))
-unfolding WellTyped fits_over all_known
+unfolding WellTyped passes_type_check all_known
 module-has Q (is_module x b closing) so well =
-    let h : fits_over naming_by_label (numbered (is_module x b closing)) ≡ true = sym (numbering_keeps_type_check-holds (is_module x b closing)) ∙ well.1 in
+    let h : passes_type_check naming_by_label (numbered (is_module x b closing)) ≡ true = sym (numbering_keeps_type_check-holds (is_module x b closing)) ∙ well.1 in
     let noted : TypeNoted Name = typed_outermost naming_by_spelling in
     let b' : Tree Label block = relabel_block naming_by_spelling (label_from_ordinal naming_by_spelling) (typed_scope noted) 7 b in
     let B : TypeEnvironment Label = block_bindings naming_by_label (outermost naming_by_label) 0 b' in
@@ -162,9 +162,9 @@ module-has Q (is_module x b closing) so well =
     (λ d o e. first d o e (nat_lt d 7) refl w.binds) b h
     (λ d l m. bound-first 0 7 d B (outermost naming_by_label) outermost-binds (λ a z. omega (arith, l, z)))
   where
-    first : (d : ℕ) (o : Object Shape Signature) → bound_object (outermost naming_by_label) d ≡ Some o → (t : Bool) → nat_lt d 7 ≡ t
+    first : (d : ℕ) (o : Object Shape Signature) → object_of_ordinal (outermost naming_by_label) d ≡ Some o → (t : Bool) → nat_lt d 7 ≡ t
         → Binds 7 (ordinal_after_block 7 b) (block_bindings naming_by_label (outermost naming_by_label) 0 (relabel_block naming_by_spelling (label_from_ordinal naming_by_spelling) (typed_scope (typed_outermost naming_by_spelling)) 7 b))
-        → bound_object (block_bindings naming_by_label (outermost naming_by_label) 0 (relabel_block naming_by_spelling (label_from_ordinal naming_by_spelling) (typed_scope (typed_outermost naming_by_spelling)) 7 b) ++ outermost naming_by_label) d ≡ Some o
+        → object_of_ordinal (block_bindings naming_by_label (outermost naming_by_label) 0 (relabel_block naming_by_spelling (label_from_ordinal naming_by_spelling) (typed_scope (typed_outermost naming_by_spelling)) 7 b) ++ outermost naming_by_label) d ≡ Some o
     first d o e true t binds = bound-elsewhere 7 (ordinal_after_block 7 b) d (block_bindings naming_by_label (outermost naming_by_label) 0 (relabel_block naming_by_spelling (label_from_ordinal naming_by_spelling) (typed_scope (typed_outermost naming_by_spelling)) 7 b)) (outermost naming_by_label) binds (λ a z. omega (arith, a, ltb-true d 7 t)) ∙ e
     first d o e false t binds = absurd (nothing o (sym (bound-none 0 7 d (outermost naming_by_label) outermost-binds (λ a z. omega (arith, z, ltb-false d 7 t))) ∙ e))
 

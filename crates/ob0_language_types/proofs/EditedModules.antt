@@ -11,7 +11,7 @@ use Rattle.ob0_language_names.proofs.Places.{AllAt, Both, Each, EachBlock, each-
 use Rattle.ob0_language_values.specs.Values.{Value, boolean_shape, elements, integer_shape, members, number, truth}
 use Rattle.ob0_language_types.specs.EditLaws.{AreUsesOf, InliningKeepsWellTyped, IsConstantWritten, MeansPredeclaredTruth, RemovingUnusedKeepsWellTyped}
 use Rattle.ob0_language_types.specs.Expressions.{Object, a_constant, a_standard, a_type, reads, writes, writes_line}
-use Rattle.ob0_language_types.specs.WellTyped.{WellTyped, block_fits, fits_over}
+use Rattle.ob0_language_types.specs.WellTyped.{WellTyped, block_fits, passes_type_check}
 use Rattle.ob0_language_types.proofs.EditedTypes.{Checked, anything, as_signed, block_fits-edited}
 use Rattle.ob0_language_types.proofs.Leaves.{AllStay, Here, Literal, Writes, shown}
 use Rattle.ob0_language_types.proofs.Literals.{some_inverse}
@@ -78,8 +78,8 @@ pub record IsFitted (edit : Edit) (w : Value) (m : Tree Name module_text) : Type
   pub here : EachBlock (Here edit w) 0 (predeclared_scope naming_by_spelling) 7 (module_block m)
   pub has_value : value_in_block predeclared_constants edit.constant 7 (module_block m) ≡ Some w
 
-pub fits-edited : (edit : Edit) (w : Value) (m : Tree Name module_text) → IsFitted edit w m → fits_over naming_by_spelling (edited edit m) ≡ fits_over naming_by_spelling m
-unfolding fits_over
+pub fits-edited : (edit : Edit) (w : Value) (m : Tree Name module_text) → IsFitted edit w m → passes_type_check naming_by_spelling (edited edit m) ≡ passes_type_check naming_by_spelling m
+unfolding passes_type_check
 fits-edited edit w (is_module x b closing) h =
     let sound : Checked edit w 7 marked_outermost = outermost-sound edit w anything h.literal.ordinal in
     ap (λ env. block_fits naming_by_spelling env 0 (edited_block edit 0 7 b)) (sym (read_edited-below edit w anything as_signed 7 marked_outermost sound h.literal.ordinal))

@@ -9,7 +9,7 @@ use Rattle.ob0_language_names.proofs.Ordinals.{ordinal_after_names-append, le-or
 use Rattle.ob0_language_names.proofs.Places.{EachBlock, EachProcedure, EachSection, EachVariable}
 use Rattle.ob0_language_values.specs.Values.{Shape, Value, elements, members, number, truth}
 use Rattle.ob0_language_types.specs.ConstantValues.{ConstantEnvironment, non_constant, value_in_block, value_in_procedure, value_in_procedures}
-use Rattle.ob0_language_types.specs.Declarations.{constructor_after_types, constructor_after_variables, declare_constants, declare_first, formals_constructor_count, procedure_constructor_count, types_constructor_count, variables_constructor_count}
+use Rattle.ob0_language_types.specs.Declarations.{constructors_before_variables, constructor_after_variables, declare_constants, declare_first, formals_constructor_count, procedure_constructor_count, types_constructor_count, variables_constructor_count}
 use Rattle.ob0_language_types.specs.EditLaws.{IsScalar}
 use Rattle.ob0_language_types.specs.Environments.{meanings}
 use Rattle.ob0_language_types.specs.Expressions.{Meanings, a_procedure, a_variable}
@@ -173,8 +173,8 @@ pub declarations-edited : (edit : Edit) (w : Value) → Literal edit w → (i j 
     → EachBlock (Here edit w) j (scope_marked marks) k b → HasValueBetween edit w k (ordinal_after_block k b) (value_in_block (knowns marks) edit.constant k b)
     → Agree (read as_signed) (read_edited edit as_signed)
     (LeftTyped edit w (first_procedure_ordinal k b) (procedures_scope k b (scope_marked marks)) (option_map (bind_names (variable_names (block_variables b)) non_constant) (option_map (bind_names (declared_type_names (block_types b)) non_constant) (declare_constants naming_by_spelling (knowns marks) (block_constants b)))))
-    (option_and_then (declare_typed naming_by_spelling (constructor_after_types i b) (block_variables b)) (declare_first naming_by_spelling (read as_signed marks) i b))
-    (option_and_then (declare_typed naming_by_spelling (constructor_after_types i (edited_block edit j k b)) (block_variables (edited_block edit j k b))) (declare_first naming_by_spelling (read_edited edit as_signed marks) i (edited_block edit j k b)))
+    (option_and_then (declare_typed naming_by_spelling (constructors_before_variables i b) (block_variables b)) (declare_first naming_by_spelling (read as_signed marks) i b))
+    (option_and_then (declare_typed naming_by_spelling (constructors_before_variables i (edited_block edit j k b)) (block_variables (edited_block edit j k b))) (declare_first naming_by_spelling (read_edited edit as_signed marks) i (edited_block edit j k b)))
 declarations-edited edit w lit i j k marks s seven (has_body (declares cs ts vs ps) statements) here has_value =
     let b : Tree Name block = has_body (declares cs ts vs ps) statements in
     let jt : ℕ = j + length (occurrences cs) in
@@ -184,19 +184,19 @@ declarations-edited edit w lit i j k marks s seven (has_body (declares cs ts vs 
     let above : k ≤ first_type_ordinal k b = le-ordinal_after_names k (constant_names (section_constants cs)) in
     let Middle : Marks Shape Signature → Type 0 = LeftTyped edit w (first_variable_ordinal k b) (variables_scope k b (scope_marked marks)) known in
     let Result : Marks Shape Signature → Type 0 = LeftTyped edit w (first_procedure_ordinal k b) (procedures_scope k b (scope_marked marks)) (option_map (bind_names (variable_names (section_variables vs)) non_constant) known) in
-    subst₂ (λ n gs. Agree (read as_signed) (read_edited edit as_signed) Result (option_and_then (declare_typed naming_by_spelling (constructor_after_types i b) (section_variables vs)) (declare_first naming_by_spelling (read as_signed marks) i b))
+    subst₂ (λ n gs. Agree (read as_signed) (read_edited edit as_signed) Result (option_and_then (declare_typed naming_by_spelling (constructors_before_variables i b) (section_variables vs)) (declare_first naming_by_spelling (read as_signed marks) i b))
     (option_and_then (declare_typed naming_by_spelling (i + n) gs) (declare_first naming_by_spelling (read_edited edit as_signed marks) i (edited_block edit j k b))))
     (sym (ap types_constructor_count (types-of edit jt ts) ∙ types_constructor_count-leaf edit jt (section_types ts))) (sym (variables-of edit jv vs))
     (agree-then (read as_signed) (read_edited edit as_signed) Middle (read as_signed) (read_edited edit as_signed) Result
-    (declare_typed naming_by_spelling (constructor_after_types i b) (section_variables vs)) (declare_typed naming_by_spelling (constructor_after_types i b) (leaf edit jv (section_variables vs)))
+    (declare_typed naming_by_spelling (constructors_before_variables i b) (section_variables vs)) (declare_typed naming_by_spelling (constructors_before_variables i b) (leaf edit jv (section_variables vs)))
     (declare_first naming_by_spelling (read as_signed marks) i b) (declare_first naming_by_spelling (read_edited edit as_signed marks) i (edited_block edit j k b))
     (first-edited edit w lit anything as_signed as_signed i j k marks s seven b here has_value)
     (λ inner left. agree-weaken (read as_signed) (read_edited edit as_signed)
     (LeftTyped edit w (first_procedure_ordinal k b) (declare_names (first_variable_ordinal k b) (variable_names (section_variables vs)) (scope_marked inner)) (Some (bind_names (variable_names (section_variables vs)) non_constant (knowns inner)))) Result
-    (declare_typed naming_by_spelling (constructor_after_types i b) (section_variables vs) (read as_signed inner)) (declare_typed naming_by_spelling (constructor_after_types i b) (leaf edit jv (section_variables vs)) (read_edited edit as_signed inner))
+    (declare_typed naming_by_spelling (constructors_before_variables i b) (section_variables vs) (read as_signed inner)) (declare_typed naming_by_spelling (constructors_before_variables i b) (leaf edit jv (section_variables vs)) (read_edited edit as_signed inner))
     (λ m last. left-then edit w anything (first_procedure_ordinal k b) (declare_names (first_variable_ordinal k b) (variable_names (section_variables vs)) (scope_marked inner)) (scope_marked inner) (procedures_scope k b (scope_marked marks)) (bind_names (variable_names (section_variables vs)) non_constant) known (knowns inner) m
     (ap (declare_names (first_variable_ordinal k b) (variable_names (section_variables vs))) left.scoped) left.value last)
-    (variables-edited edit w lit (constructor_after_types i b) jv (first_variable_ordinal k b) inner left.sound (omega (arith, seven, above, types)) (section_variables vs)
+    (variables-edited edit w lit (constructors_before_variables i b) jv (first_variable_ordinal k b) inner left.sound (omega (arith, seven, above, types)) (section_variables vs)
     (subst (λ scope. EachVariable (Here edit w) jv scope (first_variable_ordinal k b) (section_variables vs)) (sym left.scoped) here.2)
     (λ l m. types-outside edit w (knowns marks) k b has_value (omega (arith, l, types)) m))))
 
@@ -230,8 +230,8 @@ mutual
       let above : k ≤ first_procedure_ordinal k b = procedures-below k b in
       hold-agrees (read as_signed) (read_edited edit as_signed)
       (LeftTyped edit w (first_procedure_ordinal k b) (procedures_scope k b (scope_marked marks)) (option_map (bind_names (variable_names (section_variables vs)) non_constant) (option_map (bind_names (declared_type_names (section_types ts)) non_constant) (declare_constants naming_by_spelling (knowns marks) (section_constants cs)))))
-      (option_and_then (declare_typed naming_by_spelling (constructor_after_types i b) (section_variables vs)) (declare_first naming_by_spelling (read as_signed marks) i b))
-      (option_and_then (declare_typed naming_by_spelling (constructor_after_types i b') (block_variables b')) (declare_first naming_by_spelling (read_edited edit as_signed marks) i b'))
+      (option_and_then (declare_typed naming_by_spelling (constructors_before_variables i b) (section_variables vs)) (declare_first naming_by_spelling (read as_signed marks) i b))
+      (option_and_then (declare_typed naming_by_spelling (constructors_before_variables i b') (block_variables b')) (declare_first naming_by_spelling (read_edited edit as_signed marks) i b'))
       (λ inner. procedures_fit naming_by_spelling inner (constructor_after_variables i b) statements ps)
       (λ inner. procedures_fit naming_by_spelling inner (constructor_after_variables i b') (leaf edit js statements) (edited_procedures edit jp (first_procedure_ordinal k b) ps))
       (declarations-edited edit w lit i j k marks s seven b here has_value)

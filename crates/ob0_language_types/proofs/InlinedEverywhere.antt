@@ -13,7 +13,7 @@ use Rattle.ob0_language_names.proofs.Peeling.{both}
 use Rattle.ob0_language_names.proofs.Places.{AllAt, Both, Each, EachBlock, Placed, both-block, each-block}
 use Rattle.ob0_language_values.specs.Values.{Value, elements, members, number, truth}
 use Rattle.ob0_language_types.specs.EditLaws.{InliningEverywhereKeepsWellTyped, IsConstantWritten, MeansPredeclaredTruth}
-use Rattle.ob0_language_types.specs.WellTyped.{WellTyped, fits_over}
+use Rattle.ob0_language_types.specs.WellTyped.{WellTyped, passes_type_check}
 use Rattle.ob0_language_types.specs.Written.{value_literal}
 use Rattle.ob0_language_types.proofs.AloneInBlocks.{IsOf, UsesAreFactors, alone-block}
 use Rattle.ob0_language_types.proofs.EditedModules.{IsFitted, IsShownAs, all-at, all-shown, label_ordinal-of, marked_outermost, outermost-sound, seven-or-less, shown-from, truth_name, well_typed-edited}
@@ -98,7 +98,7 @@ bound-exactly m d i l e =
 
 -- In a well-typed module each use of the constant is a whole factor.
 pub alone-module : (m : Tree Name module_text) (d : ℕ) (w : Value) (v : Tree Name factor) → IsConstantWritten m d w v → WellTyped m → EachBlock (UsesAreFactors d) 0 (predeclared_scope naming_by_spelling) 7 (module_block m)
-unfolding WellTyped fits_over
+unfolding WellTyped passes_type_check
 alone-module (is_module x b closing) d w v c well =
     let m : Tree Name module_text = is_module x b closing in
     let low = seven-or-less m d w c.value in

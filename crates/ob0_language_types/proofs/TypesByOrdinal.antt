@@ -7,12 +7,12 @@ use Rattle.ob0_language_names.specs.Parts.{block_variables, constant_names, form
 use Rattle.ob0_language_names.specs.Scopes.{Labelling, Scope, ordinal_after_names, ordinal_after_procedure, label_from_ordinal, body_scope, declare_names, declare_procedure_names, first_procedure_ordinal, first_type_ordinal, first_variable_ordinal, label_names, label_of, ordinal_of, procedures_scope, relabel_block, relabel_constants, relabel_formals, relabel_procedure, relabel_procedures, relabel_section, relabel_sections, relabel_types, relabel_uses, relabel_variables, relabel_module, types_scope, variables_scope}
 use Rattle.ob0_language_names.proofs.Ordinals.{ordinal_after_names-append, declare_names-append, le-ordinal_after_procedure}
 use Rattle.ob0_language_names.proofs.Relabelled.{constants-section, formals-section, names-relabel, section_names-relabel, section_type-relabel, types-section, variables-section}
-use Rattle.ob0_language_types.specs.Declarations.{constructor_after_types, constructor_after_variables, declare_constants, declare_first, declare_types, formals_constructor_count, procedure_constructor_count, types_constructor_count, variables_constructor_count}
+use Rattle.ob0_language_types.specs.Declarations.{constructors_before_variables, constructor_after_variables, declare_constants, declare_first, declare_types, formals_constructor_count, procedure_constructor_count, types_constructor_count, variables_constructor_count}
 use Rattle.ob0_language_types.specs.Environments.{environment_from_binding, meanings, newest_object}
 use Rattle.ob0_language_types.specs.Expressions.{Object, a_constant, a_procedure, a_standard, a_type, a_variable, reads, writes, writes_line}
 use Rattle.ob0_language_types.specs.Typing.{constant_of, constant_value, constructor_count, denoted, type_of_name}
 use Rattle.ob0_language_values.specs.Values.{Shape, boolean_shape, integer_shape, truth}
-use Rattle.ob0_language_types.specs.WellTyped.{FormalParameter, Signature, TypeEnvironment, TypedParameter, bind_names, bind_typed_parameters, block_fits, body_fits, declare_typed, fits_over, bind_procedure, some_satisfies, procedure_fits, procedures_fit, section_mode, sequence_fits, typed_parameters}
+use Rattle.ob0_language_types.specs.WellTyped.{FormalParameter, Signature, TypeEnvironment, TypedParameter, bind_names, bind_typed_parameters, block_fits, body_fits, declare_typed, passes_type_check, bind_procedure, some_satisfies, procedure_fits, procedures_fit, section_mode, sequence_fits, typed_parameters}
 use Rattle.ob0_language_types.proofs.Agreeing.{Agree, HoldsOf, agree-then, agree-value}
 use Rattle.ob0_language_types.proofs.Constructors.{formals_constructor_count-relabel, procedure_constructor_count-relabel, types_constructor_count-relabel, variables_constructor_count-relabel}
 use Rattle.ob0_language_types.proofs.FitNaturality.{sequence_fits-map}
@@ -269,24 +269,24 @@ firsts_typed {N} naming j k noted below (has_body (declares cs ts vs ps) stateme
 -- A block's constants, types and variables have the same bindings by names and by ordinals.
 pub declarations_typed : {N : Type 0} (naming : Naming N) (j k : ℕ) (noted : TypeNoted N) → TypedBelow k noted → (b : Tree N block)
     → Agree typed_by_name typed_by_ordinal (TypedWithin (first_procedure_ordinal k b) (procedures_scope k b (typed_scope noted)))
-    (option_and_then (declare_typed naming (constructor_after_types j b) (block_variables b)) (declare_first naming (typed_by_name noted) j b))
-    (option_and_then (declare_typed naming_by_label (constructor_after_types j (relabel_block naming (label_from_ordinal naming) (typed_scope noted) k b)) (block_variables (relabel_block naming (label_from_ordinal naming) (typed_scope noted) k b)))
+    (option_and_then (declare_typed naming (constructors_before_variables j b) (block_variables b)) (declare_first naming (typed_by_name noted) j b))
+    (option_and_then (declare_typed naming_by_label (constructors_before_variables j (relabel_block naming (label_from_ordinal naming) (typed_scope noted) k b)) (block_variables (relabel_block naming (label_from_ordinal naming) (typed_scope noted) k b)))
     (declare_first naming_by_label (typed_by_ordinal noted) j (relabel_block naming (label_from_ordinal naming) (typed_scope noted) k b)))
 declarations_typed {N} naming j k noted below (has_body (declares cs ts vs ps) statements) =
     let b : Tree N block = has_body (declares cs ts vs ps) statements in
     let scope : Scope N = typed_scope noted in
     subst₂ (λ n gs. Agree typed_by_name typed_by_ordinal (TypedWithin (first_procedure_ordinal k b) (procedures_scope k b scope))
-    (option_and_then (declare_typed naming (constructor_after_types j b) (section_variables vs)) (declare_first naming (typed_by_name noted) j b))
+    (option_and_then (declare_typed naming (constructors_before_variables j b) (section_variables vs)) (declare_first naming (typed_by_name noted) j b))
     (option_and_then (declare_typed naming_by_label (j + n) gs) (declare_first naming_by_label (typed_by_ordinal noted) j (relabel_block naming (label_from_ordinal naming) scope k b))))
     (sym (ap types_constructor_count (types-section naming (label_from_ordinal naming) (types_scope k b scope) (first_type_ordinal k b) ts) ∙ types_constructor_count-relabel naming (label_from_ordinal naming) (types_scope k b scope) (first_type_ordinal k b) (section_types ts)))
     (sym (variables-section naming (label_from_ordinal naming) (variables_scope k b scope) (first_variable_ordinal k b) vs))
     (agree-then typed_by_name typed_by_ordinal (TypedWithin (first_variable_ordinal k b) (variables_scope k b scope)) typed_by_name typed_by_ordinal (TypedWithin (first_procedure_ordinal k b) (procedures_scope k b scope))
-    (declare_typed naming (constructor_after_types j b) (section_variables vs)) (declare_typed naming_by_label (constructor_after_types j b) (relabel_variables naming (label_from_ordinal naming) (variables_scope k b scope) (first_variable_ordinal k b) (section_variables vs)))
+    (declare_typed naming (constructors_before_variables j b) (section_variables vs)) (declare_typed naming_by_label (constructors_before_variables j b) (relabel_variables naming (label_from_ordinal naming) (variables_scope k b scope) (first_variable_ordinal k b) (section_variables vs)))
     (declare_first naming (typed_by_name noted) j b) (declare_first naming_by_label (typed_by_ordinal noted) j (relabel_block naming (label_from_ordinal naming) scope k b))
     (firsts_typed naming j k noted below b)
     (λ inner within. subst (λ s. Agree typed_by_name typed_by_ordinal (TypedWithin (first_procedure_ordinal k b) (declare_names (first_variable_ordinal k b) (variable_names (section_variables vs)) s))
-    (declare_typed naming (constructor_after_types j b) (section_variables vs) (typed_by_name inner)) (declare_typed naming_by_label (constructor_after_types j b) (relabel_variables naming (label_from_ordinal naming) s (first_variable_ordinal k b) (section_variables vs)) (typed_by_ordinal inner)))
-    within.0 (variables_typed naming (constructor_after_types j b) (first_variable_ordinal k b) inner within.1 (section_variables vs))))
+    (declare_typed naming (constructors_before_variables j b) (section_variables vs) (typed_by_name inner)) (declare_typed naming_by_label (constructors_before_variables j b) (relabel_variables naming (label_from_ordinal naming) s (first_variable_ordinal k b) (section_variables vs)) (typed_by_ordinal inner)))
+    within.0 (variables_typed naming (constructors_before_variables j b) (first_variable_ordinal k b) inner within.1 (section_variables vs))))
 
 pub body_fits-agrees : {N : Type 0} (naming : Naming N) (n : ℕ) (noted : TypeNoted N) → TypedBelow n noted → (statements : Tree N (maybe body)) → body_fits naming_by_label (typed_by_ordinal noted) (map_names (typed_label naming noted) (label_from_ordinal naming None) statements) ≡ body_fits naming (typed_by_name noted) statements
 unfolding body_fits
@@ -302,8 +302,8 @@ mutual
   block_fits-agrees {N} naming j k noted below (has_body (declares cs ts vs ps) statements) =
       let b : Tree N block = has_body (declares cs ts vs ps) statements in
       hold-agrees typed_by_name typed_by_ordinal (TypedWithin (first_procedure_ordinal k b) (procedures_scope k b (typed_scope noted)))
-      (option_and_then (declare_typed naming (constructor_after_types j b) (section_variables vs)) (declare_first naming (typed_by_name noted) j b))
-      (option_and_then (declare_typed naming_by_label (constructor_after_types j (relabel_block naming (label_from_ordinal naming) (typed_scope noted) k b)) (block_variables (relabel_block naming (label_from_ordinal naming) (typed_scope noted) k b)))
+      (option_and_then (declare_typed naming (constructors_before_variables j b) (section_variables vs)) (declare_first naming (typed_by_name noted) j b))
+      (option_and_then (declare_typed naming_by_label (constructors_before_variables j (relabel_block naming (label_from_ordinal naming) (typed_scope noted) k b)) (block_variables (relabel_block naming (label_from_ordinal naming) (typed_scope noted) k b)))
       (declare_first naming_by_label (typed_by_ordinal noted) j (relabel_block naming (label_from_ordinal naming) (typed_scope noted) k b)))
       (λ inner. procedures_fit naming inner (constructor_after_variables j b) statements ps)
       (λ inner. procedures_fit naming_by_label inner (constructor_after_variables j (relabel_block naming (label_from_ordinal naming) (typed_scope noted) k b)) (relabel_uses naming (label_from_ordinal naming) (body_scope k b (typed_scope noted)) statements)
@@ -352,7 +352,7 @@ typed_outermost naming =
     ∷ record { name = naming.predeclared 3; ordinal = 3; object = a_constant (truth false) } ∷ record { name = naming.predeclared 2; ordinal = 2; object = a_constant (truth true) }
     ∷ record { name = naming.predeclared 1; ordinal = 1; object = a_type boolean_shape } ∷ record { name = naming.predeclared 0; ordinal = 0; object = a_type integer_shape } ∷ []
 
-pub fits-relabel : {N : Type 0} (naming : Naming N) (m : Tree N module_text) → fits_over naming_by_label (relabel_module naming (label_from_ordinal naming) m) ≡ fits_over naming m
-unfolding fits_over
+pub fits-relabel : {N : Type 0} (naming : Naming N) (m : Tree N module_text) → passes_type_check naming_by_label (relabel_module naming (label_from_ordinal naming) m) ≡ passes_type_check naming m
+unfolding passes_type_check
 fits-relabel naming (is_module x b closing) =
     block_fits-agrees naming 0 7 (typed_outermost naming) (lit< tt, (lit< tt, (lit< tt, (lit< tt, (lit< tt, (lit< tt, (lit< tt, tt))))))) b

@@ -76,14 +76,14 @@ module_bindings naming m =
     block_bindings naming (outermost naming) 0 (module_block m) ++ outermost naming
 
 -- returns the object in the newest binding of the ordinal `k`; None if no binding is for `k`
-abbrev pub bound_object : TypeEnvironment Label → ℕ → Option (Object Shape Signature)
-bound_object bindings k = newest_object (environment_from_binding naming_by_label bindings (declared k))
+abbrev pub object_of_ordinal : TypeEnvironment Label → ℕ → Option (Object Shape Signature)
+object_of_ordinal bindings k = newest_object (environment_from_binding naming_by_label bindings (declared k))
 
 -- Returns the object of the declaration with ordinal `k`. A declaration's ordinal is its number in text order, after
 -- the predeclared names 0 to 6. Looks for `k` in the bindings of the numbered tree, in which ordinals replace names.
 -- Returns None if no binding is for `k`.
 abbrev pub declared_object : Tree Name module_text → ℕ → Option (Object Shape Signature)
-declared_object m k = bound_object (module_bindings naming_by_label (numbered m)) k
+declared_object m k = object_of_ordinal (module_bindings naming_by_label (numbered m)) k
 
 -- returns the type of a variable or parameter; None for any other object
 abbrev pub variable_shape : {P : Type 0} → Option (Object Shape P) → Option Shape

@@ -5,7 +5,7 @@ use Rattle.ob0_tree.specs.Tree.{Tree, block, body, declares, declares_procedure,
 use Rattle.ob0_language_names.specs.Names.{Label, Name, Naming, naming_by_label}
 use Rattle.ob0_language_names.specs.Parts.{formal_sections, module_block, procedure_formals, procedure_name}
 use Rattle.ob0_language_names.specs.Scopes.{numbered}
-use Rattle.ob0_language_types.specs.Bindings.{declared_object, list_if_some, bound_object}
+use Rattle.ob0_language_types.specs.Bindings.{declared_object, list_if_some, object_of_ordinal}
 use Rattle.ob0_language_types.specs.Declaring.{declare_block}
 use Rattle.ob0_language_types.specs.Declarations.{constructor_after_variables, formals_constructor_count, procedure_constructor_count}
 use Rattle.ob0_language_types.specs.Environments.{outermost}
@@ -122,5 +122,5 @@ abbrev pub BindingsMatchDeclarations : Type 0
 BindingsMatchDeclarations =
     (m : Tree Name module_text) → WellTyped m
     → All (λ place. (k : ℕ) (o : Object Shape Signature)
-    → bound_object place.environment k ≡ Some o
+    → object_of_ordinal place.environment k ≡ Some o
     → declared_object m k ≡ Some o) (module_bodies naming_by_label (numbered m))

@@ -89,13 +89,13 @@ abbrev mutual
 
 -- returns the number of words ARRAY and RECORD before a block's variables; `k` of these words are
 -- before the block
-abbrev pub constructor_after_types : {N : Type 0} → ℕ → Tree N block → ℕ
-constructor_after_types k b = k + types_constructor_count (block_types b)
+abbrev pub constructors_before_variables : {N : Type 0} → ℕ → Tree N block → ℕ
+constructors_before_variables k b = k + types_constructor_count (block_types b)
 
 -- returns the number of words ARRAY and RECORD before a block's procedures; `k` of these words are
 -- before the block
 abbrev pub constructor_after_variables : {N : Type 0} → ℕ → Tree N block → ℕ
-constructor_after_variables k b = constructor_after_types k b + variables_constructor_count (block_variables b)
+constructor_after_variables k b = constructors_before_variables k b + variables_constructor_count (block_variables b)
 
 -- returns the number of words ARRAY and RECORD before a procedure's block; `k` of these words are
 -- before the procedure

@@ -4,7 +4,7 @@ use Rattle.std.specs.Prelude.{ℕ, if◌then◌else◌, Some, None, Option}
 use Rattle.ob0_tree.specs.Tree.{Tree, block, item, procedure}
 use Rattle.ob0_language_names.specs.Names.{Naming}
 use Rattle.ob0_language_names.specs.Parts.{block_variables, procedure_formals, procedure_name}
-use Rattle.ob0_language_types.specs.Declarations.{constructor_after_types, declare_first}
+use Rattle.ob0_language_types.specs.Declarations.{constructors_before_variables, declare_first}
 use Rattle.ob0_language_types.specs.Typing.{◌>>=◌}
 use Rattle.ob0_language_types.specs.WellTyped.{TypeEnvironment, bind_typed_parameters, declare_typed, bind_procedure, procedure_fits, typed_parameters}
 
@@ -33,4 +33,4 @@ abbrev pub declare_block : {N : Type 0}
     → Tree N block
     → Option (TypeEnvironment N)
 declare_block naming env k b =
-    declare_first naming env k b >>= declare_typed naming (constructor_after_types k b) (block_variables b)
+    declare_first naming env k b >>= declare_typed naming (constructors_before_variables k b) (block_variables b)

@@ -2,7 +2,7 @@
 -- Rule: none; laws of edits and types.
 use Rattle.std.specs.Prelude.{All, IsTrue, Some, codes, false, true, ℕ, ◌≡◌, ◌≢◌}
 use Rattle.ob0_tree.specs.Tree.{Tree, factor, module_text}
-use Rattle.ob0_language_names.specs.NonFactorNames.{non_factor_names}
+use Rattle.ob0_language_names.specs.NonFactorNames.{names_beside_factors}
 use Rattle.ob0_language_names.specs.Inlining.{OccurrenceSet, inlined, inlined_everywhere, module_without}
 use Rattle.ob0_language_names.specs.Names.{Name, declared}
 use Rattle.ob0_language_names.specs.Occurrences.{Free, binds}
@@ -85,4 +85,4 @@ ConstantUsesAreFactors =
     (m : Tree Name module_text) (d : ℕ) (w : Value) (v : Tree Name factor)
     → IsConstantWritten m d w v
     → WellTyped m
-    → All (λ l. l ≢ declared d) (non_factor_names (numbered m))
+    → All (λ l. l ≢ declared d) (names_beside_factors (numbered m))

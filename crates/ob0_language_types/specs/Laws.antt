@@ -9,13 +9,13 @@ use Rattle.ob0_language_types.specs.Expressions.{Meanings, a_constant, evaluate,
 use Rattle.ob0_language_types.specs.Typing.{constant_of, constant_value, type_of, type_of_factor, value_type}
 use Rattle.ob0_language_values.specs.Values.{Place, Store, Value, gives}
 use Rattle.ob0_language_names.specs.DeclaredOnce.{declared_once}
-use Rattle.ob0_language_types.specs.WellTyped.{Mode, TypeMeanings, WellTyped, fits_over}
+use Rattle.ob0_language_types.specs.WellTyped.{Mode, TypeMeanings, WellTyped, passes_type_check}
 
 -- States that the type check by names accepts a module exactly if the type check by ordinals accepts the module's
 -- numbered tree.
 abbrev pub NumberingKeepsTypeCheck : Type 0
 NumberingKeepsTypeCheck =
-    (m : Tree Name module_text) → fits_over naming_by_spelling m ≡ fits_over naming_by_label (numbered m)
+    (m : Tree Name module_text) → passes_type_check naming_by_spelling m ≡ passes_type_check naming_by_label (numbered m)
 
 -- States that two modules with the same numbered tree are both well-typed or neither is. Both modules must declare no
 -- name twice in a block or record, and each closing name must equal the name of its module or procedure.

@@ -323,8 +323,8 @@ lone_designator _ = None
 
 -- returns the type that belongs to an object: the type itself if the object is a type, or the type of a variable,
 -- parameter or constant; None for any other object
-abbrev pub type_of_declaration : {P : Type 0} → Option (Object Shape P) → Option Shape
-type_of_declaration (Some (a_type s)) = Some s
-type_of_declaration (Some (a_variable s)) = Some s
-type_of_declaration (Some (a_constant v)) = value_type v
-type_of_declaration _ = None
+abbrev pub type_of_object : {P : Type 0} → Option (Object Shape P) → Option Shape
+type_of_object (Some (a_type s)) = Some s
+type_of_object (Some (a_variable s)) = Some s
+type_of_object (Some (a_constant v)) = value_type v
+type_of_object _ = None

@@ -6,7 +6,7 @@ use Rattle.ob0_language_names.specs.DeclaredOnce.{declared_once}
 use Rattle.ob0_language_names.specs.Names.{Name, Naming, naming_by_spelling, same_name}
 use Rattle.ob0_language_names.specs.Parts.{formal_sections, module_block, names_in_list, procedure_formals, procedure_name, section_names, section_type, section_variables}
 use Rattle.ob0_language_types.specs.Arguments.{arguments_listed}
-use Rattle.ob0_language_types.specs.Declarations.{constructor_after_types, constructor_after_variables, declare_first, formals_constructor_count, procedure_constructor_count}
+use Rattle.ob0_language_types.specs.Declarations.{constructors_before_variables, constructor_after_variables, declare_first, formals_constructor_count, procedure_constructor_count}
 use Rattle.ob0_language_types.specs.Environments.{Environment, meanings, outermost}
 use Rattle.ob0_language_types.specs.Expressions.{Meanings, Object, a_procedure, a_standard, a_variable, reads, writes, writes_line}
 use Rattle.ob0_language_types.specs.Typing.{constructor_count, denoted, lone_designator, type_at, type_of, ◌>>=◌}
@@ -250,7 +250,7 @@ unfoldable mutual
   block_fits naming env k (has_body (declares cs ts vs ps) statements) =
       some_satisfies (do
         first ← declare_first naming env k (has_body (declares cs ts vs ps) statements)
-        declare_typed naming (constructor_after_types k (has_body (declares cs ts vs ps) statements))
+        declare_typed naming (constructors_before_variables k (has_body (declares cs ts vs ps) statements))
             (section_variables vs) first)
       (λ inner. procedures_fit naming inner
       (constructor_after_variables k (has_body (declares cs ts vs ps) statements)) statements ps)
@@ -285,12 +285,12 @@ unfoldable mutual
 
 -- returns whether a module passes the type check; this check ignores names that are declared twice and wrong closing
 -- names
-unfoldable pub fits_over : {N : Type 0} → Naming N → Tree N module_text → Bool
+unfoldable pub passes_type_check : {N : Type 0} → Naming N → Tree N module_text → Bool
 unfolding block_fits
-fits_over naming m = block_fits naming (outermost naming) 0 (module_block m)
+passes_type_check naming m = block_fits naming (outermost naming) 0 (module_block m)
 
 -- states that a module is well-typed: it passes the type check, it declares no name twice in a block or record, and its
 -- closing names are right
 unfoldable pub WellTyped : Tree Name module_text → Type 0
-unfolding fits_over
-WellTyped m = IsTrue (declared_once m) × IsTrue (fits_over naming_by_spelling m)
+unfolding passes_type_check
+WellTyped m = IsTrue (declared_once m) × IsTrue (passes_type_check naming_by_spelling m)

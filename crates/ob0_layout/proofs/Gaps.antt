@@ -13,7 +13,7 @@ use Rattle.ob0_scan.specs.Classes.{is_space}
 use Rattle.ob0_scan.specs.Lexed.{Lexeme, joined}
 use Rattle.ob0_scan.specs.TextWithTokens.{TextWithTokens, IsScan}
 use Rattle.ob0_text.specs.declared.edits.Indent.{Indent}
-use Rattle.ob0_text.specs.Patches.{Cut, pieced}
+use Rattle.ob0_text.specs.Patches.{Cut, text_with_cuts}
 use Rattle.ob0_edits_tokens.proofs.TextCuts.{Chain}
 use Rattle.ob0_layout.specs.declared.gap.Gap.{Gap}
 use Rattle.ob0_layout.specs.declared.gap.Gap.TheVariants.{Nothing, Space, Line}
@@ -86,31 +86,31 @@ module _ (text : List ℕ) where
   ]
 
   -- Gaps that don't change can be omitted.
-  kept_or_changed : (at : ℕ) (cs : List Cut) → AreGaps text at cs → pieced text at (changed_gaps text cs) ≡ pieced text at cs
-  unfolding pieced AreGaps
+  kept_or_changed : (at : ℕ) (cs : List Cut) → AreGaps text at cs → text_with_cuts text at (changed_gaps text cs) ≡ text_with_cuts text at cs
+  unfolding text_with_cuts AreGaps
   kept_or_changed at [] are = refl
   kept_or_changed at (c ∷ cs) are = by_test (bytes_eq (slice_range text c.from c.to) c.new) refl (kept_or_changed c.to cs are.1)
     where
-      by_test : (b : Bool) → bytes_eq (slice_range text c.from c.to) c.new ≡ b → pieced text c.to (changed_gaps text cs) ≡ pieced text c.to cs → pieced text at (changed_gaps text (c ∷ cs)) ≡ pieced text at (c ∷ cs)
+      by_test : (b : Bool) → bytes_eq (slice_range text c.from c.to) c.new ≡ b → text_with_cuts text c.to (changed_gaps text cs) ≡ text_with_cuts text c.to cs → text_with_cuts text at (changed_gaps text (c ∷ cs)) ≡ text_with_cuts text at (c ∷ cs)
       by_test true e more =
           let stays : slice_range text c.from c.to ≡ c.new = (bytes_eq-Decides (slice_range text c.from c.to) c.new).0 e in
-          ap (λ b. pieced text at (cond (not b) (c ∷ changed_gaps text cs) (changed_gaps text cs))) e
+          ap (λ b. text_with_cuts text at (cond (not b) (c ∷ changed_gaps text cs) (changed_gaps text cs))) e
           ∙ pieced_later text at c.to (changed_gaps text cs) (omega (arith, are.0.up, are.0.old.ordered)) (chain c.to (changed_gaps text cs) (changed_are c.to cs are.1))
           ∙ ap (λ xs. take (c.to - at) (drop at text) ++ xs) more
-          ∙ ap (λ xs. xs ++ pieced text c.to cs) (two_parts text at c.from c.to are.0.up are.0.old.ordered)
-          ∙ append_assoc (take (c.from - at) (drop at text)) (slice_range text c.from c.to) (pieced text c.to cs)
-          ∙ ap (λ xs. take (c.from - at) (drop at text) ++ (xs ++ pieced text c.to cs)) stays
+          ∙ ap (λ xs. xs ++ text_with_cuts text c.to cs) (two_parts text at c.from c.to are.0.up are.0.old.ordered)
+          ∙ append_assoc (take (c.from - at) (drop at text)) (slice_range text c.from c.to) (text_with_cuts text c.to cs)
+          ∙ ap (λ xs. take (c.from - at) (drop at text) ++ (xs ++ text_with_cuts text c.to cs)) stays
       by_test false e more =
-          ap (λ b. pieced text at (cond (not b) (c ∷ changed_gaps text cs) (changed_gaps text cs))) e
+          ap (λ b. text_with_cuts text at (cond (not b) (c ∷ changed_gaps text cs) (changed_gaps text cs))) e
           ∙ ap (λ xs. take (c.from - at) (drop at text) ++ (c.new ++ xs)) more
 
-  made_length : (at : ℕ) (cs : List Cut) → AreGaps text at cs → length (pieced text at cs) ≡ formatted_len_from (length text) at cs
-  unfolding pieced AreGaps
+  made_length : (at : ℕ) (cs : List Cut) → AreGaps text at cs → length (text_with_cuts text at cs) ≡ formatted_len_from (length text) at cs
+  unfolding text_with_cuts AreGaps
   made_length at [] are = length-drop at text
   made_length at (c ∷ cs) are =
       let kept : length (take (c.from - at) (drop at text)) ≡ c.from - at = length-take-le (c.from - at) (drop at text) (omega (arith, length-drop at text, are.0.old.ordered, are.0.old.within, are.0.up)) in
-      length-append (take (c.from - at) (drop at text)) (c.new ++ pieced text c.to cs)
-      ∙ ap₂ (λ a b. a + b) kept (length-append c.new (pieced text c.to cs) ∙ ap (λ n. length c.new + n) (made_length c.to cs are.1))
+      length-append (take (c.from - at) (drop at text)) (c.new ++ text_with_cuts text c.to cs)
+      ∙ ap₂ (λ a b. a + b) kept (length-append c.new (text_with_cuts text c.to cs) ∙ ap (λ n. length c.new + n) (made_length c.to cs are.1))
 
   module _ (indent : Indent) where
     after_are : (a : PlacedLexeme) (bs : List PlacedLexeme) → AreIn text a.span.end bs → AreGaps text a.span.end (gaps_after indent (length text) a bs)
@@ -129,19 +129,19 @@ module _ (text : List ℕ) where
       earlier b.span.start b.span.end (gaps_after indent (length text) b bs) h.1.ordered (after_are b bs h.2),
     )
 
-    nothing_after : pieced text (length text) [] ≡ []
-    unfolding pieced
+    nothing_after : text_with_cuts text (length text) [] ≡ []
+    unfolding text_with_cuts
     nothing_after = drop-length text
 
     -- A token or comment and the gaps after it give the token or comment and the formatted lexemes
     -- after it.
-    over : (b : PlacedLexeme) (bs : List PlacedLexeme) → IsAt text b → AreIn text b.span.end bs → pieced text b.span.end (gaps_after indent (length text) b bs) ≡ joined (with_formatted_gaps_after indent b bs)
-        → pieced text b.span.start (gaps_after indent (length text) b bs) ≡ joined (b.lexeme ∷ with_formatted_gaps_after indent b bs)
+    over : (b : PlacedLexeme) (bs : List PlacedLexeme) → IsAt text b → AreIn text b.span.end bs → text_with_cuts text b.span.end (gaps_after indent (length text) b bs) ≡ joined (with_formatted_gaps_after indent b bs)
+        → text_with_cuts text b.span.start (gaps_after indent (length text) b bs) ≡ joined (b.lexeme ∷ with_formatted_gaps_after indent b bs)
     over b bs is h more =
         pieced_later text b.span.start b.span.end (gaps_after indent (length text) b bs) is.ordered (chain b.span.end (gaps_after indent (length text) b bs) (after_are b bs h))
         ∙ ap₂ (λ xs ys. xs ++ ys) is.here more
 
-    after_made : (a : PlacedLexeme) (bs : List PlacedLexeme) → AreIn text a.span.end bs → pieced text a.span.end (gaps_after indent (length text) a bs) ≡ joined (with_formatted_gaps_after indent a bs)
+    after_made : (a : PlacedLexeme) (bs : List PlacedLexeme) → AreIn text a.span.end bs → text_with_cuts text a.span.end (gaps_after indent (length text) a bs) ≡ joined (with_formatted_gaps_after indent a bs)
     unfolding AreIn
     after_made a [] h = pieced_here text a.span.end (length text) (10 ∷ []) [] ∙ ap (λ xs. 10 ∷ xs) nothing_after
     after_made a (b ∷ bs) h =
@@ -149,7 +149,7 @@ module _ (text : List ℕ) where
         ∙ ap (λ xs. gap indent a b ++ xs) (over b bs h.1 h.2 (after_made b bs h.2))
         ∙ sym (joined_spaced (gap indent a b) (b.lexeme ∷ with_formatted_gaps_after indent b bs))
 
-    gaps_made : (bs : List PlacedLexeme) → AreIn text 0 bs → pieced text 0 (gaps indent (length text) bs) ≡ joined (with_formatted_gaps indent bs)
+    gaps_made : (bs : List PlacedLexeme) → AreIn text 0 bs → text_with_cuts text 0 (gaps indent (length text) bs) ≡ joined (with_formatted_gaps indent bs)
     unfolding AreIn
     gaps_made [] h = pieced_here text 0 (length text) [] [] ∙ nothing_after
     gaps_made (b ∷ bs) h = pieced_here text 0 b.span.start [] (gaps_after indent (length text) b bs) ∙ over b bs h.1 h.2 (after_made b bs h.2)
@@ -168,10 +168,10 @@ module _ (indent : Indent) (s : TextWithTokens) (scan : IsScan s) (ss : List Lin
   pub new_is_white : All (λ (c : Cut). White c.new) (all_gaps indent s.text ss scan.lexemes)
   new_is_white = new_white s.text 0 (all_gaps indent s.text ss scan.lexemes) all_are
 
-  pub all_made : pieced s.text 0 (all_gaps indent s.text ss scan.lexemes) ≡ joined (with_formatted_gaps indent (placed_lexemes 0 0 true ss scan.lexemes))
+  pub all_made : text_with_cuts s.text 0 (all_gaps indent s.text ss scan.lexemes) ≡ joined (with_formatted_gaps indent (placed_lexemes 0 0 true ss scan.lexemes))
   all_made = gaps_made s.text indent (placed_lexemes 0 0 true ss scan.lexemes) (all_in s scan ss)
 
-  pub changed_made : pieced s.text 0 (changed_gaps s.text (all_gaps indent s.text ss scan.lexemes)) ≡ joined (with_formatted_gaps indent (placed_lexemes 0 0 true ss scan.lexemes))
+  pub changed_made : text_with_cuts s.text 0 (changed_gaps s.text (all_gaps indent s.text ss scan.lexemes)) ≡ joined (with_formatted_gaps indent (placed_lexemes 0 0 true ss scan.lexemes))
   changed_made = kept_or_changed s.text 0 (all_gaps indent s.text ss scan.lexemes) all_are ∙ all_made
 
   pub all_length : formatted_len_from (length s.text) 0 (all_gaps indent s.text ss scan.lexemes) ≡ length (joined (with_formatted_gaps indent (placed_lexemes 0 0 true ss scan.lexemes)))

@@ -11,7 +11,7 @@ use Rattle.ob0_text.specs.declared.edits.Edit.{Edit}
 use Rattle.ob0_text.specs.declared.edits.Indent.{Indent}
 use Rattle.ob0_text.specs.declared.position_types.Unit as counting
 use Rattle.ob0_text.specs.Units.{width_of}
-use Rattle.ob0_text.specs.Patches.{Cut, cut_at, cuts_of, patched, pieced}
+use Rattle.ob0_text.specs.Patches.{Cut, cut_at, cuts_of, patched, text_with_cuts}
 use Rattle.ob0_text.proofs.StableSort.{first_same, rest_same}
 use Rattle.ob0_edits_tokens.proofs.TextCuts.{AreSame, IsSameCut, same_cut, patched_by_same}
 use Rattle.ob0_layout.specs.declared.line_role.LineRole.{LineRole}
@@ -54,13 +54,13 @@ gaps_patched unit indent s scan ss edits e =
     let made = patched_by_same unit s.text scan.utf8 changed (cuts_of (width_of unit) (chars s.text) edits) (same_cuts unit s.text scan.utf8 0 changed edits are e) (chain s.text 0 changed are) in
     made.1 ∙ ap (λ t. Some (chars t)) (changed_made indent s scan ss)
 
-made_utf8 : (text : List ℕ) → IsUtf8 text → (at : ℕ) (cs : List Cut) → IsCharBoundary text at → AreGaps text at cs → IsUtf8 (pieced text at cs)
-unfolding pieced AreGaps
+made_utf8 : (text : List ℕ) → IsUtf8 text → (at : ℕ) (cs : List Cut) → IsCharBoundary text at → AreGaps text at cs → IsUtf8 (text_with_cuts text at cs)
+unfolding text_with_cuts AreGaps
 made_utf8 text u at [] b are = IsUtf8-drop text at u b
 made_utf8 text u at (c ∷ cs) b are =
     let old = are.0.old in
-    IsUtf8-append (take (c.from - at) (drop at text)) (c.new ++ pieced text c.to cs) (IsUtf8-between text at c.from u are.0.up b old.start.place)
-    (IsUtf8-append c.new (pieced text c.to cs) (white_utf8 c.new are.0.new) (made_utf8 text u c.to cs old.end.place are.1))
+    IsUtf8-append (take (c.from - at) (drop at text)) (c.new ++ text_with_cuts text c.to cs) (IsUtf8-between text at c.from u are.0.up b old.start.place)
+    (IsUtf8-append c.new (text_with_cuts text c.to cs) (white_utf8 c.new are.0.new) (made_utf8 text u c.to cs old.end.place are.1))
 
 pub layout_utf8 : (indent : Indent) (s : TextWithTokens) (scan : IsScan s) (ss : List LineRole) → IsUtf8 (joined (with_formatted_gaps indent (placed_lexemes 0 0 true ss scan.lexemes)))
 layout_utf8 indent s scan ss =

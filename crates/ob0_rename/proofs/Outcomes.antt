@@ -5,7 +5,7 @@ use Rattle.std.specs.Prelude.{IfErr, IfOk, IsErrOf, nat_lt}
 use Rattle.std.specs.declared.alloc.Global.{Global}
 use Rattle.ob0_scan.specs.Classes.{IsIdentifier}
 use Rattle.ob0_scan.specs.TextWithTokens.{IsScan, TextWithTokens, Word, max_text}
-use Rattle.ob0_text.specs.Patches.{pieced}
+use Rattle.ob0_text.specs.Patches.{text_with_cuts}
 use Rattle.ob0_text.specs.declared.edits.Edit.{Edit}
 use Rattle.ob0_text.specs.declared.position_types.Position.{Position}
 use Rattle.ob0_text.specs.declared.position_types.Unit as counting
@@ -120,8 +120,8 @@ module _ (unit : counting.Unit) (text : List ℕ) (place : Position) (new : Name
         | inr e ↦ inl e
       ]
 
-pub whole : (text : List ℕ) → length (pieced text 0 []) ≡ length text
-unfolding pieced
+pub whole : (text : List ℕ) → length (text_with_cuts text 0 []) ≡ length text
+unfolding text_with_cuts
 whole text = refl
 
 -- Renaming a declaration to its present name doesn't make the text too long.

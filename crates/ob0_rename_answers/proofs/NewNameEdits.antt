@@ -15,7 +15,7 @@ use Rattle.ob0_text.specs.declared.edits.Edit.{Edit}
 use Rattle.ob0_text.specs.declared.position_types.Unit.{Unit}
 use Rattle.ob0_text.specs.declared.refusals.EditRefusal.{EditRefusal}
 use Rattle.ob0_text.specs.declared.refusals.EditRefusal.TheVariants as refusal
-use Rattle.ob0_text.specs.Patches.{pieced}
+use Rattle.ob0_text.specs.Patches.{text_with_cuts}
 use Rattle.ob0_text.specs.Units.{width_of}
 use Rattle.ob0_tree_values.proofs.TreeValues.{vec_of}
 use Rattle.ob0_edits_tokens.specs.Changed.{changes_at, changed_words, words_of}
@@ -34,22 +34,22 @@ string_of bytes u short = record { bytes = vec_of bytes (omega (arith, short)); 
 -- ---- the edits at some places, and their number
 
 module _ (unit : Unit) (content text : List ℕ) (tokens : List Token) (new : List ℕ) (u : IsUtf8 new) where
-  name_edits : (at : ℕ) (places : List ℕ) → length (pieced text at (map (cut_of tokens new) places)) ≤ 1048576 → (edits : List Edit) × (map parts edits ≡ map (edit_at unit content tokens new) places)
-  unfolding pieced
+  name_edits : (at : ℕ) (places : List ℕ) → length (text_with_cuts text at (map (cut_of tokens new) places)) ≤ 1048576 → (edits : List Edit) × (map parts edits ≡ map (edit_at unit content tokens new) places)
+  unfolding text_with_cuts
   name_edits at [] short = ([], refl)
   name_edits at (p ∷ ps) short =
-      let back : List ℕ = pieced text (span_at tokens p).end (map (cut_of tokens new) ps) in
+      let back : List ℕ = text_with_cuts text (span_at tokens p).end (map (cut_of tokens new) ps) in
       let all = length-append (take ((span_at tokens p).start - at) (drop at text)) (new ++ back) in
       let rest = length-append new back in
       let more = name_edits (span_at tokens p).end ps (omega (arith, all, rest, short)) in
       let here : Edit = record { range = range_of (width_of unit) content (span_at tokens p); text = string_of new u (omega (arith, all, rest, short)) } in
       (here ∷ more.0, ap (λ xs. edit_at unit content tokens new p ∷ xs) more.1)
 
-few_places : (text : List ℕ) (tokens : List Token) (new : List ℕ) → 0 < length new → (at : ℕ) (places : List ℕ) → length places ≤ length (pieced text at (map (cut_of tokens new) places))
-unfolding pieced
+few_places : (text : List ℕ) (tokens : List Token) (new : List ℕ) → 0 < length new → (at : ℕ) (places : List ℕ) → length places ≤ length (text_with_cuts text at (map (cut_of tokens new) places))
+unfolding text_with_cuts
 few_places text tokens new some at [] = omega arith
 few_places text tokens new some at (p ∷ ps) =
-    let back : List ℕ = pieced text (span_at tokens p).end (map (cut_of tokens new) ps) in
+    let back : List ℕ = text_with_cuts text (span_at tokens p).end (map (cut_of tokens new) ps) in
     let all = length-append (take ((span_at tokens p).start - at) (drop at text)) (new ++ back) in
     let rest = length-append new back in
     let more = few_places text tokens new some (span_at tokens p).end ps in

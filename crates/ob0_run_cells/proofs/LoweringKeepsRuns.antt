@@ -6,7 +6,7 @@ use Rattle.ob0_language_names.specs.Names.{Naming, naming_by_label}
 use Rattle.ob0_language_names.specs.Parts.{block_statements}
 use Rattle.ob0_language_names.specs.Scopes.{numbered}
 use Rattle.ob0_language_types.specs.Environments.{outermost}
-use Rattle.ob0_language_types.specs.WellTyped.{WellTyped, fits_over}
+use Rattle.ob0_language_types.specs.WellTyped.{WellTyped, passes_type_check}
 use Rattle.ob0_language_types.proofs.Proved.{numbering_keeps_type_check-holds}
 use Rattle.ob0_language_runs.specs.Fitting.{StoreTyping}
 use Rattle.ob0_language_runs.specs.Freed.{call_freeing, run_freeing}
@@ -37,8 +37,8 @@ run_result-same typing (execution.running low) (running s) h = ap (λ out. recor
 run_result-same typing (execution.stopped x out) (stopped y written) h = λ i. record { output = h.1 i; ending = h.0 i }
 run_result-same typing _ _ h = absurd h
 
-run-freed : {N : Type 0} (naming : Naming N) (m : Tree N module_text) (program : lowered.LoweredCode) (c t : ℕ) (input : List ℤ) → fits_over naming m ≡ true → ProgramMeans naming m program → IfSome (execution.run program input c t) (λ r. run_of r ≡ run_freeing naming m input c t)
-unfolding execution.run run_freeing fits_over
+run-freed : {N : Type 0} (naming : Naming N) (m : Tree N module_text) (program : lowered.LoweredCode) (c t : ℕ) (input : List ℤ) → passes_type_check naming m ≡ true → ProgramMeans naming m program → IfSome (execution.run program input c t) (λ r. run_of r ≡ run_freeing naming m input c t)
+unfolding execution.run run_freeing passes_type_check
 run-freed {N} naming (is_module x b closing) program c t input fits means =
     let start : State = record { store = []; input = input; output = [] } in
     let low : execution.MachineState = record { cells = execution.zeros program.cells; input = input; output = [] } in
@@ -67,7 +67,7 @@ run-freed {N} naming (is_module x b closing) program c t input fits means =
     (body-represents table c t (calls-known table c t) part.typing_now execution.outermost after q.placement g.env part.frame.environment_fits part.frame.placing_fits (omega (arith, counted, total, room)) program.body (block_statements b) body_means low record start { store = g.store } represents)))
 
 -- of the store that keeps every variable too: no run reads again what a call failed
-pub run-lowered : {N : Type 0} (naming : Naming N) (m : Tree N module_text) (program : lowered.LoweredCode) (c t : ℕ) (input : List ℤ) → fits_over naming m ≡ true → ProgramMeans naming m program → IfSome (execution.run program input c t) (λ r. run_of r ≡ run_over naming m input c t)
+pub run-lowered : {N : Type 0} (naming : Naming N) (m : Tree N module_text) (program : lowered.LoweredCode) (c t : ℕ) (input : List ℤ) → passes_type_check naming m ≡ true → ProgramMeans naming m program → IfSome (execution.run program input c t) (λ r. run_of r ≡ run_over naming m input c t)
 run-lowered naming m program c t input fits means =
     subst (λ whole. IfSome (execution.run program input c t) (λ r. run_of r ≡ whole)) (freeing-keeps naming m input c t) (run-freed naming m program c t input fits means)
 

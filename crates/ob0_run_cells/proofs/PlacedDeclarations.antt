@@ -5,7 +5,7 @@ use Rattle.std.proofs.Common.{◌≡◌, ℕ, zero, suc, ◌+◌, ◌≤◌, tru
 use Rattle.std.proofs.lemmas.List.{replicate-append-replicate}
 use Rattle.ob0_tree.specs.Tree.{Tree, block, body, constant, declares, declares_constant, declares_type, declares_variable, end, has_body, items, maybe, more, procedure, type_name, variable}
 use Rattle.ob0_language_names.specs.Parts.{block_statements, constant_names, declared_type_names, names_in_list, procedure_name, section_constants, section_types, section_variables}
-use Rattle.ob0_language_types.specs.Declarations.{constructor_after_types, constructor_after_variables, declare_constants, declare_types, procedure_constructor_count}
+use Rattle.ob0_language_types.specs.Declarations.{constructors_before_variables, constructor_after_variables, declare_constants, declare_types, procedure_constructor_count}
 use Rattle.ob0_language_types.specs.Environments.{meanings}
 use Rattle.ob0_language_types.specs.Expressions.{a_constant, a_procedure, a_type, a_variable}
 use Rattle.ob0_language_types.specs.Typing.{constant_value, constructor_count, denoted}
@@ -165,7 +165,7 @@ module _ {N : Type 0} (table : RoutineTable N) where
       let q : Placed N = means.placed in
       let total : p.cells + cells ≡ q.cells = means.cells_counted in
       let fits : procedures_fit table.naming inner (constructor_after_variables k b) statements ps ≡ true =
-      subst (λ o. some_satisfies o (λ inner. procedures_fit table.naming inner (constructor_after_variables k b) statements ps) ≡ true) (ap (option_and_then (declare_typed table.naming (constructor_after_types k b) (section_variables vs))) means.first_declared ∙ means.variables_declared) e in
+      subst (λ o. some_satisfies o (λ inner. procedures_fit table.naming inner (constructor_after_variables k b) statements ps) ≡ true) (ap (option_and_then (declare_typed table.naming (constructors_before_variables k b) (section_variables vs))) means.first_declared ∙ means.variables_declared) e in
       let (consts, ec, e₄) = then_some (declare_constants table.naming checked (section_constants cs)) (λ env. declare_types table.naming env k (section_types ts)) first means.first_declared in
       let (d₁, ed₁, fit₁) = constants-run table.naming typing checked f.env (section_constants cs) consts h.environment_fits ec in
       let placed₁ = constants-placed typing ls (section_constants cs) checked consts p.placement f.env d₁ ec ed₁ h.placing_fits in
@@ -173,13 +173,13 @@ module _ {N : Type 0} (table : RoutineTable N) where
       let placed₂ = types-placed typing ls k (section_types ts) consts first (bind_to_nowhere (constant_names (section_constants cs)) p.placement) d₁ d₂ e₄ ed₂ placed₁ in
       let p₂ : Placed N = record p { placement = bind_to_nowhere (declared_type_names (section_types ts)) (bind_to_nowhere (constant_names (section_constants cs)) p.placement) } in
       let f₂ : Frame N = record { env = d₂; store = f.store } in
-      let (g, n, eg, counts, part) = variables-placed typing ls base at is (constructor_after_types k b) (section_variables vs) first inner p₂ q f₂ record { store_fits = h.store_fits; environment_fits = fit₂; placing_fits = placed₂; cells_counted = h.cells_counted } means.variables_declared means.variables_placed in
+      let (g, n, eg, counts, part) = variables-placed typing ls base at is (constructors_before_variables k b) (section_variables vs) first inner p₂ q f₂ record { store_fits = h.store_fits; environment_fits = fit₂; placing_fits = placed₂; cells_counted = h.cells_counted } means.variables_declared means.variables_placed in
       let (after, placed, fit₄, placed₄, body_means) = procedures-placed part.typing_now ls (constructor_after_variables k b) code statements ps inner q.placement g.env part.frame.environment_fits part.frame.placing_fits fits means.inside in
       let n_is : n ≡ cells = omega (arith, counts, total) in (
         declare_procedures_in_frame (constructor_after_variables k b) ps g,
         after,
         record q { placement = placed },
-        ap (option_and_then (λ env. option_map (declare_procedures_in_frame (constructor_after_variables k b) ps) (declare_variables table.naming (constructor_after_types k b) (section_variables vs) record { env = env; store = f.store }))) (ap (option_and_then (λ env. declare_types table.naming env k (section_types ts))) ed₁ ∙ ed₂) ∙ ap (option_map (declare_procedures_in_frame (constructor_after_variables k b) ps)) eg,
+        ap (option_and_then (λ env. option_map (declare_procedures_in_frame (constructor_after_variables k b) ps) (declare_variables table.naming (constructors_before_variables k b) (section_variables vs) record { env = env; store = f.store }))) (ap (option_and_then (λ env. declare_types table.naming env k (section_types ts))) ed₁ ∙ ed₂) ∙ ap (option_map (declare_procedures_in_frame (constructor_after_variables k b) ps)) eg,
         total,
         body_means,
         record {

@@ -15,7 +15,7 @@ use Rattle.std.specs.Prelude.{◌≡◌, ℕ, suc, ◌+◌, ◌≤◌, true, fal
 use Rattle.ob0_tree.specs.Tree.{Tree, begins, block, body, declares, declares_procedure, declares_variable, end, has_body, item, items, maybe, module_text, more, none, one, procedure, variable}
 use Rattle.ob0_language_names.specs.Names.{Label, Naming, naming_by_label}
 use Rattle.ob0_language_names.specs.Parts.{block_constants, block_types, block_variables, constant_names, formal_sections, module_block, declared_type_names, names_in_list, procedure_formals, procedure_name}
-use Rattle.ob0_language_types.specs.Declarations.{constructor_after_types, constructor_after_variables, declare_first, formals_constructor_count, procedure_constructor_count}
+use Rattle.ob0_language_types.specs.Declarations.{constructors_before_variables, constructor_after_variables, declare_first, formals_constructor_count, procedure_constructor_count}
 use Rattle.ob0_language_types.specs.Environments.{meanings, outermost}
 use Rattle.ob0_language_types.specs.Expressions.{Object, a_constant, a_procedure, a_standard, a_type, a_variable}
 use Rattle.ob0_language_types.specs.Typing.{constructor_count, denoted}
@@ -206,9 +206,9 @@ pub record BlockIsPlaced {N : Type 0} (table : RoutineTable N) (at : ℕ → Slo
   pub inner : TypeEnvironment N
   pub placed : Placed N
   pub first_declared : declare_first table.naming checked k b ≡ Some first
-  pub variables_declared : declare_typed table.naming (constructor_after_types k b) (block_variables b) first
+  pub variables_declared : declare_typed table.naming (constructors_before_variables k b) (block_variables b) first
       ≡ Some inner
-  pub variables_placed : place_variables table.naming at first (constructor_after_types k b)
+  pub variables_placed : place_variables table.naming at first (constructors_before_variables k b)
       (block_variables b) record p {
         placement
             = bind_to_nowhere (declared_type_names (block_types b))

@@ -4,7 +4,7 @@ use Rattle.ob0_tree.specs.Tree.{Tree, module_text}
 use Rattle.ob0_language_names.specs.Names.{Label, Name, naming_by_label, declared}
 use Rattle.ob0_language_names.specs.Parts.{module_block}
 use Rattle.ob0_language_names.specs.Scopes.{numbered}
-use Rattle.ob0_language_types.specs.Bindings.{module_bindings, bound_object}
+use Rattle.ob0_language_types.specs.Bindings.{module_bindings, object_of_ordinal}
 use Rattle.ob0_language_types.specs.Environments.{environment_from_binding, outermost}
 use Rattle.ob0_language_types.specs.Expressions.{Object}
 use Rattle.ob0_language_types.specs.WellTyped.{Signature, TypeEnvironment, WellTyped}
@@ -18,23 +18,23 @@ use Rattle.ob0_run_lowering.specs.KnownBlocks.{AreDeclared, BlockIsDeclared}
 tail-included : (all : TypeEnvironment Label) (i : ℕ) (o : Object Shape Signature) (noted : TypeNoted Name) → TypedBelow i noted → Includes all ((declared i, o) ∷ typed_by_ordinal noted) → Includes all (typed_by_ordinal noted)
 tail-included all i o noted below st d p h = by (d == i) refl
   where
-    by : (t : Bool) → (d == i) ≡ t → bound_object all d ≡ Some p
+    by : (t : Bool) → (d == i) ≡ t → object_of_ordinal all d ≡ Some p
     by true same = absurd (nothing p (sym (bound-none 0 i d (typed_by_ordinal noted) (noted-binds i noted below) (λ a z. omega (arith, z, eqb-true d i same))) ∙ h))
     by false other =
-        st d p (newest_object-if (d == i) (declared i) o (typed_by_ordinal noted) (environment_from_binding naming_by_label (typed_by_ordinal noted) (declared d)) ∙ ap (λ t. cond t (Some o) (bound_object (typed_by_ordinal noted) d)) other ∙ h)
+        st d p (newest_object-if (d == i) (declared i) o (typed_by_ordinal noted) (environment_from_binding naming_by_label (typed_by_ordinal noted) (declared d)) ∙ ap (λ t. cond t (Some o) (object_of_ordinal (typed_by_ordinal noted) d)) other ∙ h)
 
-noted-declared : (all : TypeEnvironment Label) (n : ℕ) (noted : TypeNoted Name) → TypedBelow n noted → Includes all (typed_by_ordinal noted) → AreDeclared (bound_object all) (typed_by_ordinal noted)
+noted-declared : (all : TypeEnvironment Label) (n : ℕ) (noted : TypeNoted Name) → TypedBelow n noted → Includes all (typed_by_ordinal noted) → AreDeclared (object_of_ordinal all) (typed_by_ordinal noted)
 noted-declared all n [] below st = tt
 noted-declared all n (b ∷ noted) below st = (
   (
     b.ordinal,
     refl,
     st b.ordinal b.object
-        (newest_object-if (b.ordinal == b.ordinal) (declared b.ordinal) b.object (typed_by_ordinal noted) (environment_from_binding naming_by_label (typed_by_ordinal noted) (declared b.ordinal)) ∙ ap (λ t. cond t (Some b.object) (bound_object (typed_by_ordinal noted) b.ordinal)) (eq-eqb b.ordinal b.ordinal refl)),
+        (newest_object-if (b.ordinal == b.ordinal) (declared b.ordinal) b.object (typed_by_ordinal noted) (environment_from_binding naming_by_label (typed_by_ordinal noted) (declared b.ordinal)) ∙ ap (λ t. cond t (Some b.object) (object_of_ordinal (typed_by_ordinal noted) b.ordinal)) (eq-eqb b.ordinal b.ordinal refl)),
   ),
   noted-declared all b.ordinal noted below.1 (tail-included all b.ordinal b.object noted below.1 st),
 )
 
 -- all that a well-typed module binds
-pub module-declared : (m : Tree Name module_text) → WellTyped m → BlockIsDeclared (bound_object (module_bindings naming_by_label (numbered m))) (outermost naming_by_label) 0 (module_block (numbered m))
-module-declared m = module-has (AreDeclared (bound_object (module_bindings naming_by_label (numbered m)))) m (noted-declared (module_bindings naming_by_label (numbered m)))
+pub module-declared : (m : Tree Name module_text) → WellTyped m → BlockIsDeclared (object_of_ordinal (module_bindings naming_by_label (numbered m))) (outermost naming_by_label) 0 (module_block (numbered m))
+module-declared m = module-has (AreDeclared (object_of_ordinal (module_bindings naming_by_label (numbered m)))) m (noted-declared (module_bindings naming_by_label (numbered m)))

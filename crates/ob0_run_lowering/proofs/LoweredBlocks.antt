@@ -19,9 +19,9 @@ use Rattle.ob0_language_names.specs.Scopes.{label_from_ordinal, numbered}
 use Rattle.ob0_types_table.specs.KnownTables.{Tables, declared_object_in}
 use Rattle.ob0_language_types.specs.Bindings.{declared_object}
 use Rattle.ob0_language_types.proofs.ConstantsDeclared.{FitParts, block-parts, procedure-parts}
-use Rattle.ob0_language_types.specs.Declarations.{constructor_after_types, constructor_after_variables, declare_first, formals_constructor_count, procedure_constructor_count}
+use Rattle.ob0_language_types.specs.Declarations.{constructors_before_variables, constructor_after_variables, declare_first, formals_constructor_count, procedure_constructor_count}
 use Rattle.ob0_language_types.specs.Environments.{outermost}
-use Rattle.ob0_language_types.specs.WellTyped.{TypeEnvironment, TypedParameter, WellTyped, bind_typed_parameters, block_fits, body_fits, declare_typed, fits_over, bind_procedure, procedures_fit}
+use Rattle.ob0_language_types.specs.WellTyped.{TypeEnvironment, TypedParameter, WellTyped, bind_typed_parameters, block_fits, body_fits, declare_typed, passes_type_check, bind_procedure, procedures_fit}
 use Rattle.ob0_language_types.proofs.Proved.{numbering_keeps_type_check-holds}
 use Rattle.ob0_language_types.proofs.Literals.{some_inverse}
 use Rattle.ob0_language_types.proofs.TypedElsewhere.{then_some}
@@ -200,7 +200,7 @@ block_lowers t w v inside cs ts vs ps statements f own scene entry places goes t
       let b : Tree Label block = has_body (declares cs ts vs ps) statements in
       let parts = block-parts env k b fits in
       let inner : TypeEnvironment Label = parts.0 in
-      let declared_parts = then_some (declare_first naming_by_label env k b) (declare_typed naming_by_label (constructor_after_types k b) (section_variables vs)) inner parts.1 in
+      let declared_parts = then_some (declare_first naming_by_label env k b) (declare_typed naming_by_label (constructors_before_variables k b) (section_variables vs)) inner parts.1 in
       let first : TypeEnvironment Label = declared_parts.0 in
       let known_parts = known inner parts.1 in
       let at = variable_slot f.depth in
@@ -211,7 +211,7 @@ block_lowers t w v inside cs ts vs ps statements f own scene entry places goes t
       let laid : IsFrame inside.sites.items own q = places.placed start begun in
       let ready : Ready t inside.sites.items own.depth (record { env = inner; placement = q.placement; next = constructor_after_variables k b }) statements ps = record {
         declared_there = known_parts.0;
-        matches = groups_match at (declared_size t) (section_variables vs) (constructor_after_types k b) first inner start declared_parts.2 (first_match b k env first p.placement declared_parts.1 matches);
+        matches = groups_match at (declared_size t) (section_variables vs) (constructors_before_variables k b) first inner start declared_parts.2 (first_match b k env first p.placement declared_parts.1 matches);
         holds = laid.holds;
         fits = parts.2;
         declared_following = known_parts.1;
@@ -227,7 +227,7 @@ block_lowers t w v inside cs ts vs ps statements f own scene entry places goes t
           placed = q;
           first_declared = declared_parts.1;
           variables_declared = declared_parts.2;
-          variables_placed = groups_placed t at (section_variables vs) (constructor_after_types k b) first inner start declared_parts.2 known_parts.0;
+          variables_placed = groups_placed t at (section_variables vs) (constructors_before_variables k b) first inner start declared_parts.2 known_parts.0;
           cells_counted = omega (arith, cells, laid.cells, frame.cells, places.more_cells);
           inside = gone.mean table (sequence_of entry.body.items) later (lowers now.env now.placement seen (body-fits now.env now.next statements last.fits));
         };
@@ -279,7 +279,7 @@ all-later : (ps : List Routine) → HasRoutinesFrom (map procedure_of ps) 0 ps
 all-later ps = λ i e le get. slice_get-map procedure_of ps i ∙ ap (option_map procedure_of) get
 
 module-fits : (m : Tree Name module_text) → WellTyped m → block_fits naming_by_label (outermost naming_by_label) 0 (module_block (numbered m)) ≡ true
-unfolding WellTyped fits_over
+unfolding WellTyped passes_type_check
 module-fits m well = sym (numbering_keeps_type_check-holds m) ∙ well.1
 
 abbrev outermost_placed : Placed Label

@@ -8,7 +8,7 @@ use Rattle.ob0_types_table.specs.KnownTables.{Tables, declared_object_in}
 use Rattle.ob0_language_types.specs.Declarations.{declare_constants, declare_first, declare_types}
 use Rattle.ob0_language_types.specs.Environments.{environment_from_binding, meanings, newest_object}
 use Rattle.ob0_language_types.specs.Expressions.{Object, a_constant, a_procedure, a_type, a_variable}
-use Rattle.ob0_language_types.specs.Typing.{constant_value, constructor_count, denoted, type_of_declaration}
+use Rattle.ob0_language_types.specs.Typing.{constant_value, constructor_count, denoted, type_of_object}
 use Rattle.ob0_language_types.specs.WellTyped.{Mode, Signature, TypeEnvironment, TypedParameter, bind_names, bind_typed_parameters, by_place, by_value, declare_typed, section_mode, typed_parameters}
 use Rattle.ob0_language_types.proofs.Literals.{some_inverse}
 use Rattle.ob0_language_types.proofs.TypedElsewhere.{then_some}
@@ -166,7 +166,7 @@ names_before objects [] o env a = a
 names_before objects (x ∷ xs) o env a = (names_before objects xs o ((x, o) ∷ env) a).1
 
 one_size : (t : Tables) (x : Label) (s : Shape) → ((k : ℕ) × (x ≡ declared k) × (declared_object_in t k ≡ Some (a_variable s))) → declared_size t x ≡ size s
-one_size t x s f = ap (declared_size t) f.1 ∙ ap (λ o. optional_shape_size (type_of_declaration o)) f.2
+one_size t x s f = ap (declared_size t) f.1 ∙ ap (λ o. optional_shape_size (type_of_object o)) f.2
 
 names_placed : (t : Tables) (at : ℕ → Slot) (xs : List Label) (s : Shape) (env : TypeEnvironment Label) (p : Placed Label) → AreDeclared (declared_object_in t) (bind_names xs (a_variable s) env) → place_names at xs (size s) p ≡ place_each at (declared_size t) by_value xs p
 names_placed t at [] s env p a = refl

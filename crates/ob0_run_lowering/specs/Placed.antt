@@ -13,7 +13,7 @@ use Rattle.ob0_language_names.specs.Names.{Label, naming_by_label, declared}
 use Rattle.ob0_language_names.specs.Parts.{names_in_list, section_names}
 use Rattle.ob0_types_table.specs.KnownTables.{Tables}
 use Rattle.ob0_language_types.specs.Expressions.{Object, a_procedure, a_variable}
-use Rattle.ob0_language_types.specs.Typing.{type_of_declaration}
+use Rattle.ob0_language_types.specs.Typing.{type_of_object}
 use Rattle.ob0_language_types.specs.WellTyped.{Mode, Signature, TypeEnvironment, by_value, section_mode}
 use Rattle.ob0_language_values.specs.Values.{Shape}
 use Rattle.ob0_run_cells.specs.Activations.{Placed, Placement, BindingPlace, at_target, suffix_from_name, in_slot, nowhere, place_name}
@@ -78,7 +78,7 @@ optional_shape_size (Some s) = size s
 
 -- returns the number of cells of the variable that a name declares, or 0 if the name has no type
 abbrev pub declared_size : Tables → Label → ℕ
-declared_size t x = optional_shape_size (type_of_declaration (object_at t x))
+declared_size t x = optional_shape_size (type_of_object (object_at t x))
 
 -- returns the slot of a variable at an offset: in the cells of the module if the depth is 0,
 -- otherwise in the cells of the running activation

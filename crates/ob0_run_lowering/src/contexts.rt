@@ -21,7 +21,7 @@ impl<'g, 'k, 't> LoweringContext<'g, 'k, 't> {
     ghost use Rattle.ob0_scope_table.specs.LabelledTrees.{label_at_token};
     ghost use Rattle.ob0_types_table.specs.KnownTables.{shapes_of};
     ghost use Rattle.ob0_types_table.specs.Tables.{type_shape};
-    ghost use Rattle.ob0_language_types.specs.Typing.{type_of_declaration};
+    ghost use Rattle.ob0_language_types.specs.Typing.{type_of_object};
     ghost use Rattle.ob0_run_lowering.specs.Scenes.{object_at};
     ghost use Rattle.ob0_run_lowering.specs.Placed.{declared_size};
 
@@ -30,7 +30,7 @@ impl<'g, 'k, 't> LoweringContext<'g, 'k, 't> {
     /// if the name declares nothing.
     fn type_of(&self, name: usize) -> Option<TypeId>
         ensures { option_map (type_shape (shapes_of self.now.types.now)) result
-            ≡ type_of_declaration (object_at self.now.types.now (label_at_token self.now.resolved.now name)) }
+            ≡ type_of_object (object_at self.now.types.now (label_at_token self.now.resolved.now name)) }
     {
         let ordinal = self.resolved.ordinal_at(name)?;
         self.types.declarations().declared_type(ordinal)

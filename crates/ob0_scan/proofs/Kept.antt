@@ -14,7 +14,7 @@ use Rattle.ob0_scan.specs.declared.incremental_scan.RescannedMiddle.{RescannedMi
 use Rattle.ob0_scan.specs.Lexed.{Lexeme, joined}
 use Rattle.ob0_scan.specs.TextWithTokens.{TextWithTokens, IsScan}
 use Rattle.ob0_scan.specs.Reused.{span_after_shift, token_after_shift, tokens_before_change, comments_before_change, tokens_beginning_from}
-use Rattle.ob0_scan.specs.RescanState.{IsMovable, IsRescannedMiddle, ReadsOn, with_middle}
+use Rattle.ob0_scan.specs.RescanState.{IsMovable, IsRescannedMiddle, ReadsWithoutMeeting, with_middle}
 use Rattle.ob0_scan.proofs.AtLexemes.{AtLexemes, of_tokens, of_comments, Full, Lies, full, lies, AreAscending, ascending, starts_after, back_later, front_all}
 use Rattle.ob0_scan.proofs.RescannedMiddle.{Settled, reused}
 
@@ -75,7 +75,7 @@ module _ (old : TextWithTokens) (o : IsScan old) (new : List ℕ) (from removed 
 
   -- The items that a scanner has read after the front are between the reused ones.
   pub lies_between : fs ≡ tokens_before_change from old.tokens → gs ≡ comments_before_change from old.comments → t.front.tokens.now ≡ fs → t.front.comments.now ≡ gs → s.tokens.items ≡ [] → s.comments.items ≡ []
-      → ReadsOn old from removed added s t → Settled old new from removed added t rs qs
+      → ReadsWithoutMeeting old from removed added s t → Settled old new from removed added t rs qs
       → b.front.tokens ≡ length fs → b.following.tokens ≡ length old.tokens - length rs → b.front.comments ≡ length gs → b.following.comments ≡ length old.comments - length qs
       → b.tokens.items ≡ t.tokens.items → b.comments.items ≡ t.comments.items → IsRescannedMiddle old new from removed added b
   lies_between ef eg tf tg st sc r w n m k l et ec =

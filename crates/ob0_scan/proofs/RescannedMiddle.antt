@@ -7,7 +7,7 @@ use Rattle.ob0_scan.specs.declared.lexeme.Token.{Token}
 use Rattle.ob0_scan.specs.declared.scanner.Scanner.{Scanner}
 use Rattle.ob0_scan.specs.TextWithTokens.{TextWithTokens, IsScan, max_text, span_from, token_at, comment_at, tokens_from, comments_from}
 use Rattle.ob0_scan.specs.Reused.{ReplacesRange, NoOldBegins, IsNew, Reuses, span_after_shift, token_after_shift, tokens_before_change, comments_before_change, tokens_beginning_from, comments_beginning_from}
-use Rattle.ob0_scan.specs.RescanState.{first_token_begins_at, first_comment_begins_at, IsMovable, TakesOne, ReadsOn, IsMet}
+use Rattle.ob0_scan.specs.RescanState.{first_token_begins_at, first_comment_begins_at, IsMovable, TakesOne, ReadsWithoutMeeting, CanStopAt}
 use Rattle.ob0_scan.specs.Progress.{ScanProgress}
 use Rattle.ob0_scan.specs.UnderWay.{IsConsistentScanner}
 use Rattle.ob0_scan.proofs.Spans.{token_with, comment_with}
@@ -30,7 +30,7 @@ comment_first : (place : ℕ) (cs : List Span) → first_comment_begins_at place
 comment_first place [] = refl
 comment_first place (c ∷ cs) = refl
 
-pub reads_none : (old : TextWithTokens) (from removed added : ℕ) (s : Scanner) → ReadsOn old from removed added s s
+pub reads_none : (old : TextWithTokens) (from removed added : ℕ) (s : Scanner) → ReadsWithoutMeeting old from removed added s s
 reads_none old from removed added s = record {
   tokens = [];
   comments = [];
@@ -40,7 +40,7 @@ reads_none old from removed added s = record {
   comments_new = All-nil (λ (c : Span). IsNew old from removed added c);
 }
 
-pub reads_more : (old : TextWithTokens) (from removed added : ℕ) (s t u : Scanner) → ReadsOn old from removed added s t → TakesOne t u → (from + added ≤ t.at → NoOldBegins old (t.at + removed - added)) → ReadsOn old from removed added s u
+pub reads_more : (old : TextWithTokens) (from removed added : ℕ) (s t u : Scanner) → ReadsWithoutMeeting old from removed added s t → TakesOne t u → (from + added ≤ t.at → NoOldBegins old (t.at + removed - added)) → ReadsWithoutMeeting old from removed added s u
 reads_more old from removed added s t u r w new =
     let place = span_from t.at w.len in
     record {
@@ -77,7 +77,7 @@ module _ (old : TextWithTokens) (o : IsScan old) where
         let same : length old.text - (from + removed) ≡ length new - (from + added) = sym (length-drop (from + removed) old.text) ∙ ap length r.following ∙ length-drop (from + added) new in
         omega (arith, same, r.inside_old, r.inside_new)
 
-    pub end_met : (at : ℕ) → at ≡ length new → IsMet old (length new) from removed added at [] []
+    pub end_met : (at : ℕ) → at ≡ length new → CanStopAt old (length new) from removed added at [] []
     end_met at e =
         let place = end_place at e in
         let none = none_following old o new from removed added r in
@@ -88,7 +88,7 @@ module _ (old : TextWithTokens) (o : IsScan old) where
           border = inl e;
         }
 
-    pub met_border : (at : ℕ) (tokens : List Token) (comments : List Span) → IsMet old (length new) from removed added at tokens comments → Border 0 o.lexemes (at + removed - added)
+    pub met_border : (at : ℕ) (tokens : List Token) (comments : List Span) → CanStopAt old (length new) from removed added at tokens comments → Border 0 o.lexemes (at + removed - added)
     met_border at tokens comments m = ⊎_elim
         (λ end. subst (Border 0 o.lexemes) (sym (end_place at end)) (end_border old o new from removed added r))
         (λ begins. ⊎_elim
@@ -101,7 +101,7 @@ module _ (old : TextWithTokens) (o : IsScan old) where
 -- The old tokens and comments before the change, the newly read ones and the later old ones
 -- together meet `Reuses`.
 pub reused : (old new : TextWithTokens) (from removed added : ℕ) (s t : Scanner) (tokens : List Token) (comments : List Span) (end : ℕ) (fs : List Token) (gs : List Span) → fs ≡ tokens_before_change from old.tokens → gs ≡ comments_before_change from old.comments → s.tokens.items ≡ [] → s.comments.items ≡ []
-    → ReadsOn old from removed added s t → IsMet old end from removed added t.at tokens comments
+    → ReadsWithoutMeeting old from removed added s t → CanStopAt old end from removed added t.at tokens comments
     → new.tokens ≡ (fs ++ t.tokens.items) ++ map (token_after_shift removed added) tokens → new.comments ≡ (gs ++ t.comments.items) ++ map (span_after_shift removed added) comments
     → (read : ℕ) → read ≡ length t.tokens.items + length t.comments.items → Reuses old new from removed added read
 reused old new from removed added s t tokens comments end fs gs ft fc st sc r m et ec read e =
@@ -122,7 +122,7 @@ reused old new from removed added s t tokens comments end fs gs ft fc st sc r m 
 -- Holds if the scanner t has stopped without error, and its tokens and comments can be completed
 -- with the remaining old ones, shifted, to a scan of the new text.
 pub record Settled (old : TextWithTokens) (new : List ℕ) (from removed added : ℕ) (t : Scanner) (tokens : List Token) (comments : List Span) : Type 0 where
-  pub met : IsMet old (length new) from removed added t.at tokens comments
+  pub met : CanStopAt old (length new) from removed added t.at tokens comments
   pub tokens_move : All (λ (x : Token). IsMovable removed added x.span) tokens
   pub comments_move : All (λ (x : Span). IsMovable removed added x) comments
   pub scan : IsScan (record { text = new; tokens = (t.front.tokens.now ++ t.tokens.items) ++ map (token_after_shift removed added) tokens; comments = (t.front.comments.now ++ t.comments.items) ++ map (span_after_shift removed added) comments })
@@ -131,9 +131,9 @@ abbrev make_scan : List ℕ → List Token → List Span → TextWithTokens
 make_scan text tokens comments = record { text = text; tokens = tokens; comments = comments }
 
 pub settled : (old : TextWithTokens) (o : IsScan old) (new : List ℕ) (from removed added : ℕ) (r : ReplacesRange old.text new from removed added) (t : Scanner) (tokens : List Token) (comments : List Span) → t.text.now ≡ new → IsConsistentScanner t → length t.faults.items ≡ 0 → length new ≤ max_text
-    → (length t.faults.items ≡ 0 → IsMet old (length t.text.now) from removed added t.at tokens comments) → Settled old new from removed added t tokens comments
+    → (length t.faults.items ≡ 0 → CanStopAt old (length t.text.now) from removed added t.at tokens comments) → Settled old new from removed added t tokens comments
 settled old o new from removed added r t tokens comments text under none short found =
-    let met : IsMet old (length new) from removed added t.at tokens comments = subst (λ x. IsMet old (length x) from removed added t.at tokens comments) text (found none) in
+    let met : CanStopAt old (length new) from removed added t.at tokens comments = subst (λ x. CanStopAt old (length x) from removed added t.at tokens comments) text (found none) in
     let ts = t.front.tokens.now ++ t.tokens.items in
     let cs = t.front.comments.now ++ t.comments.items in
     let p : ScanProgress new t.at ts cs t.faults.items = subst (λ x. ScanProgress x t.at ts cs t.faults.items) text under in

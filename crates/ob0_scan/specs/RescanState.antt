@@ -65,7 +65,7 @@ pub record TakesOne (s t : Scanner) : Type 0 where
 
 -- States that the scanner `s` becomes the scanner `t` by reading tokens and comments. If one of
 -- these begins behind the change, no old token or comment begins at the same place in the old text.
-pub record ReadsOn (old : TextWithTokens) (from removed added : ℕ) (s t : Scanner) : Type 0 where
+pub record ReadsWithoutMeeting (old : TextWithTokens) (from removed added : ℕ) (s t : Scanner) : Type 0 where
   pub tokens : List Token
   pub comments : List Span
   pub tokens_are : t.tokens.items ≡ s.tokens.items ++ tokens
@@ -76,7 +76,7 @@ pub record ReadsOn (old : TextWithTokens) (from removed added : ℕ) (s t : Scan
 -- States that a scan of the new text can stop at the byte offset `at`. This offset is behind the
 -- change, and either the text ends there (at `end`) or an old token or comment begins there.
 -- `tokens` and `comments` are the old ones that begin there or later.
-pub record IsMet (old : TextWithTokens) (end from removed added at : ℕ) (tokens : List Token)
+pub record CanStopAt (old : TextWithTokens) (end from removed added at : ℕ) (tokens : List Token)
     (comments : List Span) : Type 0 where
   pub following : from + added ≤ at
   pub tokens_are : tokens ≡ tokens_beginning_from (at + removed - added) old.tokens

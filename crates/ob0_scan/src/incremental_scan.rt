@@ -56,7 +56,7 @@ ghost use Rattle.ob0_scan.specs.UnderWay.{IsConsistentScanner};
 ghost use Rattle.ob0_scan.specs.Reused.{ReplacesRange, Reuses, kinds, kind_without_value, name_or_empty, names_in, words_of_tokens};
 ghost use Rattle.ob0_scan.specs.SameKinds.{HasSameTokens, HasSameWords};
 ghost use Rattle.ob0_scan.specs.Rescanned.{IsRescanOf};
-ghost use Rattle.ob0_scan.specs.RescanState.{ReadsOn, IsMet, IsRescannedMiddle};
+ghost use Rattle.ob0_scan.specs.RescanState.{ReadsWithoutMeeting, CanStopAt, IsRescannedMiddle};
 
 use crate::fault::{Fault, ScanRefusal};
 use crate::lexeme::{Span, Token, TokenKind};
@@ -436,9 +436,9 @@ fn continue_scan<'o>(
     ensures text { scanner.new.text ≡ scanner.old.text }
     ensures front { scanner.new.front ≡ scanner.old.front }
     ensures reads { OnOk result (length scanner.new.faults.items ≡ 0
-        → ReadsOn old.now change.from change.removed change.added scanner.old scanner.new) }
+        → ReadsWithoutMeeting old.now change.from change.removed change.added scanner.old scanner.new) }
     ensures met { IfOk result (λ rest. length scanner.new.faults.items ≡ 0
-        → IsMet old.now (length scanner.new.text.now) change.from change.removed change.added
+        → CanStopAt old.now (length scanner.new.text.now) change.from change.removed change.added
         scanner.new.at rest.tokens.now rest.comments.now) }
     ensures end { OnOk result
         (0 < length scanner.new.faults.items → length scanner.new.text.now ≤ scanner.new.at) }

@@ -7,7 +7,7 @@ use Rattle.ob0_tree.specs.View.{block_of, body_of, constants_of, items_of, proce
 use Rattle.ob0_tree.specs.declared.tree.Block.{Block, out-Block}
 use Rattle.ob0_tree.specs.declared.tree.Procedure.{Procedure, out-Procedure}
 use Rattle.ob0_tree.proofs.Viewed.{block_parts, procedure_parts}
-use Rattle.ob0_scope_table.specs.BodyReplaced.{WayToBody, body_among, body_in, body_inside, closing_name_in_procedures, closing_name_in_block, closing_name_in_procedure, shift_way, way_in_procedures, way_in_block, way_in_procedure}
+use Rattle.ob0_scope_table.specs.BodyReplaced.{PathToBody, body_among, body_in, body_inside, closing_name_in_procedures, closing_name_in_block, closing_name_in_procedure, shift_way, way_in_procedures, way_in_block, way_in_procedure}
 use Rattle.ob0_scope_table.specs.OneBody.{closing_name}
 
 -- the statements of a block, with its closing name
@@ -17,11 +17,11 @@ pub record Place : Type 0 where
 
 -- returns the statements to which a way leads among procedures; an empty way leads to the block's
 -- own statements
-abbrev pub among : WayToBody → ℕ → Tree ℕ (items procedure) → Tree ℕ (maybe body) → Place
+abbrev pub among : PathToBody → ℕ → Tree ℕ (items procedure) → Tree ℕ (maybe body) → Place
 among [] own ps statements = record { statements = statements; closing = own }
 among (k ∷ way) own ps statements = record { statements = body_among k way ps; closing = closing_name_in_procedures k way own ps }
 
-pub one_later : (way : WayToBody) (own : ℕ) (p : Tree ℕ (item procedure)) (ps : Tree ℕ (items procedure)) (statements : Tree ℕ (maybe body)) → among (shift_way way) own (more p ps) statements ≡ among way own ps statements
+pub one_later : (way : PathToBody) (own : ℕ) (p : Tree ℕ (item procedure)) (ps : Tree ℕ (items procedure)) (statements : Tree ℕ (maybe body)) → among (shift_way way) own (more p ps) statements ≡ among way own ps statements
 one_later [] own p ps statements = refl
 one_later (k ∷ way) own p ps statements = refl
 
@@ -40,7 +40,7 @@ in_block : (low own : ℕ) (cs : Tree ℕ (maybe constants)) (ts : Tree ℕ (may
     → place_of_block low own (has_body (declares cs ts vs ps) statements) ≡ from_procedures low own ps statements
 in_block low own cs ts vs ps statements = one (way_in_procedures low ps)
   where
-    one : (way : WayToBody) → record { statements = body_in way (has_body (declares cs ts vs ps) statements); closing = closing_name_in_block way own (has_body (declares cs ts vs ps) statements) } ≡ among way own ps statements
+    one : (way : PathToBody) → record { statements = body_in way (has_body (declares cs ts vs ps) statements); closing = closing_name_in_block way own (has_body (declares cs ts vs ps) statements) } ≡ among way own ps statements
     one [] = refl
     one (k ∷ way) = refl
 

@@ -9,7 +9,7 @@ use Rattle.ob0_tree.specs.Order.{AreAscending, leaves, names_without_roles}
 use Rattle.ob0_tree.specs.Tree.{Tree, block, body, declares, declares_procedure, end, has_body, identifiers, is_module, item, items, maybe, module_text, more, none, procedure}
 use Rattle.ob0_tree.specs.FirstIdentifier.{first_token_of}
 use Rattle.ob0_tree.proofs.AscendingNumbers.{AllBelow, AllFrom, ascend_first, ascend_second, ascending_from, below_second, from_second, leaves_append}
-use Rattle.ob0_scope_table.specs.BodyReplaced.{WayToBody, body_among, body_at, body_in, body_inside, closing_name_in_procedures, closing_name_in_module, closing_name_in_block, closing_name_in_procedure, shift_way, way_in_procedures, way_in_block, way_in_procedure, way_in_module}
+use Rattle.ob0_scope_table.specs.BodyReplaced.{PathToBody, body_among, body_at, body_in, body_inside, closing_name_in_procedures, closing_name_in_module, closing_name_in_block, closing_name_in_procedure, shift_way, way_in_procedures, way_in_block, way_in_procedure, way_in_module}
 use Rattle.ob0_scope_table.specs.OneBody.{begins_at_or_before, closing_name, is_in_block, is_in_body, is_in_procedure, is_in_procedures}
 use Rattle.ob0_scope.proofs.Bodies.{Place, among, one_later}
 use Rattle.ob0_scope.proofs.BodySplit.{split_among, split_inside}
@@ -30,7 +30,7 @@ with_last : (n : ℕ) (xs : List ℕ) → AllFrom n xs → AllFrom n (xs ++ (n �
 with_last n [] h = (omega arith, tt)
 with_last n (x ∷ xs) h = (h.0, with_last n xs h.1)
 
-body_first : (n first k : ℕ) (way : WayToBody) (ps : Tree ℕ (items procedure)) (statements : Tree ℕ (maybe body)) → first_token_of (identifiers role.Declaring (body_among k way ps)) ≡ Some first → AllFrom n (leaves ps ++ leaves statements) → n ≤ first
+body_first : (n first k : ℕ) (way : PathToBody) (ps : Tree ℕ (items procedure)) (statements : Tree ℕ (maybe body)) → first_token_of (identifiers role.Declaring (body_among k way ps)) ≡ Some first → AllFrom n (leaves ps ++ leaves statements) → n ≤ first
 body_first n first k way ps statements e h =
     let s = split_among k way role.ClosingName n (identifiers role.Declaring statements) [] ps in
     let ids = identifiers role.Declaring (body_among k way ps) in
@@ -44,13 +44,13 @@ body_first n first k way ps statements e h =
 
 -- If all identifiers of procedures and statements are at or above a number, the body's first one
 -- is.
-first_among : (way : WayToBody) (n first own : ℕ) (ps : Tree ℕ (items procedure)) (statements : Tree ℕ (maybe body)) → first_token_of (identifiers role.Declaring (among way own ps statements).statements) ≡ Some first → AllFrom n (leaves ps ++ leaves statements) → n ≤ first
+first_among : (way : PathToBody) (n first own : ℕ) (ps : Tree ℕ (items procedure)) (statements : Tree ℕ (maybe body)) → first_token_of (identifiers role.Declaring (among way own ps statements).statements) ≡ Some first → AllFrom n (leaves ps ++ leaves statements) → n ≤ first
 first_among [] n first own ps statements e h = first_from n first (identifiers role.Declaring statements) [] e (subst (AllFrom n) (sym (append-nil (leaves statements))) (from_second n (leaves ps) (leaves statements) h))
 first_among (k ∷ way) n first own ps statements e h = body_first n first k way ps statements e h
 
 -- The closing name of a body's block isn't after the closing name of the procedure that contains
 -- it.
-closing_last : (way : WayToBody) (q : Tree ℕ (item procedure)) (from to : ℕ) → AreAscending from (leaves q) to → closing_name_in_procedure way q ≤ closing_name q
+closing_last : (way : PathToBody) (q : Tree ℕ (item procedure)) (from to : ℕ) → AreAscending from (leaves q) to → closing_name_in_procedure way q ≤ closing_name q
 closing_last way q from to h =
     let s = split_inside way [] q in
     let ids = identifiers role.Declaring (body_inside way q) in
@@ -93,11 +93,11 @@ module _ (low high first closing : ℕ) (less : first < low) where
         let parts = ascend_second from (c ++ (t ++ v)) (leaves ps ++ leaves statements) to (subst (λ l. AreAscending from l to) split rising) in
         procedures_exact ps statements own from to lies parts (first_is (way_in_procedures low ps) e) (closing_is (way_in_procedures low ps) f)
       where
-        first_is : (way : WayToBody) → first_token_of (identifiers role.Declaring (body_in way (has_body (declares cs ts vs ps) statements))) ≡ Some first → first_token_of (identifiers role.Declaring (among way own ps statements).statements) ≡ Some first
+        first_is : (way : PathToBody) → first_token_of (identifiers role.Declaring (body_in way (has_body (declares cs ts vs ps) statements))) ≡ Some first → first_token_of (identifiers role.Declaring (among way own ps statements).statements) ≡ Some first
         first_is [] e = e
         first_is (k ∷ way) e = e
 
-        closing_is : (way : WayToBody) → closing ≡ closing_name_in_block way own (has_body (declares cs ts vs ps) statements) → closing ≡ (among way own ps statements).closing
+        closing_is : (way : PathToBody) → closing ≡ closing_name_in_block way own (has_body (declares cs ts vs ps) statements) → closing ≡ (among way own ps statements).closing
         closing_is [] f = f
         closing_is (k ∷ way) f = f
 

@@ -5,7 +5,7 @@ use Rattle.std.proofs.Common.{◌≡◌, ℕ, zero, suc, List, [], ◌∷◌, �
 use Rattle.ob0_tree.specs.declared.tree.Role.{Role}
 use Rattle.ob0_tree.specs.declared.tree.Role.TheVariants as role
 use Rattle.ob0_tree.specs.Tree.{Tree, block, declares, declares_procedure, end, has_body, identifiers, is_module, item, items, module_text, more, procedure}
-use Rattle.ob0_scope_table.specs.BodyReplaced.{WayToBody, block_without, body_among, body_at, body_in, body_inside, closing_name_in_procedures, closing_name_in_module, closing_name_in_block, closing_name_in_procedure, procedure_without, procedures_without, module_without_body}
+use Rattle.ob0_scope_table.specs.BodyReplaced.{PathToBody, block_without, body_among, body_at, body_in, body_inside, closing_name_in_procedures, closing_name_in_module, closing_name_in_block, closing_name_in_procedure, procedure_without, procedures_without, module_without_body}
 
 -- states that `whole` is `rest` with the identifiers of a body inserted; the closing name comes
 -- first after the body
@@ -40,7 +40,7 @@ in_procedure x f b rest last = simp (append_assoc)
 
 mutual
   -- Splits the identifiers of a block with this closing name, and others after it.
-  pub split_block : {N : Type 0} (way : WayToBody) (closes : Role) (own : N) (rest : List (Role × N)) (b : Tree N block)
+  pub split_block : {N : Type 0} (way : PathToBody) (closes : Role) (own : N) (rest : List (Role × N)) (b : Tree N block)
       → Split (identifiers role.Declaring b ++ ((closes, own) ∷ rest)) (identifiers role.Declaring (block_without way b) ++ ((closes, own) ∷ rest)) (identifiers role.Declaring (body_in way b)) (closing_name_in_block way own b)
   split_block [] closes own rest (has_body ds statements) =
       let d = identifiers role.Declaring ds in
@@ -61,7 +61,7 @@ mutual
       (prepend (c ++ (t ++ v)) (split_among k way closes own s rest ps))
 
   -- Splits the identifiers of procedures, and others after them.
-  pub split_among : {N : Type 0} (k : ℕ) (way : WayToBody) (closes : Role) (own : N) (following rest : List (Role × N)) (ps : Tree N (items procedure))
+  pub split_among : {N : Type 0} (k : ℕ) (way : PathToBody) (closes : Role) (own : N) (following rest : List (Role × N)) (ps : Tree N (items procedure))
       → Split (identifiers role.Declaring ps ++ (following ++ ((closes, own) ∷ rest))) (identifiers role.Declaring (procedures_without k way ps) ++ (following ++ ((closes, own) ∷ rest))) (identifiers role.Declaring (body_among k way ps)) (closing_name_in_procedures k way own ps)
   split_among zero way closes own following rest end = record { before = following; closes = closes; after = rest; whole_is = refl; rest_is = refl }
   split_among (suc k) way closes own following rest end = record { before = following; closes = closes; after = rest; whole_is = refl; rest_is = refl }
@@ -76,7 +76,7 @@ mutual
       (prepend (identifiers role.Declaring p) (split_among k way closes own following rest ps))
 
   -- Splits the identifiers of a procedure, and others after it.
-  pub split_inside : {N : Type 0} (way : WayToBody) (rest : List (Role × N)) (p : Tree N (item procedure))
+  pub split_inside : {N : Type 0} (way : PathToBody) (rest : List (Role × N)) (p : Tree N (item procedure))
       → Split (identifiers role.Declaring p ++ rest) (identifiers role.Declaring (procedure_without way p) ++ rest) (identifiers role.Declaring (body_inside way p)) (closing_name_in_procedure way p)
   split_inside way rest (declares_procedure x fs b closing) =
       let f = identifiers role.Declaring fs in
@@ -84,5 +84,5 @@ mutual
       (prepend ((role.Declaring, x) ∷ f) (split_block way role.ClosingName closing rest b))
 
 -- Splits the identifiers of a module.
-pub split_module : {N : Type 0} (way : WayToBody) (t : Tree N module_text) → Split (identifiers role.Declaring t) (identifiers role.Declaring (module_without_body way t)) (identifiers role.Declaring (body_at way t)) (closing_name_in_module way t)
+pub split_module : {N : Type 0} (way : PathToBody) (t : Tree N module_text) → Split (identifiers role.Declaring t) (identifiers role.Declaring (module_without_body way t)) (identifiers role.Declaring (body_at way t)) (closing_name_in_module way t)
 split_module way (is_module x b closing) = prepend ((role.ModuleName, x) ∷ []) (split_block way role.ModuleName closing [] b)

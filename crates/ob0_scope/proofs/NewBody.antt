@@ -27,7 +27,7 @@ use Rattle.ob0_language_names.specs.Scopes.{relabel_module}
 use Rattle.ob0_tree.specs.FirstIdentifier.{first_token_of}
 use Rattle.ob0_tree.proofs.AscendingNumbers.{AllBelow, AllFrom, below_more, from_less, leaves_append}
 use Rattle.ob0_tree.proofs.MappedIdentifiers.{beside_role, identifiers-mapped, leaves_mapped}
-use Rattle.ob0_scope_table.specs.BodyReplaced.{IsBodyReplaced, WayToBody, body_at, closing_name_in_module, moved_token_index, way_in_module, module_without_body}
+use Rattle.ob0_scope_table.specs.BodyReplaced.{IsBodyReplaced, PathToBody, body_at, closing_name_in_module, moved_token_index, way_in_module, module_without_body}
 use Rattle.ob0_scope_table.specs.DeclaredTwice.{declaration_faults}
 use Rattle.ob0_scope_table.specs.OneBody.{is_outside}
 use Rattle.ob0_scope_table.specs.Resolution.{IsBindingTable, IsResolution, binding_at, declaring_names, ordinal_in, undeclared_faults_by_table, ordinal_and_spelling}
@@ -93,7 +93,7 @@ names_renamed f (x ∷ xs) = λ i. f x.1 ∷ names_renamed f xs i
 -- ---- the identifiers of both modules
 
 -- states which identifiers are before the body, in the old body, in the new body, and after it
-record Known (old new : ParsedModule) (way : WayToBody) (range : BodyRange) : Type 0 where
+record Known (old new : ParsedModule) (way : PathToBody) (range : BodyRange) : Type 0 where
   before : List (Role × ℕ)
   own : List (Role × ℕ)
   others : List (Role × ℕ)
@@ -108,7 +108,7 @@ record Known (old new : ParsedModule) (way : WayToBody) (range : BodyRange) : Ty
   new_parts : Parted before others (map (beside_role (far range)) after) range.first range.closing (length new.source.tokens)
   few : high + range.closing ≤ 2 ^ 64 - 1
 
-module _ (old new : ParsedModule) (way : WayToBody) (s : SameTokens) (r : IsBodyReplaced old new way s) where
+module _ (old new : ParsedModule) (way : PathToBody) (s : SameTokens) (r : IsBodyReplaced old new way s) where
   abbrev old_closing : ℕ
   old_closing = closing_name_in_module way (tree_of old)
 
@@ -177,7 +177,7 @@ module _ (old new : ParsedModule) (way : WayToBody) (s : SameTokens) (r : IsBody
       let there : new_closing - s.new_suffix + s.old_suffix ≡ old_closing = omega (arith, closing, back) in
       min-eq_left (let small : new_closing - s.new_suffix + s.old_suffix ≤ 2 ^ 64 - 1 = omega (arith, there, few, inside) in small) ∙ there
 
-known_in : (old new : ParsedModule) (way : WayToBody) (s : SameTokens) (range : BodyRange) (r : IsBodyReplaced old new way s) → range.first ≡ r.first → range.closing ≡ closing_name_in_module way (tree_of new) → range.old_closing ≡ old_closing_token s range.closing → Known old new way range
+known_in : (old new : ParsedModule) (way : PathToBody) (s : SameTokens) (range : BodyRange) (r : IsBodyReplaced old new way s) → range.first ≡ r.first → range.closing ≡ closing_name_in_module way (tree_of new) → range.old_closing ≡ old_closing_token s range.closing → Known old new way range
 known_in old new way s range r first closing place =
     let there = place ∙ (ap (old_closing_token s) closing ∙ place_is old new way s r) in
     let is : exact old new way s r ≡ range = λ i. record { first = sym first i; old_closing = sym there i; closing = sym closing i } in
@@ -203,7 +203,7 @@ ordinals_at source ordinals [] = refl
 ordinals_at source ordinals (x ∷ xs) = ap (λ l. ordinal_in ordinals x ∷ l) (ordinals_at source ordinals xs)
 
 -- The bindings of names outside the body are unchanged.
-same_outside : (old new : ParsedModule) (way : WayToBody) (s : SameTokens) (before now : List (Option ℕ)) → IsBodyReplaced old new way s → IsBindingTable old before → IsBindingTable new now
+same_outside : (old new : ParsedModule) (way : PathToBody) (s : SameTokens) (before now : List (Option ℕ)) → IsBodyReplaced old new way s → IsBindingTable old before → IsBindingTable new now
     → map (ordinal_in now) (leaves (module_without_body way (tree_of new))) ≡ map (ordinal_in before) (leaves (module_without_body way (tree_of old)))
 same_outside old new way s before now r was is =
     let outside : (m : ParsedModule) (ordinals : List (Option ℕ)) → IsBindingTable m ordinals → relabel_module naming_by_spelling ordinal_and_spelling (tree_with_names m.source (module_without_body way (tree_of m))) ≡ mapped (binding_at m.source ordinals) (value_at m.source) (module_without_body way (tree_of m)) =
@@ -293,7 +293,7 @@ absent_all j a b c e f g = list_any-append (λ i. i == j) a (b ++ c) ∙ (λ k. 
 three : (a b c : List (Role × ℕ)) → names_without_roles (a ++ (b ++ c)) ≡ names_without_roles a ++ (names_without_roles b ++ names_without_roles c)
 three a b c = leaves_append a (b ++ c) ∙ ap (λ z. names_without_roles a ++ z) (leaves_append b c)
 
-module _ (old new : ParsedModule) (way : WayToBody) (range : BodyRange) (known : Known old new way range) (table : List (Option ℕ)) (alone : (token : ℕ) → list_any (λ i. i == token) (leaves (tree_of old)) ≡ false → ordinal_in table token ≡ None) where
+module _ (old new : ParsedModule) (way : PathToBody) (range : BodyRange) (known : Known old new way range) (table : List (Option ℕ)) (alone : (token : ℕ) → list_any (λ i. i == token) (leaves (tree_of old)) ≡ false → ordinal_in table token ≡ None) where
   abbrev before_names : List ℕ
   before_names = names_without_roles known.before
 

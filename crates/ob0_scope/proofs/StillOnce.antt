@@ -11,7 +11,7 @@ use Rattle.ob0_tree.specs.Tree.{Tree, block, declares, declares_procedure, end, 
 use Rattle.ob0_language_names.specs.DeclaredOnce.{are_distinct, block_once, declared_once, formals_have_distinct_fields, procedure_names, procedure_once, procedures_once, types_have_distinct_fields, variables_have_distinct_fields}
 use Rattle.ob0_language_names.specs.Names.{Name, same_name}
 use Rattle.ob0_language_names.specs.Parts.{constant_names, formal_names, formal_sections, declared_type_names, procedure_name, section_constants, section_types, section_variables, variable_names}
-use Rattle.ob0_scope_table.specs.BodyReplaced.{IsBodyReplaced, WayToBody, block_without, procedure_without, procedures_without, way_in_module, module_without_body}
+use Rattle.ob0_scope_table.specs.BodyReplaced.{IsBodyReplaced, PathToBody, block_without, procedure_without, procedures_without, way_in_module, module_without_body}
 use Rattle.ob0_scope_table.specs.DeclaredTwice.{declaration_faults}
 use Rattle.ob0_scope_table.specs.OneBody.{IsBodyChange, is_outside}
 use Rattle.ob0_scope_table.specs.Resolution.{is_declaration_fault}
@@ -24,41 +24,41 @@ use Rattle.ob0_scope.proofs.WithoutRelabelled.{name_without}
 
 -- ---- a module without a body
 
-names_without : (k : ℕ) (way : WayToBody) (ps : Tree Name (items procedure)) → procedure_names (procedures_without k way ps) ≡ procedure_names ps
+names_without : (k : ℕ) (way : PathToBody) (ps : Tree Name (items procedure)) → procedure_names (procedures_without k way ps) ≡ procedure_names ps
 names_without zero way end = refl
 names_without (suc k) way end = refl
 names_without zero way (more p ps) = ap (λ x. x ∷ procedure_names ps) (name_without way p)
 names_without (suc k) way (more p ps) = ap (λ l. procedure_name p ∷ l) (names_without k way ps)
 
 mutual
-  block_without_once : (way : WayToBody) (own : List Name) (b : Tree Name block) → block_once own (block_without way b) ≡ block_once own b
+  block_without_once : (way : PathToBody) (own : List Name) (b : Tree Name block) → block_once own (block_without way b) ≡ block_once own b
   block_without_once [] own (has_body (declares cs ts vs ps) statements) = refl
   block_without_once (k ∷ way) own (has_body (declares cs ts vs ps) statements) =
       λ i. are_distinct (own ++ (constant_names (section_constants cs) ++ (declared_type_names (section_types ts) ++ (variable_names (section_variables vs) ++ names_without k way ps i))))
       && (types_have_distinct_fields (section_types ts) && (variables_have_distinct_fields (section_variables vs) && procedures_without_once k way ps i))
 
-  procedures_without_once : (k : ℕ) (way : WayToBody) (ps : Tree Name (items procedure)) → procedures_once (procedures_without k way ps) ≡ procedures_once ps
+  procedures_without_once : (k : ℕ) (way : PathToBody) (ps : Tree Name (items procedure)) → procedures_once (procedures_without k way ps) ≡ procedures_once ps
   procedures_without_once zero way end = refl
   procedures_without_once (suc k) way end = refl
   procedures_without_once zero way (more p ps) = ap (λ b. b && procedures_once ps) (procedure_without_once way p)
   procedures_without_once (suc k) way (more p ps) = ap (λ b. procedure_once p && b) (procedures_without_once k way ps)
 
-  procedure_without_once : (way : WayToBody) (p : Tree Name (item procedure)) → procedure_once (procedure_without way p) ≡ procedure_once p
+  procedure_without_once : (way : PathToBody) (p : Tree Name (item procedure)) → procedure_once (procedure_without way p) ≡ procedure_once p
   procedure_without_once way (declares_procedure x fs b closing) =
       ap (λ c. same_name x closing && (formals_have_distinct_fields (formal_sections fs) && c)) (block_without_once way (formal_names (formal_sections fs)) b)
 
-once_without : (way : WayToBody) (t : Tree Name module_text) → declared_once (module_without_body way t) ≡ declared_once t
+once_without : (way : PathToBody) (t : Tree Name module_text) → declared_once (module_without_body way t) ≡ declared_once t
 once_without way (is_module x b closing) = ap (λ c. same_name x closing && c) (block_without_once way [] b)
 
 -- Two trees that are the same without a body agree on whether names are declared once.
-once_outside : (way : WayToBody) (a b : TextWithTokens) (s t : Tree ℕ module_text) → tree_with_names a (module_without_body way s) ≡ tree_with_names b (module_without_body way t) → declared_once (tree_with_names a s) ≡ declared_once (tree_with_names b t)
+once_outside : (way : PathToBody) (a b : TextWithTokens) (s t : Tree ℕ module_text) → tree_with_names a (module_without_body way s) ≡ tree_with_names b (module_without_body way t) → declared_once (tree_with_names a s) ≡ declared_once (tree_with_names b t)
 once_outside way a b s t same =
     sym (once_without way (tree_with_names a s))
     ∙ (ap declared_once (without_mapped (text_at a) (value_at a) way s ∙ (same ∙ sym (without_mapped (text_at b) (value_at b) way t))) ∙ once_without way (tree_with_names b t))
 
 -- ---- both modules
 
-pub still_once : (old new : ParsedModule) (way : WayToBody) (s : SameTokens) → IsBodyReplaced old new way s → declared_once (named_tree_of new) ≡ declared_once (named_tree_of old)
+pub still_once : (old new : ParsedModule) (way : PathToBody) (s : SameTokens) → IsBodyReplaced old new way s → declared_once (named_tree_of new) ≡ declared_once (named_tree_of old)
 still_once old new way s r = once_outside way new.source old.source (tree_of new) (tree_of old) (names_outside old new way s r)
 
 pub still_once_written : (old : TextWithTokens) (m : ParsedModule) (low high : ℕ) → IsParsed m → IsBodyChange old m low high → declared_once (named_tree_of m) ≡ declared_once (tree_with_names old (tree_of m))

@@ -3,7 +3,7 @@
 use Rattle.ob0_scan.specs.declared.tokens.SameTokens.{SameTokens}
 use Rattle.ob0_tree.specs.ParsedModule.{ParsedModule}
 use Rattle.ob0_scope_table.specs.Bindings.{resolution_with}
-use Rattle.ob0_scope_table.specs.BodyReplaced.{IsBodyReplaced, WayToBody}
+use Rattle.ob0_scope_table.specs.BodyReplaced.{IsBodyReplaced, PathToBody}
 use Rattle.ob0_scope_table.specs.Resolution.{IsResolution}
 use Rattle.ob0_scope_table.specs.declared.resolved.Bindings.{Bindings}
 
@@ -11,6 +11,6 @@ use Rattle.ob0_scope_table.specs.declared.resolved.Bindings.{Bindings}
 -- replaced. `s` says which tokens both modules have in common.
 pub record WasBoundElsewhere (m : ParsedModule) (b : Bindings) (s : SameTokens) : Type 0 where
   pub old : ParsedModule
-  pub way : WayToBody
+  pub way : PathToBody
   pub replaced : IsBodyReplaced old m way s
   pub resolved : IsResolution (resolution_with old b)

@@ -10,7 +10,7 @@ use Rattle.std.specs.BTreeMap.{BTreeMap, get_by, UpdatesBy}
 use Rattle.std.specs.Cmp.{nat_cmp_is}
 use Rattle.std.specs.Cmp.Lexicographic.{slice_cmp}
 use Rattle.std.specs.Ordering.{nat_cmp, ordering_then}
-use Rattle.ob0_scope_numbering.specs.declared.newest.BoundName.{BoundName}
+use Rattle.ob0_scope_numbering.specs.declared.newest.NameEntry.{NameEntry}
 use Rattle.ob0_scope_numbering.specs.Keys.{Key, compare_keys, compare_name_with_key, suffix_number}
 use Rattle.ob0_language_names.specs.Names.{Name, same_name}
 use Rattle.ob0_language_names.proofs.NameEquality.{same_name-comm, same_name-refl}
@@ -41,12 +41,12 @@ if_false true v w e = absurd (cc)
 if_false false v w e = refl
 
 -- states that an entry is at a name's position
-pub record IsAtIndex (es : List BoundName) (x : Name) (i : ℕ) (d : BoundName) : Type 0 where
+pub record IsAtIndex (es : List NameEntry) (x : Name) (i : ℕ) (d : NameEntry) : Type 0 where
   pub below : i < length es
   pub named : (get_or es i d).name.now ≡ x
   pub newest : newest_binding_in es x ≡ (get_or es i d).newest
 
-pub place_holds : (es : List BoundName) (x : Name) (i : ℕ) (d : BoundName) → place_of es x ≡ Some i → IsAtIndex es x i d
+pub place_holds : (es : List NameEntry) (x : Name) (i : ℕ) (d : NameEntry) → place_of es x ≡ Some i → IsAtIndex es x i d
 place_holds [] x i d h = absurd (cc)
 place_holds (e ∷ es) x zero d h =
     let same = first_place (same_name x e.name.now) (place_of es x) h in
@@ -56,7 +56,7 @@ place_holds (e ∷ es) x (suc i) d h =
     let r = place_holds es x i d later.1 in
     record { below = let b = r.below in omega (arith, b); named = r.named; newest = if_false (same_name x e.name.now) e.newest (newest_binding_in es x) later.0 ∙ r.newest }
 
-pub newest_none : (es : List BoundName) (x : Name) → place_of es x ≡ None → newest_binding_in es x ≡ None
+pub newest_none : (es : List NameEntry) (x : Name) → place_of es x ≡ None → newest_binding_in es x ≡ None
 newest_none [] x h = refl
 newest_none (e ∷ es) x h =
     let n = no_place (same_name x e.name.now) (place_of es x) h in
@@ -88,7 +88,7 @@ there_placed false false n o s f g = ap (option_map suc) g
 apart : (x y n : Name) → same_name x n ≡ false → same_name x y ≡ true → same_name y n ≡ false
 apart x y n e same = subst (λ z. same_name z n ≡ false) ((bytes_eq-Decides x y).0 same) e
 
-pub renewed : (es : List BoundName) (x : Name) (i : ℕ) (r : BoundName) → r.name.now ≡ x → place_of es x ≡ Some i → SetsNewest es (set es i r) x r.newest
+pub renewed : (es : List NameEntry) (x : Name) (i : ℕ) (r : NameEntry) → r.name.now ≡ x → place_of es x ≡ Some i → SetsNewest es (set es i r) x r.newest
 renewed [] x i r named h = absurd (cc)
 renewed (e ∷ es) x zero r named h = λ y.
     let is : x ≡ e.name.now = (bytes_eq-Decides x e.name.now).0 (first_place (same_name x e.name.now) (place_of es x) h) in
@@ -99,7 +99,7 @@ renewed (e ∷ es) x (suc i) r named h = λ y.
     there_renewed (same_name x y) (same_name y e.name.now) r.newest e.newest (newest_binding_in es y) (newest_binding_in (set es i r) y)
     (apart x y e.name.now later.0) (renewed es x i r named later.1 y)
 
-pub place_renewed : (es : List BoundName) (x : Name) (i : ℕ) (r : BoundName) → r.name.now ≡ x → place_of es x ≡ Some i → (y : Name) → place_of (set es i r) y ≡ place_of es y
+pub place_renewed : (es : List NameEntry) (x : Name) (i : ℕ) (r : NameEntry) → r.name.now ≡ x → place_of es x ≡ Some i → (y : Name) → place_of (set es i r) y ≡ place_of es y
 place_renewed [] x i r named h y = absurd (cc)
 place_renewed (e ∷ es) x zero r named h y =
     let is : x ≡ e.name.now = (bytes_eq-Decides x e.name.now).0 (first_place (same_name x e.name.now) (place_of es x) h) in
@@ -108,14 +108,14 @@ place_renewed (e ∷ es) x (suc i) r named h y =
     let later = later_place (same_name x e.name.now) (place_of es x) i h in
     ap (λ o. if same_name y e.name.now then Some zero else option_map suc o) (place_renewed es x i r named later.1 y)
 
-pub added : (es : List BoundName) (r : BoundName) → place_of es r.name.now ≡ None → SetsNewest es (es ++ (r ∷ [])) r.name.now r.newest
+pub added : (es : List NameEntry) (r : NameEntry) → place_of es r.name.now ≡ None → SetsNewest es (es ++ (r ∷ [])) r.name.now r.newest
 added [] r h = λ y. ap (λ b. if b then r.newest else None) (same_name-comm y r.name.now)
 added (e ∷ es) r h = λ y.
     let n = no_place (same_name r.name.now e.name.now) (place_of es r.name.now) h in
     there_renewed (same_name r.name.now y) (same_name y e.name.now) r.newest e.newest (newest_binding_in es y) (newest_binding_in (es ++ (r ∷ [])) y)
     (apart r.name.now y e.name.now n.0) (added es r n.1 y)
 
-pub place_added : (es : List BoundName) (r : BoundName) → place_of es r.name.now ≡ None → (y : Name) → place_of (es ++ (r ∷ [])) y ≡ (if same_name r.name.now y then Some (length es) else place_of es y)
+pub place_added : (es : List NameEntry) (r : NameEntry) → place_of es r.name.now ≡ None → (y : Name) → place_of (es ++ (r ∷ [])) y ≡ (if same_name r.name.now y then Some (length es) else place_of es y)
 place_added [] r h y = ap (λ b. if b then Some zero else None) (same_name-comm y r.name.now)
 place_added (e ∷ es) r h y =
     let n = no_place (same_name r.name.now e.name.now) (place_of es r.name.now) h in
@@ -123,9 +123,9 @@ place_added (e ∷ es) r h y =
     (apart r.name.now y e.name.now n.0) (place_added es r n.1 y)
 
 -- The map has the positions of the names after one gets another newest binding.
-pub places_renewed : (places : BTreeMap Key ℕ) (es : List BoundName) (x : Name) (i : ℕ) (r : BoundName) → r.name.now ≡ x → place_of es x ≡ Some i → ArePlaces places es → ArePlaces places (set es i r)
+pub places_renewed : (places : BTreeMap Key ℕ) (es : List NameEntry) (x : Name) (i : ℕ) (r : NameEntry) → r.name.now ≡ x → place_of es x ≡ Some i → ArePlaces places es → ArePlaces places (set es i r)
 places_renewed places es x i r named h w =
-    let name : BoundName → Name = λ (e : BoundName). e.name.now in
+    let name : NameEntry → Name = λ (e : NameEntry). e.name.now in
     let names : map name (set es i r) ≡ map name es = map-set_same name es i r r (named ∙ sym (place_holds es x i r h).named) in
     record {
       placed = λ y. w.placed y ∙ sym (place_renewed es x i r named h y);
@@ -179,7 +179,7 @@ last_or_before (suc j) (suc n) less =
     let l : j < n + 1 = omega (arith, less) in
     elim (last_or_before j n l) [ inl h ↦ inl (omega (arith, h)) | inr h ↦ inr (ap suc h) ]
 
-pub places_added : (places next : BTreeMap Key ℕ) (es : List BoundName) (r : BoundName) → place_of es r.name.now ≡ None → Renews (key_of r.name) places next (Some (length es)) → ArePlaces places es → ArePlaces next (es ++ (r ∷ []))
+pub places_added : (places next : BTreeMap Key ℕ) (es : List NameEntry) (r : NameEntry) → place_of es r.name.now ≡ None → Renews (key_of r.name) places next (Some (length es)) → ArePlaces places es → ArePlaces next (es ++ (r ∷ []))
 places_added places next es r h renews w =
     record {
       placed = λ y. renewed_at r.name places next (Some (length es)) renews y
@@ -191,17 +191,17 @@ places_added places next es r h renews w =
                 let at : place_of es (get_or es j d).name.now ≡ Some j = w.distinct j d before in
                 let other : same_name r.name.now (get_or es j d).name.now ≡ false = not_same (same_name r.name.now (get_or es j d).name.now)
                 (λ e. some_apart (place_of es (get_or es j d).name.now) j at (ap (place_of es) (sym ((bytes_eq-Decides r.name.now (get_or es j d).name.now).0 e)) ∙ h)) in
-                ap (λ (e : BoundName). place_of (es ++ (r ∷ [])) e.name.now) (get_or-append es (r ∷ []) d j before)
+                ap (λ (e : NameEntry). place_of (es ++ (r ∷ [])) e.name.now) (get_or-append es (r ∷ []) d j before)
                 ∙ (place_added es r h (get_or es j d).name.now ∙ (if_false (same_name r.name.now (get_or es j d).name.now) (Some (length es)) (place_of es (get_or es j d).name.now) other ∙ at))
             | inr last ↦
                 let here : get_or (es ++ (r ∷ [])) j d ≡ r = ap (λ n. get_or (es ++ (r ∷ [])) n d) last ∙ get_or-append_seam es r [] d in
-                ap (λ (e : BoundName). place_of (es ++ (r ∷ [])) e.name.now) here
+                ap (λ (e : NameEntry). place_of (es ++ (r ∷ [])) e.name.now) here
                 ∙ (place_added es r h r.name.now ∙ (if_true (same_name r.name.now r.name.now) (Some (length es)) (place_of es r.name.now) (same_name-refl r.name.now) ∙ ap (λ n. Some n) (sym last)))
           ];
     }
 
 -- Adding a name without a binding keeps the newest bindings.
-pub none_newer : (es : List BoundName) (r : BoundName) → r.newest ≡ None → place_of es r.name.now ≡ None → KeepsNewest es (es ++ (r ∷ []))
+pub none_newer : (es : List NameEntry) (r : NameEntry) → r.newest ≡ None → place_of es r.name.now ≡ None → KeepsNewest es (es ++ (r ∷ []))
 none_newer es r e absent = λ y. added es r absent y ∙ one y (same_name r.name.now y) refl
   where
     one : (y : Name) (b : Bool) → same_name r.name.now y ≡ b → (if b then r.newest else newest_binding_in es y) ≡ newest_binding_in es y

@@ -3,46 +3,46 @@
 -- Rule: none; for private contracts: the map of visible names.
 use Rattle.std.specs.Prelude.{◌≡◌, ◌<◌, ℕ, suc, List, [], ◌∷◌, Option, Some, None, if◌then◌else◌, length, option_map, slice_index_or}
 use Rattle.std.specs.BTreeMap.{BTreeMap, get_by}
-use Rattle.ob0_scope_numbering.specs.declared.newest.BoundName.{BoundName}
+use Rattle.ob0_scope_numbering.specs.declared.newest.NameEntry.{NameEntry}
 use Rattle.ob0_scope_numbering.specs.Keys.{Key, compare_name_with_key}
 use Rattle.ob0_language_names.specs.Names.{Name, same_name}
 
 -- Returns the index of a name's newest binding. Returns None if the name has no binding or isn't in
 -- the list.
-abbrev pub newest_binding_in : List BoundName → Name → Option ℕ
+abbrev pub newest_binding_in : List NameEntry → Name → Option ℕ
 newest_binding_in [] x = None
 newest_binding_in (e ∷ es) x = if same_name x e.name.now then e.newest else newest_binding_in es x
 
 -- returns the position of a name in the list, counted from 0, or None if the name isn't in the list
-abbrev pub place_of : List BoundName → Name → Option ℕ
+abbrev pub place_of : List NameEntry → Name → Option ℕ
 place_of [] x = None
 place_of (e ∷ es) x = if same_name x e.name.now then Some 0 else option_map suc (place_of es x)
 
 -- states that after a change the newest binding of the name `x` has the index `newest` (None: no
 -- binding), and that all other names keep their newest bindings
-abbrev pub SetsNewest : List BoundName → List BoundName → Name → Option ℕ → Type 0
+abbrev pub SetsNewest : List NameEntry → List NameEntry → Name → Option ℕ → Type 0
 SetsNewest before after x newest =
     (y : Name) → newest_binding_in after y ≡ (if same_name x y then newest else newest_binding_in before y)
 
 -- States that the map has each name's position in the list, and that no name is in the list twice.
-pub record ArePlaces (places : BTreeMap Key ℕ) (entries : List BoundName) : Type 0 where
+pub record ArePlaces (places : BTreeMap Key ℕ) (entries : List NameEntry) : Type 0 where
   pub placed : (x : Name) → get_by (compare_name_with_key x) places ≡ place_of entries x
-  pub distinct : (i : ℕ) (d : BoundName)
+  pub distinct : (i : ℕ) (d : NameEntry)
       → i < length entries
       → place_of entries (slice_index_or entries i d).name.now ≡ Some i
 
 -- states that the name `x` was added at the end of the list, and that the other names keep their
 -- positions
-abbrev pub AppendsName : List BoundName → List BoundName → Name → Type 0
+abbrev pub AppendsName : List NameEntry → List NameEntry → Name → Type 0
 AppendsName before after x =
     (y : Name)
     → place_of after y ≡ (if same_name x y then Some (length before) else place_of before y)
 
 -- states that each name in the list keeps its position
-abbrev pub KeepsPlaces : List BoundName → List BoundName → Type 0
+abbrev pub KeepsPlaces : List NameEntry → List NameEntry → Type 0
 KeepsPlaces before after =
     (y : Name) → (i : ℕ) → place_of before y ≡ Some i → place_of after y ≡ Some i
 
 -- states that each name keeps its newest binding, or still has none
-abbrev pub KeepsNewest : List BoundName → List BoundName → Type 0
+abbrev pub KeepsNewest : List NameEntry → List NameEntry → Type 0
 KeepsNewest before after = (y : Name) → newest_binding_in after y ≡ newest_binding_in before y

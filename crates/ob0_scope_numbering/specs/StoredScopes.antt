@@ -3,7 +3,7 @@
 -- Rule: none; for contracts: a scope as it is stored.
 use Rattle.std.specs.Prelude.{◌≡◌, ℕ, List, [], ◌∷◌, Option, Some, None, if◌then◌else◌, map, length, reverse}
 use Rattle.ob0_scope_numbering.specs.declared.visible.Binding.{Binding}
-use Rattle.ob0_scope_numbering.specs.declared.newest.BoundName.{BoundName}
+use Rattle.ob0_scope_numbering.specs.declared.newest.NameEntry.{NameEntry}
 use Rattle.ob0_scope_numbering.specs.NewestNames.{newest_binding_in, place_of}
 use Rattle.ob0_language_names.specs.Names.{Name, same_name}
 use Rattle.ob0_language_names.specs.Scopes.{Scope}
@@ -26,7 +26,7 @@ HaveHiddenIndexes (b ∷ bs) = (b.hidden ≡ newest_binding_index b.name.now bs)
 
 -- States that the list `newest` has the index of each name's newest binding. Also, each binding has
 -- the index of the binding that it hides. The bindings are given oldest first.
-pub record HasNewestBindings (newest : List BoundName) (bindings : List Binding) : Type 0 where
+pub record HasNewestBindings (newest : List NameEntry) (bindings : List Binding) : Type 0 where
   pub found : (x : Name) → newest_binding_in newest x ≡ newest_binding_index x (reverse bindings)
   pub hidden : HaveHiddenIndexes (reverse bindings)
 
@@ -40,7 +40,7 @@ abbrev pub with_scope : VisibleNames → Scope Name → VisibleNames
 with_scope v scope = record { new_name = v.new_name; scope = scope }
 
 -- states that each binding has the position of its name in the list `newest`
-abbrev pub HaveNamePlaces : List BoundName → List Binding → Type 0
+abbrev pub HaveNamePlaces : List NameEntry → List Binding → Type 0
 HaveNamePlaces newest [] = Unit {0}
 HaveNamePlaces newest (b ∷ bs) =
     (place_of newest b.name.now ≡ Some b.place) × HaveNamePlaces newest bs
@@ -48,7 +48,7 @@ HaveNamePlaces newest (b ∷ bs) =
 -- States that the list `newest` has the index of each name's newest binding. Each binding has the
 -- index of the binding that it hides, and the position of its name in the list. The new name has
 -- the first position.
-pub record IsConsistentScope (new : Name) (newest : List BoundName) (bindings : List Binding) : Type 0 where
+pub record IsConsistentScope (new : Name) (newest : List NameEntry) (bindings : List Binding) : Type 0 where
   pub is : HasNewestBindings newest bindings
   pub placed : HaveNamePlaces newest bindings
   pub first : place_of newest new ≡ Some 0

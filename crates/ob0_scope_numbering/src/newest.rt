@@ -95,7 +95,7 @@ fn empty_recent_slots(alloc: Global) -> Result<Vec<usize>, AllocError> {
 /// A name, with the index of its newest binding, counted from the oldest of all bindings. The index
 /// is None if the name has no binding.
 #[derive(Clone, Copy)]
-pub(crate) struct BoundName<'t> {
+pub(crate) struct NameEntry<'t> {
     name: &'t str,
     newest: Option<usize>,
 }
@@ -106,17 +106,17 @@ pub(crate) struct BoundName<'t> {
 /// found at once.
 #[derive(Drop)]
 pub(crate) struct NewestBindings<'t> {
-    entries: Vec<BoundName<'t>>,
+    entries: Vec<NameEntry<'t>>,
     places: BTreeMap<Key<'t>, usize>,
     recent: Vec<usize>,
 }
 
 impl<'t> Model for NewestBindings<'t> {
     ghost use Rattle.std.specs.Prelude.{List};
-    ghost use Rattle.ob0_scope_numbering.specs.declared.newest.BoundName.{BoundName};
+    ghost use Rattle.ob0_scope_numbering.specs.declared.newest.NameEntry.{NameEntry};
     ghost use Rattle.ob0_scope_numbering.specs.NewestNames.{ArePlaces};
 
-    ghost Value = { List BoundName };
+    ghost Value = { List NameEntry };
 
     ghost view = { λ t. t.entries.items };
 
@@ -221,7 +221,7 @@ impl<'t> NewestBindings<'t> {
     {
         self.entries.reserve(1)?;
         self.places.insert(key_of(name), self.entries.len())?;
-        self.entries.push_reserved(BoundName { name, newest: None });
+        self.entries.push_reserved(NameEntry { name, newest: None });
         Ok(())
     }
 
@@ -258,7 +258,7 @@ impl<'t> NewestBindings<'t> {
         ensures renewed { SetsNewest self.old self.new name.now newest }
         ensures places { KeepsPlaces self.old self.new }
     {
-        self.entries[place] = BoundName { name, newest };
+        self.entries[place] = NameEntry { name, newest };
     }
 
     /// Returns the index of a name's newest binding. Returns None if the name has no binding.

@@ -10,7 +10,7 @@ use Rattle.ob0_tree.specs.Order.{AreAscending, names_without_roles}
 use Rattle.ob0_tree.specs.Tree.{Tree, block, body, constants, declares, declares_procedure, end, has_body, identifiers, is_module, item, items, maybe, module_text, more, procedure, spell, type_names, variables}
 use Rattle.ob0_tree.proofs.Leaves.{ascending_bounds, ascending_higher, leaves_spelled, lexeme_names}
 use Rattle.ob0_scope_table.specs.TokenProperty.{EachTokenHas}
-use Rattle.ob0_scope_table.specs.BodyReplaced.{WayToBody, block_without, shift_way, procedure_without, procedures_without, way_in_procedures, way_in_block, way_in_procedure, way_in_module, module_without_body}
+use Rattle.ob0_scope_table.specs.BodyReplaced.{PathToBody, block_without, shift_way, procedure_without, procedures_without, way_in_procedures, way_in_block, way_in_procedure, way_in_module, module_without_body}
 use Rattle.ob0_scope_table.specs.OneBody.{begins_at_or_before, closing_name, is_in_block, is_in_body, is_in_procedure, is_in_procedures, is_outside}
 use Rattle.ob0_scope_table.proofs.Placed.{AllOf, each_of, places, places_spelled, token_places}
 
@@ -77,15 +77,15 @@ begins_terminals least low (EndOfText ∷ xs) high h b = begins_terminals least 
 module _ (P : ℕ → Type 0) where
   -- holds if the tokens of a block's procedures and statements have property P, without those to
   -- which a way leads
-  abbrev pub Among : WayToBody → Tree ℕ (items procedure) → Tree ℕ (maybe body) → Type 0
+  abbrev pub Among : PathToBody → Tree ℕ (items procedure) → Tree ℕ (maybe body) → Type 0
   Among [] ps statements = EachTokenHas P ps
   Among (k ∷ way) ps statements = EachTokenHas P (procedures_without k way ps) × EachTokenHas P statements
 
-  among_later : (way : WayToBody) (p : Tree ℕ (item procedure)) (ps : Tree ℕ (items procedure)) (statements : Tree ℕ (maybe body)) → EachTokenHas P p → Among way ps statements → Among (shift_way way) (more p ps) statements
+  among_later : (way : PathToBody) (p : Tree ℕ (item procedure)) (ps : Tree ℕ (items procedure)) (statements : Tree ℕ (maybe body)) → EachTokenHas P p → Among way ps statements → Among (shift_way way) (more p ps) statements
   among_later [] p ps statements first h = (first, h)
   among_later (k ∷ way) p ps statements first h = ((first, h.0), h.1)
 
-  block_among : (way : WayToBody) (cs : Tree ℕ (maybe constants)) (ts : Tree ℕ (maybe type_names)) (vs : Tree ℕ (maybe variables)) (ps : Tree ℕ (items procedure)) (statements : Tree ℕ (maybe body))
+  block_among : (way : PathToBody) (cs : Tree ℕ (maybe constants)) (ts : Tree ℕ (maybe type_names)) (vs : Tree ℕ (maybe variables)) (ps : Tree ℕ (items procedure)) (statements : Tree ℕ (maybe body))
       → EachTokenHas P cs → EachTokenHas P ts → EachTokenHas P vs → Among way ps statements → EachTokenHas P (block_without way (has_body (declares cs ts vs ps) statements))
   block_among [] cs ts vs ps statements c t v h = ((c, t, v, h), tt)
   block_among (k ∷ way) cs ts vs ps statements c t v h = ((c, t, v, h.0), h.1)

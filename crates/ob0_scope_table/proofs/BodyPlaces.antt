@@ -13,7 +13,7 @@ use Rattle.ob0_tree.specs.declared.tree.Procedure.{Procedure, out-Procedure}
 use Rattle.ob0_tree.proofs.Viewed.{block_parts, procedure_parts}
 use Rattle.ob0_scope_table.specs.BodyPlaces.{body_place_around, body_place_if, body_place_in_block, body_place_in_procedure}
 use Rattle.ob0_tree.specs.FirstIdentifier.{first_token_of}
-use Rattle.ob0_scope_table.specs.BodyReplaced.{WayToBody, body_at, body_in, body_inside, closing_name_in_module, closing_name_in_block, closing_name_in_procedure, shift_way, way_in_procedures, way_in_block, way_in_procedure, way_in_module}
+use Rattle.ob0_scope_table.specs.BodyReplaced.{PathToBody, body_at, body_in, body_inside, closing_name_in_module, closing_name_in_block, closing_name_in_procedure, shift_way, way_in_procedures, way_in_block, way_in_procedure, way_in_module}
 use Rattle.ob0_scope_table.specs.OneBody.{begins_at_or_before, closing_name, is_in_block, is_in_body, is_in_procedure, is_in_procedures}
 use Rattle.ob0_scope_table.specs.declared.one_body.BodyPlace.{BodyPlace}
 
@@ -85,11 +85,11 @@ closes : (q : Procedure) → closing_name (procedure_of q) ≡ (out-Procedure q)
 closes q = ap closing_name (procedure_parts q)
 
 module _ (cs : Tree ℕ (maybe constants)) (ts : Tree ℕ (maybe type_names)) (vs : Tree ℕ (maybe variables)) (p : Tree ℕ (item procedure)) (ps : Tree ℕ (items procedure)) (statements : Tree ℕ (maybe body)) where
-  body_later : (way : WayToBody) → body_in (shift_way way) (has_body (declares cs ts vs (more p ps)) statements) ≡ body_in way (has_body (declares cs ts vs ps) statements)
+  body_later : (way : PathToBody) → body_in (shift_way way) (has_body (declares cs ts vs (more p ps)) statements) ≡ body_in way (has_body (declares cs ts vs ps) statements)
   body_later [] = refl
   body_later (k ∷ way) = refl
 
-  closing_later : (way : WayToBody) (own : ℕ) → closing_name_in_block (shift_way way) own (has_body (declares cs ts vs (more p ps)) statements) ≡ closing_name_in_block way own (has_body (declares cs ts vs ps) statements)
+  closing_later : (way : PathToBody) (own : ℕ) → closing_name_in_block (shift_way way) own (has_body (declares cs ts vs (more p ps)) statements) ≡ closing_name_in_block way own (has_body (declares cs ts vs ps) statements)
   closing_later [] own = refl
   closing_later (k ∷ way) own = refl
 

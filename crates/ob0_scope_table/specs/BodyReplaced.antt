@@ -14,41 +14,41 @@ use Rattle.ob0_scope_table.specs.OneBody.{closing_name, is_in_body, is_outside}
 -- A way to a body, which is a path in the tree: in each block, the number of the procedure to
 -- enter, from the module inwards. The procedures of a block are counted from 0. The way leads to
 -- the body of the procedure that is entered last. An empty way leads to the module's own body.
-abbrev pub WayToBody : Type 0
-WayToBody = List ℕ
+abbrev pub PathToBody : Type 0
+PathToBody = List ℕ
 
 -- returns the way to the same body if one more procedure is put before the procedures of the first
 -- block on the way
-abbrev pub shift_way : WayToBody → WayToBody
+abbrev pub shift_way : PathToBody → PathToBody
 shift_way [] = []
 shift_way (k ∷ way) = suc k ∷ way
 
 -- Returns the way to the body around the token `low`.
 abbrev mutual
   -- returns the way from a block to the body around the token `low`
-  pub way_in_block : ℕ → Tree ℕ block → WayToBody
+  pub way_in_block : ℕ → Tree ℕ block → PathToBody
   way_in_block low (has_body (declares cs ts vs ps) statements) = way_in_procedures low ps
 
   -- Returns the way into the first procedure whose closing name isn't before the token `low`. If
   -- there is no such procedure, the way is empty.
-  pub way_in_procedures : ℕ → Tree ℕ (items procedure) → WayToBody
+  pub way_in_procedures : ℕ → Tree ℕ (items procedure) → PathToBody
   way_in_procedures low end = []
   way_in_procedures low (more p ps) =
       if nat_lt (closing_name p) low then shift_way (way_in_procedures low ps)
       else zero ∷ way_in_procedure low p
 
   -- returns the way from a procedure to the body around the token `low`
-  pub way_in_procedure : ℕ → Tree ℕ (item procedure) → WayToBody
+  pub way_in_procedure : ℕ → Tree ℕ (item procedure) → PathToBody
   way_in_procedure low (declares_procedure x fs b closing) = way_in_block low b
 
 -- returns the way from a module to the body around the token `low`
-abbrev pub way_in_module : ℕ → Tree ℕ module_text → WayToBody
+abbrev pub way_in_module : ℕ → Tree ℕ module_text → PathToBody
 way_in_module low (is_module x b closing) = way_in_block low b
 
 -- Returns a tree without the statements to which a way leads.
 abbrev mutual
   -- returns a block without the statements to which a way leads
-  pub block_without : {N : Type 0} → WayToBody → Tree N block → Tree N block
+  pub block_without : {N : Type 0} → PathToBody → Tree N block → Tree N block
   block_without [] (has_body ds statements) = has_body ds none
   block_without (k ∷ way) (has_body (declares cs ts vs ps) statements) =
       has_body (declares cs ts vs (procedures_without k way ps)) statements
@@ -57,7 +57,7 @@ abbrev mutual
   -- the way leads from there
   pub procedures_without : {N : Type 0}
       → ℕ
-      → WayToBody
+      → PathToBody
       → Tree N (items procedure)
       → Tree N (items procedure)
   procedures_without k way end = end
@@ -65,58 +65,58 @@ abbrev mutual
   procedures_without (suc k) way (more p ps) = more p (procedures_without k way ps)
 
   -- returns a procedure without the statements to which a way leads
-  pub procedure_without : {N : Type 0} → WayToBody → Tree N (item procedure) → Tree N (item procedure)
+  pub procedure_without : {N : Type 0} → PathToBody → Tree N (item procedure) → Tree N (item procedure)
   procedure_without way (declares_procedure x fs b closing) =
       declares_procedure x fs (block_without way b) closing
 
 -- returns a module without the statements to which a way leads
-abbrev pub module_without_body : {N : Type 0} → WayToBody → Tree N module_text → Tree N module_text
+abbrev pub module_without_body : {N : Type 0} → PathToBody → Tree N module_text → Tree N module_text
 module_without_body way (is_module x b closing) = is_module x (block_without way b) closing
 
 -- Returns the statements to which a way leads, or `none` if it leads to no body.
 abbrev mutual
   -- returns the statements to which a way leads from a block
-  pub body_in : {N : Type 0} → WayToBody → Tree N block → Tree N (maybe body)
+  pub body_in : {N : Type 0} → PathToBody → Tree N block → Tree N (maybe body)
   body_in [] (has_body ds statements) = statements
   body_in (k ∷ way) (has_body (declares cs ts vs ps) statements) = body_among k way ps
 
   -- Returns the statements to which a way leads from procedure `k`, counted from 0. Returns `none`
   -- if there is no such procedure.
-  pub body_among : {N : Type 0} → ℕ → WayToBody → Tree N (items procedure) → Tree N (maybe body)
+  pub body_among : {N : Type 0} → ℕ → PathToBody → Tree N (items procedure) → Tree N (maybe body)
   body_among k way end = none
   body_among zero way (more p ps) = body_inside way p
   body_among (suc k) way (more p ps) = body_among k way ps
 
   -- returns the statements to which a way leads from a procedure
-  pub body_inside : {N : Type 0} → WayToBody → Tree N (item procedure) → Tree N (maybe body)
+  pub body_inside : {N : Type 0} → PathToBody → Tree N (item procedure) → Tree N (maybe body)
   body_inside way (declares_procedure x fs b closing) = body_in way b
 
 -- returns the statements to which a way leads from a module
-abbrev pub body_at : {N : Type 0} → WayToBody → Tree N module_text → Tree N (maybe body)
+abbrev pub body_at : {N : Type 0} → PathToBody → Tree N module_text → Tree N (maybe body)
 body_at way (is_module x b closing) = body_in way b
 
 -- Returns the closing name of the block to which a way leads.
 abbrev mutual
   -- Returns the closing name of the block to which a way leads from a block. The closing name of
   -- the block itself is `own`.
-  pub closing_name_in_block : {N : Type 0} → WayToBody → N → Tree N block → N
+  pub closing_name_in_block : {N : Type 0} → PathToBody → N → Tree N block → N
   closing_name_in_block [] own b = own
   closing_name_in_block (k ∷ way) own (has_body (declares cs ts vs ps) statements) =
       closing_name_in_procedures k way own ps
 
   -- Returns the closing name of the block to which a way leads from procedure `k`, counted from 0.
   -- Returns `own` if there is no such procedure.
-  pub closing_name_in_procedures : {N : Type 0} → ℕ → WayToBody → N → Tree N (items procedure) → N
+  pub closing_name_in_procedures : {N : Type 0} → ℕ → PathToBody → N → Tree N (items procedure) → N
   closing_name_in_procedures k way own end = own
   closing_name_in_procedures zero way own (more p ps) = closing_name_in_procedure way p
   closing_name_in_procedures (suc k) way own (more p ps) = closing_name_in_procedures k way own ps
 
   -- returns the closing name of the block to which a way leads from a procedure
-  pub closing_name_in_procedure : {N : Type 0} → WayToBody → Tree N (item procedure) → N
+  pub closing_name_in_procedure : {N : Type 0} → PathToBody → Tree N (item procedure) → N
   closing_name_in_procedure way (declares_procedure x fs b closing) = closing_name_in_block way closing b
 
 -- returns the closing name of the block to which a way leads from a module
-abbrev pub closing_name_in_module : {N : Type 0} → WayToBody → Tree N module_text → N
+abbrev pub closing_name_in_module : {N : Type 0} → PathToBody → Tree N module_text → N
 closing_name_in_module way (is_module x b closing) = closing_name_in_block way closing b
 
 -- Returns the new index of a token whose index in the old text is `i`. The token must be outside
@@ -129,7 +129,7 @@ moved_token_index s i = if nat_lt i s.prefix then i else s.new_suffix + (i - s.o
 -- `s.prefix..s.old_suffix` of the module `old`. All other tokens have the same spellings, and the
 -- later ones may have other indexes. In both modules, the body's first identifier is before the
 -- replaced tokens, and the closing name of its block is after them.
-pub record IsBodyReplaced (old new : ParsedModule) (way : WayToBody) (s : SameTokens) : Type 0 where
+pub record IsBodyReplaced (old new : ParsedModule) (way : PathToBody) (s : SameTokens) : Type 0 where
   pub old_range : s.prefix ≤ s.old_suffix
   pub new_range : s.prefix ≤ s.new_suffix
   pub old_scan : IsScan old.source

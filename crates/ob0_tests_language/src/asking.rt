@@ -138,7 +138,7 @@ fn answer_or_faults(
 
 /// Returns whether a row has its expected answer. If an allocation fails, returns whether it may
 /// fail (`Walk::Refused`).
-fn is_said(alloc: Global, row: &Row, walk: Walk) -> bool {
+fn has_expected_answer(alloc: Global, row: &Row, walk: Walk) -> bool {
     match answer_for_row(alloc, row, walk) {
         Ok(found) => found.as_str() == row.2,
         Err(_refused) => walk == Walk::Refused,
@@ -153,7 +153,7 @@ pub fn first_wrong(
     walk: Walk,
 ) -> (&'static str, &'static str) {
     for row in rows {
-        if !is_said(alloc, row, walk) {
+        if !has_expected_answer(alloc, row, walk) {
             return (row.0, row.2);
         }
     }

@@ -144,7 +144,7 @@ static CHANGES: &[(&str, u64, u64, &str)] = changes![
 ];
 
 /// Returns the faults of a text, from an analysis that reuses the analysis of the previous text.
-fn text_after_fault(alloc: Global, old: &str, new: &str) -> Result<String, AllocError> {
+fn faults_after_change(alloc: Global, old: &str, new: &str) -> Result<String, AllocError> {
     let analysis = Analysis::of(alloc, old)?.after(alloc, new)?;
     faults_of(alloc, &analysis)
 }
@@ -158,7 +158,7 @@ fn faults_from_nothing(alloc: Global, text: &str) -> Result<String, AllocError> 
 /// Returns whether the text `new` has the faults that an analysis from scratch finds, if its
 /// analysis reuses the analysis of the text `old`.
 fn is_as_new(alloc: Global, old: &str, new: &str) -> Result<bool, AllocError> {
-    let found = text_after_fault(alloc, old, new)?;
+    let found = faults_after_change(alloc, old, new)?;
     let wanted = faults_from_nothing(alloc, new)?;
     Ok(found.as_str() == wanted.as_str())
 }

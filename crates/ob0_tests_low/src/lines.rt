@@ -59,7 +59,7 @@ impl Stores {
     /// Returns whether both stores have the same text and agree on places. They must have the same
     /// offset for each position whose line and character are below these numbers, and the same
     /// position for each offset below 20.
-    fn have_same_kinds(&self, lines: u64, characters: u64) -> bool {
+    fn have_same_places(&self, lines: u64, characters: u64) -> bool {
         for line in 0..lines {
             for character in 0..characters {
                 let place = at(line, character);
@@ -128,7 +128,7 @@ fn agree(
 ) -> Result<bool, AllocError> {
     let mut stores = stores_of(alloc, text, unit)?;
     stores.replace(range, new)?;
-    Ok(is_as_new(alloc, &stores.lines, unit)? && stores.have_same_kinds(10, 8))
+    Ok(is_as_new(alloc, &stores.lines, unit)? && stores.have_same_places(10, 8))
 }
 
 /// Returns whether the stores agree after each of two separate changes. One ends `further` lines
@@ -180,7 +180,7 @@ static COLUMNS: &[&[u64]] = &[
 /// Returns whether the stores of a text agree far to the right in its lines, and also after the
 /// lines are changed at each list of columns (`COLUMNS`).
 fn are_alike_far_in(alloc: Global, text: &str, unit: Unit) -> Result<bool, AllocError> {
-    if !stores_of(alloc, text, unit)?.have_same_kinds(4, 160) {
+    if !stores_of(alloc, text, unit)?.have_same_places(4, 160) {
         return Ok(false);
     }
     for columns in COLUMNS {

@@ -1,7 +1,7 @@
 //! Tests calculations with numbers and truth values.
 
 use crate::cases::{Case, first_wrong};
-use crate::values::Reckoned::{Add, Multiply, Negate, Relate, SignOf};
+use crate::values::Computation::{Add, Multiply, Negate, Relate, SignOf};
 use ob0_language_values::Scalar::{Number, Truth};
 use ob0_language_values::scalar::{add, apply_sign, multiply, negate, relate};
 use ob0_language_values::{OperatorFault, Scalar};
@@ -13,7 +13,7 @@ use std::process::Abort;
 
 /// An operator with its operands.
 #[derive(Clone, Copy)]
-enum Reckoned {
+enum Computation {
     Multiply(MultiplyOperator, i32, i32),
     Add(AddOperator, Scalar, Scalar),
     Relate(Relation, Scalar, Scalar),
@@ -21,7 +21,7 @@ enum Reckoned {
     Negate(Scalar),
 }
 
-type Row = (Reckoned, Result<Scalar, OperatorFault>);
+type Row = (Computation, Result<Scalar, OperatorFault>);
 
 static ROWS: &[Row] = rows![
     Multiply(Divide, -7, 3) => Ok(Number(-3));
@@ -39,7 +39,7 @@ static ROWS: &[Row] = rows![
 ];
 
 /// Returns the result of an operator on its operands.
-fn reckon(reckoned: Reckoned) -> Result<Scalar, OperatorFault> {
+fn reckon(reckoned: Computation) -> Result<Scalar, OperatorFault> {
     match reckoned {
         Multiply(operator, left, right) => multiply(operator, Number(left), Number(right)),
         Add(operator, left, right) => add(operator, left, right),

@@ -33,7 +33,7 @@ pub enum Act {
 
 /// The short form of the report on an event.
 #[derive(Clone, Copy, PartialEq, Eq)]
-pub enum Sight {
+pub enum ShortReport {
     Nothing,
     Sent,
     /// The server took a message and sent this many messages in reply.
@@ -54,7 +54,7 @@ pub struct Story {
     pub name: &'static str,
     pub unit: ob0_text::Unit,
     /// Each event with its expected report.
-    pub moments: &'static [(Act, Sight)],
+    pub moments: &'static [(Act, ShortReport)],
     /// The text before and the text after each edit that is applied.
     pub applied: &'static [(&'static str, &'static str)],
     /// The version and text of each published list of diagnostics, and whether the list is empty.
@@ -63,23 +63,23 @@ pub struct Story {
 
 /// The result of one or more steps, compared with the expected result.
 #[derive(Clone, Copy, PartialEq, Eq)]
-pub enum Way {
-    AsTold,
+pub enum StepsResult {
+    AsExpected,
     /// The steps are as expected up to an allocation that fails. Each later step returns that the
     /// world or the session has ended.
     Refused,
     Ended,
-    Otherwise,
+    Unexpected,
 }
 
 /// Returns the common result of several steps, given the result of all steps but the last
 /// (`before`) and the result of the last step (`next`).
-pub fn join_ways(before: Way, next: Way) -> Way {
+pub fn join_ways(before: StepsResult, next: StepsResult) -> StepsResult {
     match (before, next) {
-        (Way::AsTold, Way::Ended) => Way::Otherwise,
-        (Way::AsTold, next) => next,
-        (Way::Refused, Way::Ended) => Way::Refused,
-        _ => Way::Otherwise,
+        (StepsResult::AsExpected, StepsResult::Ended) => StepsResult::Unexpected,
+        (StepsResult::AsExpected, next) => next,
+        (StepsResult::Refused, StepsResult::Ended) => StepsResult::Refused,
+        _ => StepsResult::Unexpected,
     }
 }
 
@@ -158,7 +158,7 @@ fn event_of(alloc: Global, act: Act) -> Result<Event, AllocError> {
 }
 
 /// Returns the events that these acts describe.
-fn events_of(alloc: Global, moments: &[(Act, Sight)]) -> Result<Vec<Event>, AllocError> {
+fn events_of(alloc: Global, moments: &[(Act, ShortReport)]) -> Result<Vec<Event>, AllocError> {
     let mut events = Vec::new(alloc);
     for moment in moments {
         events.push(event_of(alloc, moment.0)?)?;
@@ -175,29 +175,35 @@ pub fn events_again(alloc: Global, story: &Story) -> Result<Vec<Event>, AllocErr
 }
 
 /// Returns the short form of the report on an event.
-fn sight_of(seen: &Seen) -> Sight {
+fn sight_of(seen: &Seen) -> ShortReport {
     match seen {
-        Seen::Nothing => Sight::Nothing,
-        Seen::Sent => Sight::Sent,
-        Seen::Served(count) => Sight::Served(*count),
-        Seen::Published { uri, empty } if uri.as_str() == "v" => Sight::PublishedOther(*empty),
-        Seen::Published { empty, .. } => Sight::Published(*empty),
-        Seen::Answered { k, edits } => Sight::Answered(*k, *edits),
-        Seen::Applied { k } => Sight::Applied(*k),
-        Seen::Dropped { k } => Sight::Dropped(*k),
+        Seen::Nothing => ShortReport::Nothing,
+        Seen::Sent => ShortReport::Sent,
+        Seen::Served(count) => ShortReport::Served(*count),
+        Seen::Published { uri, empty } if uri.as_str() == "v" => ShortReport::PublishedOther(
+            *empty,
+        ),
+        Seen::Published { empty, .. } => ShortReport::Published(*empty),
+        Seen::Answered { k, edits } => ShortReport::Answered(*k, *edits),
+        Seen::Applied { k } => ShortReport::Applied(*k),
+        Seen::Dropped { k } => ShortReport::Dropped(*k),
     }
 }
 
 /// Makes an event happen in a world, and returns the result: the expected report or another one, or
 /// why the event failed.
-pub fn way_of_event<T: TextStore>(world: &mut World<T>, event: &Event, wanted: Sight) -> Way {
+pub fn way_of_event<T: TextStore>(
+    world: &mut World<T>,
+    event: &Event,
+    wanted: ShortReport,
+) -> StepsResult {
     if world.steps() > 1_000_000 {
-        return Way::Otherwise;
+        return StepsResult::Unexpected;
     }
     match world.step(event) {
-        Ok(seen) if sight_of(&seen) == wanted => Way::AsTold,
-        Ok(_seen) => Way::Otherwise,
-        Err(WorldFault::Memory) => Way::Refused,
-        Err(WorldFault::Ended) => Way::Ended,
+        Ok(seen) if sight_of(&seen) == wanted => StepsResult::AsExpected,
+        Ok(_seen) => StepsResult::Unexpected,
+        Err(WorldFault::Memory) => StepsResult::Refused,
+        Err(WorldFault::Ended) => StepsResult::Ended,
     }
 }

@@ -2,8 +2,8 @@
 //! formattings, and discarded answers.
 
 use crate::acts::Act::*;
-use crate::acts::Sight::*;
-use crate::acts::{Act, Sight, Story};
+use crate::acts::ShortReport::*;
+use crate::acts::{Act, ShortReport, Story};
 use ob0_text::Unit::{Utf8, Utf16};
 
 const COUNTS: &str = "MODULE M;\nVAR n: INTEGER;\nPROCEDURE P; BEGIN Write(n) END P;\n\
@@ -64,13 +64,13 @@ macro_rules! stories {
     };
 }
 
-const NAMED: &[(Act, Sight)] = moments![
+const NAMED: &[(Act, ShortReport)] = moments![
     Open(COUNTS) => Sent, NAME => Sent, Serve => Served(1), Serve => Served(1), Take => Published(true),
     Take => Answered(1, true), Apply(1) => Applied(1), Apply(1) => Nothing, Serve => Served(1),
     Take => Published(true)
 ];
 
-const REOPENED: &[(Act, Sight)] = moments![
+const REOPENED: &[(Act, ShortReport)] = moments![
     Open(COUNTS) => Sent, NAME => Sent, Close => Sent, Open(FAULTY_TEXT) => Sent, Serve => Served(1),
     Serve => Served(1), Serve => Served(1), Serve => Served(1), Take => Published(true),
     Take => Answered(1, true), Take => Published(true), Take => Published(false), Apply(1) => Dropped(1),

@@ -1,7 +1,7 @@
 //! Tests whole lists of events, step by step and by `play`, in both units of positions and over
 //! both text stores.
 
-use crate::acts::{Story, Way, events_again, join_ways, way_of_event};
+use crate::acts::{StepsResult, Story, events_again, join_ways, way_of_event};
 use crate::stories::stories;
 use ob0_text::{Lines, TextStore, Unit, Whole};
 use ob0_world::{Applied, Event, Made, PlayFault, Played, World, WorldFault};
@@ -20,10 +20,10 @@ enum Manner {
 /// The result of a story, the number of events that happened, the number of applied edits, and the
 /// number of publications.
 #[derive(Clone, Copy)]
-struct Outcome(Way, u64, usize, usize);
+struct Outcome(StepsResult, u64, usize, usize);
 
 /// The outcome of a story that doesn't run as expected.
-const NOTHING: Outcome = Outcome(Way::Otherwise, 0, 0, 0);
+const NOTHING: Outcome = Outcome(StepsResult::Unexpected, 0, 0, 0);
 
 /// Returns whether the edits found are the first of the expected edits, in order.
 fn are_first_edits(found: &[Applied], wanted: &[(&str, &str)]) -> bool {
@@ -58,7 +58,7 @@ fn are_first_publications(found: &[Made], wanted: &[(i64, &str, bool)]) -> bool 
 
 /// Returns the outcome of a story's first events if their edits and publications are the first of
 /// the expected ones. Otherwise returns `NOTHING`.
-fn outcome_of(story: &Story, way: Way, steps: u64, played: &Played) -> Outcome {
+fn outcome_of(story: &Story, way: StepsResult, steps: u64, played: &Played) -> Outcome {
     let are_edits = are_first_edits(played.applied.as_slice(), story.applied);
     if !are_edits || !are_first_publications(played.made.as_slice(), story.made) {
         return NOTHING;
@@ -75,8 +75,8 @@ fn begin_world<T: TextStore>(alloc: Global, unit: Unit) -> Result<World<T>, Worl
 }
 
 /// Makes the events of a story in a world, and returns their common result.
-fn way_through<T: TextStore>(world: &mut World<T>, story: &Story, events: &[Event]) -> Way {
-    let mut way = Way::AsTold;
+fn way_through<T: TextStore>(world: &mut World<T>, story: &Story, events: &[Event]) -> StepsResult {
+    let mut way = StepsResult::AsExpected;
     for i in 0..events.len().min(story.moments.len()) {
         way = join_ways(way, way_of_event(world, &events[i], story.moments[i].1));
     }
@@ -86,7 +86,7 @@ fn way_through<T: TextStore>(world: &mut World<T>, story: &Story, events: &[Even
 /// Makes a story's events one by one over a store of type `T`, and returns the outcome.
 fn step_through<T: TextStore>(alloc: Global, story: &Story, events: &[Event]) -> Outcome {
     let Ok(mut world) = begin_world::<T>(alloc, story.unit) else {
-        return Outcome(Way::Refused, 0, 0, 0);
+        return Outcome(StepsResult::Refused, 0, 0, 0);
     };
     let way = way_through(&mut world, story, events);
     let steps = world.steps();
@@ -104,8 +104,8 @@ fn play(alloc: Global, unit: Unit, events: &[Event]) -> Result<Played, PlayFault
 /// Plays a story's events by `play`, and returns the outcome.
 fn play_through(alloc: Global, story: &Story, events: &[Event]) -> Outcome {
     match play(alloc, story.unit, events) {
-        Ok(played) => outcome_of(story, Way::AsTold, events.len() as u64, &played),
-        Err(fault) => outcome_of(story, Way::Refused, fault.steps, &fault.played),
+        Ok(played) => outcome_of(story, StepsResult::AsExpected, events.len() as u64, &played),
+        Err(fault) => outcome_of(story, StepsResult::Refused, fault.steps, &fault.played),
     }
 }
 
@@ -125,7 +125,7 @@ fn run_story(alloc: Global, story: &Story, manner: Manner) -> Outcome {
 /// Returns whether a story runs to its end and has all the expected results.
 fn ends_as_written(alloc: Global, story: &Story, manner: Manner) -> bool {
     let Outcome(way, steps, applied, made) = run_story(alloc, story, manner);
-    way == Way::AsTold
+    way == StepsResult::AsExpected
         && steps == story.moments.len() as u64
         && applied == story.applied.len()
         && made == story.made.len()
@@ -135,7 +135,7 @@ fn ends_as_written(alloc: Global, story: &Story, manner: Manner) -> bool {
 /// expected only up to that failure.
 fn goes_as_written(alloc: Global, story: &Story, may_fail: bool) -> bool {
     if may_fail {
-        return run_story(alloc, story, Manner::OverLines).0 != Way::Otherwise;
+        return run_story(alloc, story, Manner::OverLines).0 != StepsResult::Unexpected;
     }
     ends_as_written(alloc, story, Manner::OverLines)
         && ends_as_written(alloc, story, Manner::OverWhole)
@@ -178,13 +178,13 @@ fn run_first(alloc: Global, manner: Manner) -> Outcome {
 #[test]
 fn a_refused_event_leaves_what_was_played_before(rt: HostRuntime) {
     let Outcome(way, steps, applied, made) = run_first(rt.alloc(), Manner::Played);
-    assert!(rt; way != Way::Otherwise);
+    assert!(rt; way != StepsResult::Unexpected);
     let _ = println!(rt; "played {steps} {applied} {made}");
 }
 
 #[test]
 fn a_refused_step_ends_what_was_played(rt: HostRuntime) {
     let Outcome(way, steps, applied, made) = run_first(rt.alloc(), Manner::OverLines);
-    assert!(rt; way != Way::Otherwise);
+    assert!(rt; way != StepsResult::Unexpected);
     let _ = println!(rt; "played {steps} {applied} {made}");
 }

@@ -10,7 +10,7 @@ use Rattle.std.proofs.lemmas.List.Sums.{sum_by-cons}
 use Rattle.std.proofs.lemmas.List.Elements.{All-head, All-tail}
 use Rattle.std.proofs.lemmas.Str.{encodes-chars}
 use Rattle.ob0_text.specs.declared.position_types.Position.{Position}
-use Rattle.ob0_text.specs.declared.passes.PassState.{PassState}
+use Rattle.ob0_text.specs.declared.passes.PlaceInText.{PlaceInText}
 use Rattle.ob0_text.specs.declared.stretches.Stretch.{Stretch}
 use Rattle.ob0_text.specs.Texts.{CR, byte_len}
 use Rattle.ob0_text.specs.Stretches.{IsNotLineBreak, IsPieceOfLine}
@@ -56,7 +56,7 @@ module _ (width : ℕ → ℕ) (text : List ℕ) where
         subst (λ n. IsSought width text p rest n line (character + sum_by width (c ∷ cs))) (omega (arith, byte_len-cons c cs))
         (subst (λ n. IsSought width text p rest (offset + len_utf8 c + byte_len cs) line n) (omega (arith, wide)) last)
 
-    pub sought_past_stretch : (place : PassState) (s : Stretch) → CanSeekFrom width text p place → IsPieceOfLine width text place.offset s → place.line ≡ p.line → place.character + s.units ≤ p.character → IsSought width text p (drop s.end text) s.end place.line (place.character + s.units)
+    pub sought_past_stretch : (place : PlaceInText) (s : Stretch) → CanSeekFrom width text p place → IsPieceOfLine width text place.offset s → place.line ≡ p.line → place.character + s.units ≤ p.character → IsSought width text p (drop s.end text) s.end place.line (place.character + s.units)
     unfolding piece
     sought_past_stretch place s h is here room =
         let passed = sought_past (chars (piece place.offset s is)) (drop s.end text) place.offset place.line place.character is.of_a_line.of_one (subst (λ r. IsSought width text p r place.offset place.line place.character) (split place.offset s is) h) here (omega (arith, is.of_a_line.counted, room)) in
@@ -76,7 +76,7 @@ module _ (width : ℕ → ℕ) (text : List ℕ) where
         subst (λ n. IsCounted width text rest n line (character + sum_by width (c ∷ cs))) (omega (arith, byte_len-cons c cs))
         (subst (λ n. IsCounted width text rest (offset + len_utf8 c + byte_len cs) line n) (omega (arith, wide)) last)
 
-    pub counted_past_stretch : (place : PassState) (s : Stretch) → CanCountFrom width text place → IsPieceOfLine width text place.offset s → IsCounted width text (drop s.end text) s.end place.line (place.character + s.units)
+    pub counted_past_stretch : (place : PlaceInText) (s : Stretch) → CanCountFrom width text place → IsPieceOfLine width text place.offset s → IsCounted width text (drop s.end text) s.end place.line (place.character + s.units)
     unfolding piece
     counted_past_stretch place s h is =
         let passed = counted_past (chars (piece place.offset s is)) (drop s.end text) place.offset place.line place.character is.of_a_line.of_one (subst (λ r. IsCounted width text r place.offset place.line place.character) (split place.offset s is) h) in

@@ -21,7 +21,7 @@ pub record IsChangedAt (old new : List ℕ) (r : ReplacedBytes) : Type 0 where
 -- argument) to the new text. If the old text isn't known, the replaced bytes are None. Otherwise
 -- None means that the text is unchanged.
 abbrev pub CoversAllChanges : Option (List ℕ) → Option (List ℕ) → Option ReplacedBytes → Type 0
-CoversAllChanges None new hull = hull ≡ None
+CoversAllChanges None new covering_change = covering_change ≡ None
 CoversAllChanges (Some old) new None = new ≡ Some old
 CoversAllChanges (Some old) new (Some r) =
     (text : List ℕ) × (new ≡ Some text) × IsChangedAt old text r

@@ -8,7 +8,7 @@
 -- Rule: none; for private contracts of passes over a text.
 use Rattle.std.specs.Prelude.{◌≡◌, ℕ, ◌+◌, ◌-◌, ◌<◌, ◌≤◌, ◌⊎◌, if◌then◌else◌, ◌==◌, List, ◌++◌, length, drop}
 use Rattle.std.specs.Str.{IsUtf8, chars}
-use Rattle.ob0_text.specs.declared.passes.PassState.{PassState}
+use Rattle.ob0_text.specs.declared.passes.PlaceInText.{PlaceInText}
 use Rattle.ob0_text.specs.declared.position_types.Position.{Position}
 use Rattle.ob0_text.specs.Texts.{before, byte_len, position_of}
 
@@ -53,7 +53,7 @@ pub record IsCounted (width : ℕ → ℕ) (text rest : List ℕ) (offset line c
       ≡ position_of width (chars text) o
 
 -- States that the positions of all later offsets can be counted from the place `p`.
-abbrev pub CanCountFrom : (ℕ → ℕ) → List ℕ → PassState → Type 0
+abbrev pub CanCountFrom : (ℕ → ℕ) → List ℕ → PlaceInText → Type 0
 CanCountFrom width text p = IsCounted width text (drop p.offset text) p.offset p.line p.character
 
 -- States that the place with this byte offset, line and character is at or before the position
@@ -70,6 +70,6 @@ pub record IsSought (width : ℕ → ℕ) (text : List ℕ) (sought : Position) 
 
 -- States that the place `p` is at or before the position `sought`, and that the offsets of `sought`
 -- and of each later position can be found from `p`.
-abbrev pub CanSeekFrom : (ℕ → ℕ) → List ℕ → Position → PassState → Type 0
+abbrev pub CanSeekFrom : (ℕ → ℕ) → List ℕ → Position → PlaceInText → Type 0
 CanSeekFrom width text sought p =
     IsSought width text sought (drop p.offset text) p.offset p.line p.character

@@ -29,7 +29,7 @@ ghost use Rattle.ob0_text.specs.Stretches.{IsPieceOfLine};
 use crate::counted_pieces::{CountedPiece, count_up_to};
 use crate::line_table::LineTable;
 use crate::passes::{
-    PassState, START, advance_to_offset, advance_to_position, is_at_or_after, position_at,
+    PlaceInText, START, advance_to_offset, advance_to_position, is_at_or_after, position_at,
 };
 use crate::position_types::{Position, Range, Unit};
 use std::alloc::{AllocError, Global};
@@ -118,7 +118,7 @@ fn place_after_counted(
     unit: Unit,
     counted: CountedPiece,
     position: Position,
-) -> PassState
+) -> PlaceInText
     requires lines { HasLines text.now table.now }
     requires counted { IsPieceOfLine (width_of unit) text.now counted.start counted.counted }
     ensures place { CanSeekFrom (width_of unit) text.now position result }
@@ -131,7 +131,7 @@ fn place_after_counted(
     {
         return place_of_position(text, table, unit, position);
     }
-    let near = PassState {
+    let near = PlaceInText {
         offset: counted.counted.end,
         line: start.line,
         character: counted.counted.units,
@@ -141,7 +141,7 @@ fn place_after_counted(
 
 /// Returns the place of a position. The start of the position's line is looked up in the table, and
 /// the characters from there are counted.
-fn place_of_position(text: &str, table: &LineTable, unit: Unit, position: Position) -> PassState
+fn place_of_position(text: &str, table: &LineTable, unit: Unit, position: Position) -> PlaceInText
     requires { HasLines text.now table.now }
     ensures place { CanSeekFrom (width_of unit) text.now position result }
     ensures offset { result.offset ≡ offset_of (width_of unit) (chars text.now) position }
@@ -214,9 +214,9 @@ fn place_from_last(
     table: &LineTable,
     unit: Unit,
     last: Position,
-    place: PassState,
+    place: PlaceInText,
     position: Position,
-) -> PassState
+) -> PlaceInText
     requires lines { HasLines text.now table.now }
     requires last { CanSeekFrom (width_of unit) text.now last place }
     ensures place { CanSeekFrom (width_of unit) text.now position result }
@@ -232,7 +232,12 @@ fn place_from_last(
 /// Returns the place at which a pass to a byte offset begins. The result is `place`, the previous
 /// offset's place, if `place` isn't after the offset, and is near the offset or in the offset's
 /// line. Otherwise the result is the start of the offset's line.
-fn nearest_place_before(text: &str, table: &LineTable, place: PassState, offset: usize) -> PassState
+fn nearest_place_before(
+    text: &str,
+    table: &LineTable,
+    place: PlaceInText,
+    offset: usize,
+) -> PlaceInText
     requires { HasLines text.now table.now }
     ensures place { (unit : Unit) → CanCountFrom (width_of unit) text.now place
         → CanCountFrom (width_of unit) text.now result }
@@ -249,7 +254,7 @@ fn nearest_place_before(text: &str, table: &LineTable, place: PassState, offset:
 }
 
 /// Returns the place at which the line of a byte offset starts. The line is found by binary search.
-fn line_start_before(text: &str, table: &LineTable, offset: usize) -> PassState
+fn line_start_before(text: &str, table: &LineTable, offset: usize) -> PlaceInText
     requires { HasLines text.now table.now }
     ensures place { (unit : Unit) → CanCountFrom (width_of unit) text.now result }
     ensures following { result.offset ≤ offset }
@@ -284,14 +289,14 @@ fn line_end_offset(table: &LineTable, len: usize, k: usize) -> usize
 
 /// Returns the place at which a line, counted from 0, starts. If there is no such line, the result
 /// is the start of the last line.
-fn line_start_place(table: &LineTable, line: u64) -> PassState
+fn line_start_place(table: &LineTable, line: u64) -> PlaceInText
     requires { 0 < length table.now.starts }
     ensures offset { result.offset ≡ slice_index table.now.starts result.line }
     ensures line { result.line ≡ min line (length table.now.starts - 1) }
     ensures character { result.character ≡ 0 }
 {
     let line = line.min(table.count() as u64 - 1);
-    PassState {
+    PlaceInText {
         offset: table.at(line as usize),
         line,
         character: 0,

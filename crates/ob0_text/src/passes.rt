@@ -23,14 +23,14 @@ use std::alloc::{AllocError, Global};
 /// A place that a pass has reached: its byte offset, its line (counted from 0), and the number of
 /// units from the line's start to the place.
 #[derive(Clone, Copy)]
-pub struct PassState {
+pub struct PlaceInText {
     pub offset: usize,
     pub line: u64,
     pub character: u64,
 }
 
 /// The place at the start of a text.
-pub const START: PassState = PassState {
+pub const START: PlaceInText = PlaceInText {
     offset: 0,
     line: 0,
     character: 0,
@@ -99,7 +99,7 @@ pub fn offset_of(text: &str, unit: Unit, position: Position) -> usize
 }
 
 /// Returns the position of the place that a pass has reached.
-pub fn position_at(place: PassState) -> Position
+pub fn position_at(place: PlaceInText) -> Position
     ensures { result ≡ at place.line place.character }
 {
     Position {
@@ -144,7 +144,7 @@ fn width(c: char, unit: Unit) -> u64
 /// Advances from the place `from` to a byte offset, and returns the place there. If the offset is
 /// inside a character, the result is the place before that character. If the offset is after the
 /// text's end, the result is the text's end.
-pub fn advance_to_offset(text: &str, unit: Unit, from: PassState, offset: usize) -> PassState
+pub fn advance_to_offset(text: &str, unit: Unit, from: PlaceInText, offset: usize) -> PlaceInText
     requires place { CanCountFrom (width_of unit) text.now from }
     requires following { from.offset ≤ offset }
     ensures place { CanCountFrom (width_of unit) text.now result }
@@ -162,7 +162,7 @@ pub fn advance_to_offset(text: &str, unit: Unit, from: PassState, offset: usize)
 
 /// Advances from the place `from` by whole stretches of its line, but not beyond the byte offset
 /// `offset`. Returns the place reached.
-fn skip_stretches_to(text: &str, unit: Unit, from: PassState, offset: usize) -> PassState
+fn skip_stretches_to(text: &str, unit: Unit, from: PlaceInText, offset: usize) -> PlaceInText
     requires place { CanCountFrom (width_of unit) text.now from }
     requires following { from.offset ≤ offset }
     ensures place { CanCountFrom (width_of unit) text.now result }
@@ -175,7 +175,7 @@ fn skip_stretches_to(text: &str, unit: Unit, from: PassState, offset: usize) -> 
         place.offset,
         (offset - place.offset) as u64,
     ) {
-        place = PassState {
+        place = PlaceInText {
             offset: stretch.end,
             line: place.line,
             character: place.character + stretch.units,
@@ -187,7 +187,7 @@ fn skip_stretches_to(text: &str, unit: Unit, from: PassState, offset: usize) -> 
 /// Advances from the place `from` over ASCII characters other than CR, but not beyond the byte
 /// offset `offset`. Returns the place reached. The characters are recognized by their bytes,
 /// without decoding.
-fn skip_ascii(text: &str, unit: Unit, from: PassState, offset: usize) -> PassState
+fn skip_ascii(text: &str, unit: Unit, from: PlaceInText, offset: usize) -> PlaceInText
     requires place { CanCountFrom (width_of unit) text.now from }
     requires following { from.offset ≤ offset }
     ensures place { CanCountFrom (width_of unit) text.now result }
@@ -215,7 +215,7 @@ fn skip_ascii(text: &str, unit: Unit, from: PassState, offset: usize) -> PassSta
             character += 1;
         }
     }
-    PassState {
+    PlaceInText {
         offset: reached,
         line,
         character,
@@ -224,7 +224,7 @@ fn skip_ascii(text: &str, unit: Unit, from: PassState, offset: usize) -> PassSta
 
 /// Returns the place after the character that begins at `place`. Returns None if the result would
 /// be beyond the byte offset `offset`, or if no character follows `place`.
-fn skip_char(text: &str, unit: Unit, place: PassState, offset: usize) -> Option<PassState>
+fn skip_char(text: &str, unit: Unit, place: PlaceInText, offset: usize) -> Option<PlaceInText>
     requires place { CanCountFrom (width_of unit) text.now place }
     requires following { place.offset ≤ offset }
     ensures next { IfSome result (λ p. CanCountFrom (width_of unit) text.now p) }
@@ -244,14 +244,14 @@ fn skip_char(text: &str, unit: Unit, place: PassState, offset: usize) -> Option<
     }
     let reached = place.offset + c.len_utf8();
     if ends_line(c, chars.as_str()) {
-        return Some(PassState {
+        return Some(PlaceInText {
             offset: reached,
             line: place.line + 1,
             character: 0,
         });
     }
     let units = if c == '\r' { 0 } else { width(c, unit) };
-    Some(PassState {
+    Some(PlaceInText {
         offset: reached,
         line: place.line,
         character: place.character + units,
@@ -260,7 +260,12 @@ fn skip_char(text: &str, unit: Unit, place: PassState, offset: usize) -> Option<
 
 /// Advances from the place `from` to a position, and returns the place there. `from` must be at or
 /// before the position.
-pub fn advance_to_position(text: &str, unit: Unit, from: PassState, position: Position) -> PassState
+pub fn advance_to_position(
+    text: &str,
+    unit: Unit,
+    from: PlaceInText,
+    position: Position,
+) -> PlaceInText
     requires place { CanSeekFrom (width_of unit) text.now position from }
     ensures place { CanSeekFrom (width_of unit) text.now position result }
     ensures offset { result.offset ≡ offset_of (width_of unit) (chars text.now) position }
@@ -286,7 +291,7 @@ pub fn advance_to_position(text: &str, unit: Unit, from: PassState, position: Po
         }
         reached += c.len_utf8();
     }
-    PassState {
+    PlaceInText {
         offset: reached,
         line,
         character,
@@ -295,13 +300,13 @@ pub fn advance_to_position(text: &str, unit: Unit, from: PassState, position: Po
 
 /// Advances from the place `from` by whole stretches of the position's line, but not beyond the
 /// position. Returns the place reached. If `from` is in another line, the result is `from`.
-fn skip_stretches(text: &str, unit: Unit, from: PassState, position: Position) -> PassState
+fn skip_stretches(text: &str, unit: Unit, from: PlaceInText, position: Position) -> PlaceInText
     requires place { CanSeekFrom (width_of unit) text.now position from }
     ensures place { CanSeekFrom (width_of unit) text.now position result }
 {
     let mut place = from;
     while let Some(stretch) = next_stretch_before(text, unit, place, position) {
-        place = PassState {
+        place = PlaceInText {
             offset: stretch.end,
             line: place.line,
             character: place.character + stretch.units,
@@ -315,7 +320,7 @@ fn skip_stretches(text: &str, unit: Unit, from: PassState, position: Position) -
 fn next_stretch_before(
     text: &str,
     unit: Unit,
-    place: PassState,
+    place: PlaceInText,
     position: Position,
 ) -> Option<Stretch>
     requires { IsCharBoundary text.now place.offset }

@@ -50,28 +50,28 @@ impl ReplacedBytes {
     }
 }
 
-/// Returns one change that covers the changes so far (`hull`) and the next change. Returns None if
-/// the text before all changes wasn't known (`known` is false), or if both `hull` and `next` are
+/// Returns one change that covers the changes so far (`covering_change`) and the next change. Returns None if
+/// the text before all changes wasn't known (`known` is false), or if both `covering_change` and `next` are
 /// None.
 pub(crate) fn extend_hull(
     known: bool,
-    hull: Option<ReplacedBytes>,
+    covering_change: Option<ReplacedBytes>,
     next: Option<ReplacedBytes>,
 ) -> Option<ReplacedBytes>
     ensures { (first middle last : Option (List ℕ))
         → known ≡ is_some first
-        → CoversAllChanges first middle hull
+        → CoversAllChanges first middle covering_change
         → CoversAllChanges middle last next
         → CoversAllChanges first last result }
 {
     if !known {
         return None;
     }
-    let Some(before) = hull else {
+    let Some(before) = covering_change else {
         return next;
     };
     let Some(one) = next else {
-        return hull;
+        return covering_change;
     };
     Some(before.merged_with(one))
 }

@@ -15,7 +15,7 @@ use Rattle.ob0_types_check.specs.declared.reporting.Report.{Report}
 use Rattle.ob0_types.specs.FaultOrder.{AreFirstOf, faults_in}
 use Rattle.ob0_types.specs.CheckedModules.{IsChecked, IsKnownIfTyped}
 use Rattle.ob0_types_table.specs.KnownTables.{Tables}
-use Rattle.ob0_language_types.specs.WellTyped.{WellTyped, fits_over}
+use Rattle.ob0_language_types.specs.WellTyped.{WellTyped, passes_type_check}
 
 -- holds if the list of faults is empty exactly if the test is true
 abbrev IsReported : Bool → List Fault → Type 0
@@ -104,7 +104,7 @@ pub checked_reported : (r : Resolution) (faults : List Fault) → ModulesFit →
 unfolding WellTyped
 checked_reported r faults reported_law none_law h alike known knows few first =
     let m = named_tree_of r.module_read in
-    let fits : Bool = fits_over naming_by_spelling m in
+    let fits : Bool = passes_type_check naming_by_spelling m in
     let any = list_any is_declaration_fault r.faults in
     let of_types : IsReported fits (reported_module r) = (reported_law r h, none_law r h) in
     let whole : IsReported (fits && not any) (faults_in r) = reported_with fits (reported_module r) r.faults of_types in

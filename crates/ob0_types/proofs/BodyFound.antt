@@ -3,7 +3,7 @@
 use Rattle.std.proofs.Common.{◌≡◌, ℕ, zero, Bool, true, false, nat_lt, if◌then◌else◌, [], ◌∷◌, sym, subst}
 use Rattle.ob0_tree.specs.Tree.{Tree, block, body, constants, declares, declares_procedure, end, has_body, is_module, item, items, maybe, module_text, more, procedure, type_names, variables}
 use Rattle.ob0_scope_table.specs.TokenProperty.{EachTokenHas}
-use Rattle.ob0_scope_table.specs.BodyReplaced.{WayToBody, block_without, shift_way, procedure_without, way_in_procedures, way_in_block, way_in_procedure, way_in_module, module_without_body}
+use Rattle.ob0_scope_table.specs.BodyReplaced.{PathToBody, block_without, shift_way, procedure_without, way_in_procedures, way_in_block, way_in_procedure, way_in_module, module_without_body}
 use Rattle.ob0_scope_table.specs.OneBody.{closing_name}
 use Rattle.ob0_scope_table.proofs.BodyOutside.{Among}
 use Rattle.ob0_types_check.specs.EqualExceptBodies.{BlockExceptBodies, ModuleExceptBodies, ProcedureExceptBodies, ProceduresExceptBodies, Unless}
@@ -85,12 +85,12 @@ module _ (P : ℕ → Type 0) (low : ℕ) (wanted : ℕ → Bool) where
 -- ---- from each token of the module without that body
 
 module _ (P : ℕ → Type 0) (low : ℕ) where
-  block_along : (way : WayToBody) (cs : Tree ℕ (maybe constants)) (ts : Tree ℕ (maybe type_names)) (vs : Tree ℕ (maybe variables)) (ps : Tree ℕ (items procedure)) (statements : Tree ℕ (maybe body))
+  block_along : (way : PathToBody) (cs : Tree ℕ (maybe constants)) (ts : Tree ℕ (maybe type_names)) (vs : Tree ℕ (maybe variables)) (ps : Tree ℕ (items procedure)) (statements : Tree ℕ (maybe body))
       → EachTokenHas P (block_without way (has_body (declares cs ts vs ps) statements)) → EachTokenHas P cs × EachTokenHas P ts × EachTokenHas P vs × Among P way ps statements
   block_along [] cs ts vs ps statements h = (h.0.0, h.0.1, h.0.2, h.0.3)
   block_along (k ∷ way) cs ts vs ps statements h = (h.0.0, h.0.1, h.0.2, (h.0.3, h.1))
 
-  among_first : (way : WayToBody) (p : Tree ℕ (item procedure)) (ps : Tree ℕ (items procedure)) (statements : Tree ℕ (maybe body)) → Among P (shift_way way) (more p ps) statements → EachTokenHas P p × Among P way ps statements
+  among_first : (way : PathToBody) (p : Tree ℕ (item procedure)) (ps : Tree ℕ (items procedure)) (statements : Tree ℕ (maybe body)) → Among P (shift_way way) (more p ps) statements → EachTokenHas P p × Among P way ps statements
   among_first [] p ps statements h = h
   among_first (k ∷ way) p ps statements h = (h.0.0, (h.0.1, h.1))
 

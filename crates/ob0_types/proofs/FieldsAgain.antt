@@ -15,7 +15,7 @@ use Rattle.ob0_types_check.specs.WellTypedLaws.{NoFaultInModules}
 use Rattle.ob0_types_check.proofs.DeclarationsStay.{declarations_stay}
 use Rattle.ob0_types_fields.specs.declared.field_name.FieldName.{FieldName}
 use Rattle.ob0_types_fields.specs.Identifiers.{field_identifiers, tokens_of}
-use Rattle.ob0_types_fields.specs.FieldLists.{AreFieldListsOf, HasOthersWithin, FieldLists}
+use Rattle.ob0_types_fields.specs.FieldLists.{AreFieldListsOf, HasSameTokensWith, FieldLists}
 use Rattle.ob0_types_fields.specs.Owned.{fields_in_module, fields_in_tree, meanings_by_token}
 use Rattle.ob0_types_table.specs.KnownTables.{Tables, declared_object_in}
 use Rattle.ob0_types_fields.proofs.FieldNameList.{fields_ascend}
@@ -64,7 +64,7 @@ module _ (r : Resolution) (types : ModuleTypes) (low : ℕ) (w : WereTypesBefore
   same_tokens : tokens_of types.fields.all ≡ tokens_of (field_identifiers r)
   same_tokens = ap tokens_of (w.types_are.fields none).1 ∙ (fields_match_grammar-holds old w.types_are.checked.resolved typed_before ∙ sym (fields_match_grammar-holds r is typed))
 
-  has_others : HasOthersWithin types.fields.all around.before (fields_in_tree meant_now (body_in_module low (tree_of r.module_read)).statements) around.after
+  has_others : HasSameTokensWith types.fields.all around.before (fields_in_tree meant_now (body_in_module low (tree_of r.module_read)).statements) around.after
   has_others = record {
     old = fields_in_tree meant_before (body_in_module low (tree_of r.module_read)).statements;
     top = length old.module_read.source.tokens;
@@ -77,11 +77,11 @@ module _ (r : Resolution) (types : ModuleTypes) (low : ℕ) (w : WereTypesBefore
   -- fields.
   pub fields_over : (f : FieldLists) (t : Tables) → ((k : ℕ) → declared_object_in t k ≡ declared_object (named_tree_of r.module_read) k)
       → (statements : Tree ℕ (maybe body)) → statements ≡ (body_in_module low (tree_of r.module_read)).statements → f.declared ≡ types.fields.declared
-      → ((first last : List FieldName) → HasOthersWithin types.fields.all first (fields_in_tree (meanings_by_token (declared_object_in t) r) statements) last → f.all ≡ first ++ (fields_in_tree (meanings_by_token (declared_object_in t) r) statements ++ last))
+      → ((first last : List FieldName) → HasSameTokensWith types.fields.all first (fields_in_tree (meanings_by_token (declared_object_in t) r) statements) last → f.all ≡ first ++ (fields_in_tree (meanings_by_token (declared_object_in t) r) statements ++ last))
       → AreFieldListsOf r f
   fields_over f t holds statements here declared over =
       let found : fields_in_tree meant_now (body_in_module low (tree_of r.module_read)).statements ≡ fields_in_tree (meanings_by_token (declared_object_in t) r) statements = λ i. fields_in_tree (meanings_by_token (λ k. sym (holds k) i) r) (sym here i) in (
         declared ∙ (w.types_are.fields none).0,
-        over around.before around.after (subst (λ l. HasOthersWithin types.fields.all around.before l around.after) found has_others)
+        over around.before around.after (subst (λ l. HasSameTokensWith types.fields.all around.before l around.after) found has_others)
             ∙ (ap (λ l. around.before ++ (l ++ around.after)) (sym found) ∙ sym fields_now),
       )

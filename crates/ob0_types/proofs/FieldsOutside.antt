@@ -3,7 +3,7 @@
 use Rattle.std.proofs.Common.{◌≡◌, ℕ, ◌+◌, true, false, if◌then◌else◌, nat_lt, List, [], ◌++◌, sym, ap, ◌∙◌, append_assoc, append-nil}
 use Rattle.ob0_tree.specs.Tree.{Tree, block, body, declares, declares_procedure, end, has_body, is_module, item, items, maybe, module_text, more, procedure}
 use Rattle.ob0_language_names.specs.Parts.{formal_sections, section_types, section_variables}
-use Rattle.ob0_language_types.specs.Declarations.{constructor_after_formals, constructor_after_types, constructor_after_variables, procedure_constructor_count}
+use Rattle.ob0_language_types.specs.Declarations.{constructor_after_formals, constructors_before_variables, constructor_after_variables, procedure_constructor_count}
 use Rattle.ob0_language_types.specs.Expressions.{Meanings}
 use Rattle.ob0_language_values.specs.Values.{Shape}
 use Rattle.ob0_scope_table.specs.TokenProperty.{EachTokenHas}
@@ -60,7 +60,7 @@ module _ {Q : Type 0} (m n : Meanings ℕ Shape Q) where
       block_around k own (has_body (declares cs ts vs ps) statements) h =
           let b : Tree ℕ block = has_body (declares cs ts vs ps) statements in
           let of_types = fields_in_types k (section_types ts) in
-          let of_variables = fields_in_variables (constructor_after_types k b) (section_variables vs) in
+          let of_variables = fields_in_variables (constructors_before_variables k b) (section_variables vs) in
           let j : ℕ = constructor_after_variables k b in
           let inner = (body_among low own ps statements).statements in
           as_these inner

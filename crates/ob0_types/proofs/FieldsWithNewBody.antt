@@ -9,7 +9,7 @@ use Rattle.ob0_language_types.specs.Bindings.{declared_object}
 use Rattle.ob0_language_types.specs.WellTyped.{WellTyped}
 use Rattle.ob0_scope_table.specs.BodyPlaces.{body_place_around}
 use Rattle.ob0_tree.specs.FirstIdentifier.{first_token_of}
-use Rattle.ob0_scope_table.specs.BodyReplaced.{IsBodyReplaced, WayToBody, body_at, closing_name_in_module, way_in_module}
+use Rattle.ob0_scope_table.specs.BodyReplaced.{IsBodyReplaced, PathToBody, body_at, closing_name_in_module, way_in_module}
 use Rattle.ob0_scope_table.specs.Resolution.{IsResolution, Resolution}
 use Rattle.ob0_scope_table.specs.declared.one_body.BodyPlace.{BodyPlace}
 use Rattle.ob0_scope_table.proofs.BodyPlaces.{body_place_read}
@@ -20,7 +20,7 @@ use Rattle.ob0_types_fields.proofs.FieldsElsewhere.{fields_elsewhere}
 use Rattle.ob0_types.specs.CheckedModules.{AreTypesOf}
 use Rattle.ob0_types.specs.declared.checked.ModuleTypes.{ModuleTypes}
 
-module _ (old r : Resolution) (types : ModuleTypes) (way : WayToBody) (s : SameTokens) (is : IsBodyReplaced old.module_read r.module_read way s) (were : AreTypesOf old types)
+module _ (old r : Resolution) (types : ModuleTypes) (way : PathToBody) (s : SameTokens) (is : IsBodyReplaced old.module_read r.module_read way s) (were : AreTypesOf old types)
     (named : IsResolution r) (typed : WellTyped (named_tree_of r.module_read)) (none : types.faults.items ≡ []) where
   -- The fields before the new statements, the fields found in them, and the moved fields after them are the module's
   -- fields.

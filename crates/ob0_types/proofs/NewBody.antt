@@ -5,12 +5,12 @@ use Rattle.ob0_language_names.specs.DeclaredOnce.{are_distinct, block_names, blo
 use Rattle.ob0_language_names.specs.Names.{Name, Naming, naming_by_spelling, same_name}
 use Rattle.ob0_language_names.specs.Parts.{constant_names, formal_names, formal_sections, declared_type_names, procedure_formals, procedure_name, section_constants, section_types, section_variables, variable_names}
 use Rattle.ob0_language_types.specs.Declarations.{constructor_after_variables, block_constructor_count, declare_first, formals_constructor_count, procedure_constructor_count, procedures_constructor_count, types_constructor_count, variables_constructor_count}
-use Rattle.ob0_language_types.specs.WellTyped.{TypeEnvironment, WellTyped, bind_typed_parameters, block_fits, fits_over, bind_procedure, procedure_fits, procedures_fit, some_satisfies, typed_parameters}
+use Rattle.ob0_language_types.specs.WellTyped.{TypeEnvironment, WellTyped, bind_typed_parameters, block_fits, passes_type_check, bind_procedure, procedure_fits, procedures_fit, some_satisfies, typed_parameters}
 use Rattle.ob0_tree.specs.Tree.{Tree, block, body, constants, declares, declares_procedure, end, has_body, is_module, item, items, maybe, module_text, more, none, procedure, type_names, variables}
 use Rattle.ob0_tree.specs.ParsedModule.{named_tree_of, tree_of}
 use Rattle.ob0_tree.specs.Places.{tree_with_names, text_at, value_at}
 use Rattle.ob0_scan.specs.declared.tokens.SameTokens.{SameTokens}
-use Rattle.ob0_scope_table.specs.BodyReplaced.{WayToBody, block_without, body_at, body_in, body_inside, closing_name_in_module, closing_name_in_block, closing_name_in_procedure, shift_way, procedure_without, procedures_without, way_in_procedures, way_in_block, way_in_procedure, way_in_module, module_without_body}
+use Rattle.ob0_scope_table.specs.BodyReplaced.{PathToBody, block_without, body_at, body_in, body_inside, closing_name_in_module, closing_name_in_block, closing_name_in_procedure, shift_way, procedure_without, procedures_without, way_in_procedures, way_in_block, way_in_procedure, way_in_module, module_without_body}
 use Rattle.ob0_scope_table.specs.OneBody.{closing_name}
 use Rattle.ob0_scope_table.specs.Resolution.{Resolution}
 use Rattle.ob0_scope_table.proofs.BodyReplaced.{names_outside, without_mapped}
@@ -23,24 +23,24 @@ use Rattle.ob0_types.specs.declared.checked.ModuleTypes.{ModuleTypes}
 -- ---- a block without the statements of one body has as many words ARRAY and RECORD as the block, and the same names
 
 mutual
-  block_count : {N : Type 0} (way : WayToBody) (b : Tree N block) → block_constructor_count (block_without way b) ≡ block_constructor_count b
+  block_count : {N : Type 0} (way : PathToBody) (b : Tree N block) → block_constructor_count (block_without way b) ≡ block_constructor_count b
   block_count [] (has_body (declares cs ts vs ps) statements) = refl
   block_count (k ∷ way) (has_body (declares cs ts vs ps) statements) =
       ap (λ n. types_constructor_count (section_types ts) + (variables_constructor_count (section_variables vs) + n)) (procedures_count k way ps)
 
-  procedures_count : {N : Type 0} (k : ℕ) (way : WayToBody) (ps : Tree N (items procedure)) → procedures_constructor_count (procedures_without k way ps) ≡ procedures_constructor_count ps
+  procedures_count : {N : Type 0} (k : ℕ) (way : PathToBody) (ps : Tree N (items procedure)) → procedures_constructor_count (procedures_without k way ps) ≡ procedures_constructor_count ps
   procedures_count zero way end = refl
   procedures_count (suc k) way end = refl
   procedures_count zero way (more p rest) = ap (λ n. n + procedures_constructor_count rest) (procedure_count way p)
   procedures_count (suc k) way (more p rest) = ap (λ n. procedure_constructor_count p + n) (procedures_count k way rest)
 
-  pub procedure_count : {N : Type 0} (way : WayToBody) (p : Tree N (item procedure)) → procedure_constructor_count (procedure_without way p) ≡ procedure_constructor_count p
+  pub procedure_count : {N : Type 0} (way : PathToBody) (p : Tree N (item procedure)) → procedure_constructor_count (procedure_without way p) ≡ procedure_constructor_count p
   procedure_count way (declares_procedure x fs b closing) = ap (λ n. formals_constructor_count (formal_sections fs) + n) (block_count way b)
 
-same_formals : {N : Type 0} (way : WayToBody) (p : Tree N (item procedure)) → procedure_formals (procedure_without way p) ≡ procedure_formals p
+same_formals : {N : Type 0} (way : PathToBody) (p : Tree N (item procedure)) → procedure_formals (procedure_without way p) ≡ procedure_formals p
 same_formals way (declares_procedure x fs b closing) = refl
 
-same_names : {N : Type 0} (k : ℕ) (way : WayToBody) (ps : Tree N (items procedure)) → procedure_names (procedures_without k way ps) ≡ procedure_names ps
+same_names : {N : Type 0} (k : ℕ) (way : PathToBody) (ps : Tree N (items procedure)) → procedure_names (procedures_without k way ps) ≡ procedure_names ps
 same_names zero way end = refl
 same_names (suc k) way end = refl
 same_names zero way (more p rest) = ap (λ x. x ∷ procedure_names rest) (procedure_name-module_without_body way p)
@@ -72,7 +72,7 @@ module _ {N : Type 0} (naming : Naming N) where
   mutual
     unfolding block_fits declare_first
 
-    block_left_out : (way : WayToBody) (env : TypeEnvironment N) (k : ℕ) (b : Tree N block) → block_fits naming env k b ≡ true → block_fits naming env k (block_without way b) ≡ true
+    block_left_out : (way : PathToBody) (env : TypeEnvironment N) (k : ℕ) (b : Tree N block) → block_fits naming env k b ≡ true → block_fits naming env k (block_without way b) ≡ true
     block_left_out [] env k (has_body (declares cs ts vs ps) statements) h =
         let b : Tree N block = has_body (declares cs ts vs ps) statements in
         some_and_weaker _ (λ inner. procedures_fit naming inner (constructor_after_variables k b) statements ps) (λ inner. procedures_fit naming inner (constructor_after_variables k b) none ps)
@@ -82,7 +82,7 @@ module _ {N : Type 0} (naming : Naming N) where
         some_and_weaker _ (λ inner. procedures_fit naming inner (constructor_after_variables k b) statements ps) (λ inner. procedures_fit naming inner (constructor_after_variables k b) statements (procedures_without j way ps))
         (λ inner. procedures_left_out j way inner (constructor_after_variables k b) statements ps) h
 
-    procedures_left_out : (j : ℕ) (way : WayToBody) (env : TypeEnvironment N) (k : ℕ) (statements : Tree N (maybe body)) (ps : Tree N (items procedure)) → procedures_fit naming env k statements ps ≡ true
+    procedures_left_out : (j : ℕ) (way : PathToBody) (env : TypeEnvironment N) (k : ℕ) (statements : Tree N (maybe body)) (ps : Tree N (items procedure)) → procedures_fit naming env k statements ps ≡ true
         → procedures_fit naming env k statements (procedures_without j way ps) ≡ true
     procedures_left_out zero way env k statements end h = h
     procedures_left_out (suc j) way env k statements end h = h
@@ -103,14 +103,14 @@ module _ {N : Type 0} (naming : Naming N) where
         (procedure_fits naming (bind_typed_parameters qs (bind_procedure (procedure_name p) qs env)) k p) (procedures_fit naming (bind_procedure (procedure_name p) qs env) (k + procedure_constructor_count p) statements (procedures_without j way rest))
         (λ e. e) (procedures_left_out j way (bind_procedure (procedure_name p) qs env) (k + procedure_constructor_count p) statements rest)) h
 
-  pub fits_left_out : (way : WayToBody) (m : Tree N module_text) → fits_over naming m ≡ true → fits_over naming (module_without_body way m) ≡ true
-  unfolding fits_over
+  pub fits_left_out : (way : PathToBody) (m : Tree N module_text) → passes_type_check naming m ≡ true → passes_type_check naming (module_without_body way m) ≡ true
+  unfolding passes_type_check
   fits_left_out way (is_module x b closing) h = block_left_out way _ 0 b h
 
 -- ---- each name is also declared once without the statements of a body
 
 mutual
-  block_once_alike : (way : WayToBody) (own : List Name) (b : Tree Name block) → block_once own (block_without way b) ≡ block_once own b
+  block_once_alike : (way : PathToBody) (own : List Name) (b : Tree Name block) → block_once own (block_without way b) ≡ block_once own b
   block_once_alike [] own (has_body (declares cs ts vs ps) statements) = refl
   block_once_alike (k ∷ way) own (has_body (declares cs ts vs ps) statements) =
       λ i. are_distinct (own ++ block_names_alike i) && (types_have_distinct_fields (section_types ts) && (variables_have_distinct_fields (section_variables vs) && procedures_once_alike k way ps i))
@@ -118,16 +118,16 @@ mutual
       block_names_alike : block_names (block_without (k ∷ way) (has_body (declares cs ts vs ps) statements)) ≡ block_names (has_body (declares cs ts vs ps) statements)
       block_names_alike = λ i. constant_names (section_constants cs) ++ (declared_type_names (section_types ts) ++ (variable_names (section_variables vs) ++ same_names k way ps i))
 
-  procedures_once_alike : (k : ℕ) (way : WayToBody) (ps : Tree Name (items procedure)) → procedures_once (procedures_without k way ps) ≡ procedures_once ps
+  procedures_once_alike : (k : ℕ) (way : PathToBody) (ps : Tree Name (items procedure)) → procedures_once (procedures_without k way ps) ≡ procedures_once ps
   procedures_once_alike zero way end = refl
   procedures_once_alike (suc k) way end = refl
   procedures_once_alike zero way (more p rest) = ap (λ b. b && procedures_once rest) (procedure_once_alike way p)
   procedures_once_alike (suc k) way (more p rest) = ap (λ b. procedure_once p && b) (procedures_once_alike k way rest)
 
-  procedure_once_alike : (way : WayToBody) (p : Tree Name (item procedure)) → procedure_once (procedure_without way p) ≡ procedure_once p
+  procedure_once_alike : (way : PathToBody) (p : Tree Name (item procedure)) → procedure_once (procedure_without way p) ≡ procedure_once p
   procedure_once_alike way (declares_procedure x fs b closing) = ap (λ o. same_name x closing && (formals_have_distinct_fields (formal_sections fs) && o)) (block_once_alike way (formal_names (formal_sections fs)) b)
 
-pub once_left_out : (way : WayToBody) (m : Tree Name module_text) → declared_once (module_without_body way m) ≡ declared_once m
+pub once_left_out : (way : PathToBody) (m : Tree Name module_text) → declared_once (module_without_body way m) ≡ declared_once m
 once_left_out way (is_module x b closing) = ap (λ o. same_name x closing && o) (block_once_alike way [] b)
 
 -- ---- the body that contains a range of tokens is the one to which the way leads
@@ -136,7 +136,7 @@ abbrev Leads : OneBody → ℕ → Tree ℕ (maybe body) → Type 0
 Leads found closing statements = (found.closing ≡ closing) × (found.statements ≡ statements)
 
 -- If a body is found among procedures, the same body is found when another procedure is put before them.
-later_leads : (way : WayToBody) (own : ℕ) (cs : Tree ℕ (maybe constants)) (ts : Tree ℕ (maybe type_names)) (vs : Tree ℕ (maybe variables)) (p : Tree ℕ (item procedure)) (rest : Tree ℕ (items procedure)) (statements : Tree ℕ (maybe body)) (found : OneBody)
+later_leads : (way : PathToBody) (own : ℕ) (cs : Tree ℕ (maybe constants)) (ts : Tree ℕ (maybe type_names)) (vs : Tree ℕ (maybe variables)) (p : Tree ℕ (item procedure)) (rest : Tree ℕ (items procedure)) (statements : Tree ℕ (maybe body)) (found : OneBody)
     → Leads found (closing_name_in_block way own (has_body (declares cs ts vs rest) statements)) (body_in way (has_body (declares cs ts vs rest) statements))
     → Leads found (closing_name_in_block (shift_way way) own (has_body (declares cs ts vs (more p rest)) statements)) (body_in (shift_way way) (has_body (declares cs ts vs (more p rest)) statements))
 later_leads [] own cs ts vs p rest statements found h = h
@@ -185,5 +185,5 @@ module _ (r : Resolution) (types : ModuleTypes) (s : SameTokens) (w : WereTypesB
       record {
         way = w.way;
         at = sym found_there.0;
-        fits = subst (λ m. fits_over naming_by_spelling m ≡ true) (sym named_alike) (fits_left_out naming_by_spelling w.way (named_tree_of before) typed.1);
+        fits = subst (λ m. passes_type_check naming_by_spelling m ≡ true) (sym named_alike) (fits_left_out naming_by_spelling w.way (named_tree_of before) typed.1);
       }

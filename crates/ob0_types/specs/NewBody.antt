@@ -2,7 +2,7 @@
 -- different number of tokens.
 -- Rule: docs/LANGUAGE.md, Types 8, Faults of scopes and types 1.
 use Rattle.ob0_scan.specs.declared.tokens.SameTokens.{SameTokens}
-use Rattle.ob0_scope_table.specs.BodyReplaced.{IsBodyReplaced, WayToBody}
+use Rattle.ob0_scope_table.specs.BodyReplaced.{IsBodyReplaced, PathToBody}
 use Rattle.ob0_scope_table.specs.Resolution.{Resolution}
 use Rattle.ob0_types.specs.CheckedModules.{AreTypesOf}
 use Rattle.ob0_types.specs.declared.checked.ModuleTypes.{ModuleTypes}
@@ -11,6 +11,6 @@ use Rattle.ob0_types.specs.declared.checked.ModuleTypes.{ModuleTypes}
 -- body replaced. All other tokens have the same spellings in both modules.
 pub record WereTypesBeforeNewBody (r : Resolution) (types : ModuleTypes) (s : SameTokens) : Type 0 where
   pub old : Resolution
-  pub way : WayToBody
+  pub way : PathToBody
   pub replaced : IsBodyReplaced old.module_read r.module_read way s
   pub types_are : AreTypesOf old types

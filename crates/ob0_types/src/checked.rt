@@ -429,7 +429,7 @@ impl<'t> WellTyped<'t> {
     ghost use Rattle.ob0_language_types.specs.ConstantValues.{value_of_constant};
     ghost use Rattle.ob0_language_types.specs.Bindings.{declared_object};
     ghost use Rattle.ob0_types.specs.DeclaredShapes.{shape_of};
-    ghost use Rattle.ob0_language_types.specs.Typing.{type_of_declaration};
+    ghost use Rattle.ob0_language_types.specs.Typing.{type_of_object};
     ghost use Rattle.ob0_language_values.specs.Scalars.{scalar_value};
 
     /// Returns the module with the result of checking it. This result has no faults.
@@ -483,7 +483,7 @@ impl<'t> WellTyped<'t> {
     /// isn't the ordinal of a declaration.
     pub fn shape(&self, declaration: usize) -> Option<Shape<'t>>
         ensures { option_map shape_of result
-            ≡ type_of_declaration (declared_object (named_tree_of self.now.module_read) declaration) }
+            ≡ type_of_object (declared_object (named_tree_of self.now.module_read) declaration) }
     {
         let known = self.declarations();
         let of = known.declared_type(declaration)?;

@@ -14,7 +14,7 @@ use Rattle.ob0_language_types.specs.Declaring.{declare_block, declare_procedure}
 use Rattle.ob0_language_types.specs.Declarations.{constructor_after_variables, formals_constructor_count, procedure_constructor_count, types_constructor_count, variables_constructor_count}
 use Rattle.ob0_language_types.specs.Environments.{outermost}
 use Rattle.ob0_language_types.specs.Expressions.{a_procedure, a_variable}
-use Rattle.ob0_language_types.specs.WellTyped.{TypeEnvironment, TypedParameter, bind_typed_parameters, block_fits, fits_over, bind_procedure, procedure_fits, procedures_fit, typed_parameters}
+use Rattle.ob0_language_types.specs.WellTyped.{TypeEnvironment, TypedParameter, bind_typed_parameters, block_fits, passes_type_check, bind_procedure, procedure_fits, procedures_fit, typed_parameters}
 use Rattle.ob0_language_types.proofs.Agreeing.{Agree, HoldsOf}
 use Rattle.ob0_language_types.proofs.Constructors.{formals_constructor_count-relabel, procedure_constructor_count-relabel, types_constructor_count-relabel, variables_constructor_count-relabel}
 use Rattle.ob0_language_types.proofs.Literals.{some_inverse}
@@ -294,13 +294,13 @@ mutual
       (bind_typed_parameters (label_typed (suc k) listed) (bind_procedure (declared k) (label_typed (suc k) listed) [])) block_part heading_part))
 
 -- The bindings of the names and of the labels in the block of a module that fits are in the order of their ordinals.
-pub module-block : (x : Name) (b : Tree Name block) (closing : Name) → fits_over naming_by_spelling (is_module x b closing) ≡ true
+pub module-block : (x : Name) (b : Tree Name block) (closing : Name) → passes_type_check naming_by_spelling (is_module x b closing) ≡ true
     → Ordered 7 (ordinal_after_block 7 b) (block_bindings naming_by_spelling (outermost naming_by_spelling) 0 b) (block_bindings naming_by_label (outermost naming_by_label) 0 (relabel_block naming_by_spelling (label_from_ordinal naming_by_spelling) (typed_scope (typed_outermost naming_by_spelling)) 7 b))
-unfolding fits_over
+unfolding passes_type_check
 module-block x b closing h = block-ordered (typed_outermost naming_by_spelling) 0 7 predeclared-below b h
 
 -- All bindings of a module that fits, including the predeclared names, are in the order of their ordinals.
-pub module-ordered : (m : Tree Name module_text) → fits_over naming_by_spelling m ≡ true → Ordered 0 (ordinal_after_block 7 (module_block m)) (module_bindings naming_by_spelling m) (module_bindings naming_by_label (numbered m))
+pub module-ordered : (m : Tree Name module_text) → passes_type_check naming_by_spelling m ≡ true → Ordered 0 (ordinal_after_block 7 (module_block m)) (module_bindings naming_by_spelling m) (module_bindings naming_by_label (numbered m))
 module-ordered (is_module x b closing) h =
     ordered-append 0 7 (ordinal_after_block 7 b) (block_bindings naming_by_spelling (outermost naming_by_spelling) 0 b) (outermost naming_by_spelling) (block_bindings naming_by_label (outermost naming_by_label) 0 (relabel_block naming_by_spelling (label_from_ordinal naming_by_spelling) (typed_scope (typed_outermost naming_by_spelling)) 7 b)) (outermost naming_by_label)
     (module-block x b closing h)

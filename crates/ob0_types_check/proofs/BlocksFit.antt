@@ -12,10 +12,10 @@ use Rattle.ob0_scope_table.specs.Resolution.{Resolution, is_undeclared_fault}
 use Rattle.ob0_language_names.specs.Scopes.{Scope, ordinal_after_block, ordinal_after_names, ordinal_after_procedure, ordinal_after_procedures, first_procedure_ordinal, first_type_ordinal, first_variable_ordinal, predeclared_scope}
 use Rattle.ob0_language_names.proofs.Ordinals.{le-ordinal_after_names, le-ordinal_after_procedure}
 use Rattle.ob0_language_types.specs.Bindings.{block_bindings, list_if_some, procedure_bindings, procedures_bindings, bindings_since}
-use Rattle.ob0_language_types.specs.Declarations.{constructor_after_types, constructor_after_variables, block_constructor_count, declare_constants, declare_first, declare_types, formals_constructor_count, procedure_constructor_count, procedures_constructor_count, types_constructor_count, variables_constructor_count}
+use Rattle.ob0_language_types.specs.Declarations.{constructors_before_variables, constructor_after_variables, block_constructor_count, declare_constants, declare_first, declare_types, formals_constructor_count, procedure_constructor_count, procedures_constructor_count, types_constructor_count, variables_constructor_count}
 use Rattle.ob0_language_types.specs.Environments.{meanings, outermost}
 use Rattle.ob0_language_types.specs.Expressions as meant
-use Rattle.ob0_language_types.specs.WellTyped.{Signature, TypeEnvironment, TypedParameter, bind_typed_parameters, block_fits, body_fits, by_place, by_value, declare_typed, fits_over, bind_procedure, some_satisfies, procedure_fits, procedures_fit, sequence_fits, typed_parameters}
+use Rattle.ob0_language_types.specs.WellTyped.{Signature, TypeEnvironment, TypedParameter, bind_typed_parameters, block_fits, body_fits, by_place, by_value, declare_typed, passes_type_check, bind_procedure, some_satisfies, procedure_fits, procedures_fit, sequence_fits, typed_parameters}
 use Rattle.ob0_language_values.specs.Values.{Shape, boolean_shape, integer_shape, truth}
 use Rattle.ob0_types_check.specs.DeclarationFaults.{KnownHeading, state_after_heading, reported_block, reported_body, reported_constants, reported_module, reported_procedure, reported_procedures, reported_sections, reported_types, reported_variables}
 use Rattle.ob0_types_check.specs.Known.{Meaning, Reported, a_procedure}
@@ -95,7 +95,7 @@ module _ (w : Numbering) (fit : PartsFit) where
       → (reported_types (reported_constants p (section_constants cs)).known (section_types ts)).faults ≡ []
       → (reported_variables (reported_types (reported_constants p (section_constants cs)).known (section_types ts)).known (section_variables vs)).faults ≡ []
       → Declared w n (first_procedure_ordinal n (has_body (declares cs ts vs ps) statements)) k (constructor_after_variables k (tree_with_names w.source (has_body (declares cs ts vs ps) statements))) p (reported_variables (reported_types (reported_constants p (section_constants cs)).known (section_types ts)).known (section_variables vs)).known before (following_variables w scope n (has_body (declares cs ts vs ps) statements))
-      (option_and_then (declare_typed naming_by_spelling (constructor_after_types k (tree_with_names w.source (has_body (declares cs ts vs ps) statements))) (section_variables (tree_with_names w.source vs))) (declare_first naming_by_spelling env k (tree_with_names w.source (has_body (declares cs ts vs ps) statements))))
+      (option_and_then (declare_typed naming_by_spelling (constructors_before_variables k (tree_with_names w.source (has_body (declares cs ts vs ps) statements))) (section_variables (tree_with_names w.source vs))) (declare_first naming_by_spelling env k (tree_with_names w.source (has_body (declares cs ts vs ps) statements))))
   unfolding declare_first
   declarations_reported cs ts vs ps statements k n p before scope env at st placed₀ placed₁ placed₂ none₀ none₁ none₂ =
       let text : ℕ → Name = text_at w.source in
@@ -109,13 +109,13 @@ module _ (w : Numbering) (fit : PartsFit) where
       let dt = types_declare w fit (section_types ts) k (first_type_ordinal n b) p₁ dc.after (following_constants w scope n b) dc.env (omega (arith, at, dc.apart.counted)) dc.holds placed₁ none₁ in
       let le₁ : n ≤ first_type_ordinal n b = le-ordinal_after_names n (constant_names (section_constants cs)) in
       let le₂ : n ≤ first_variable_ordinal n b = le_trans le₁ (le-ordinal_after_names (first_type_ordinal n b) (declared_type_names (section_types ts))) in
-      let first : Declared w n (first_variable_ordinal n b) k (constructor_after_types k nb) p p₂ before (following_types w scope n b) (declare_first naming_by_spelling env k nb) =
-      declared_then w n (first_type_ordinal n b) (first_variable_ordinal n b) k k (constructor_after_types k nb) p p₁ p₂ before dc.after (following_types w scope n b) (declare_constants naming_by_spelling env (section_constants (tree_with_names w.source cs))) dc.env (λ e. declare_types naming_by_spelling e k (section_types (tree_with_names w.source ts))) le₁
+      let first : Declared w n (first_variable_ordinal n b) k (constructors_before_variables k nb) p p₂ before (following_types w scope n b) (declare_first naming_by_spelling env k nb) =
+      declared_then w n (first_type_ordinal n b) (first_variable_ordinal n b) k k (constructors_before_variables k nb) p p₁ p₂ before dc.after (following_types w scope n b) (declare_constants naming_by_spelling env (section_constants (tree_with_names w.source cs))) dc.env (λ e. declare_types naming_by_spelling e k (section_types (tree_with_names w.source ts))) le₁
       (ap (declare_constants naming_by_spelling env) (constants-mapped text value cs) ∙ dc.given_is) dc.apart dc.later
       (subst (λ z. Declared w (first_type_ordinal n b) (first_variable_ordinal n b) k (k + types_constructor_count z) p₁ p₂ dc.after (following_types w scope n b) (declare_types naming_by_spelling dc.env k z)) (sym (types-mapped text value ts)) dt) in
-      let dv = variables_declare w fit (section_variables vs) (constructor_after_types k nb) (first_variable_ordinal n b) p₂ first.after (following_types w scope n b) first.env (omega (arith, at, first.apart.counted)) first.holds placed₂ none₂ in
-      declared_then w n (first_variable_ordinal n b) (first_procedure_ordinal n b) k (constructor_after_types k nb) (constructor_after_variables k nb) p p₂ p₃ before first.after (following_variables w scope n b) (declare_first naming_by_spelling env k nb) first.env (declare_typed naming_by_spelling (constructor_after_types k nb) (section_variables (tree_with_names w.source vs))) le₂ first.given_is first.apart first.later
-      (subst (λ z. Declared w (first_variable_ordinal n b) (first_procedure_ordinal n b) (constructor_after_types k nb) (constructor_after_types k nb + variables_constructor_count z) p₂ p₃ first.after (following_variables w scope n b) (declare_typed naming_by_spelling (constructor_after_types k nb) z first.env)) (sym (variables-mapped text value vs)) dv)
+      let dv = variables_declare w fit (section_variables vs) (constructors_before_variables k nb) (first_variable_ordinal n b) p₂ first.after (following_types w scope n b) first.env (omega (arith, at, first.apart.counted)) first.holds placed₂ none₂ in
+      declared_then w n (first_variable_ordinal n b) (first_procedure_ordinal n b) k (constructors_before_variables k nb) (constructor_after_variables k nb) p p₂ p₃ before first.after (following_variables w scope n b) (declare_first naming_by_spelling env k nb) first.env (declare_typed naming_by_spelling (constructors_before_variables k nb) (section_variables (tree_with_names w.source vs))) le₂ first.given_is first.apart first.later
+      (subst (λ z. Declared w (first_variable_ordinal n b) (first_procedure_ordinal n b) (constructors_before_variables k nb) (constructors_before_variables k nb + variables_constructor_count z) p₂ p₃ first.after (following_variables w scope n b) (declare_typed naming_by_spelling (constructors_before_variables k nb) z first.env)) (sym (variables-mapped text value vs)) dv)
 
   -- A block fits if its declarations give an environment in which its procedures and statements fit.
   block_then : (p v q : KnownDeclarations) (before : List Shape) (n m i k j l : ℕ) (scope : Scope Name) (env : TypeEnvironment Name) (given : Option (TypeEnvironment Name)) (statements : Tree ℕ (maybe body)) (test : TypeEnvironment Name → Bool) (bindings : TypeEnvironment Name → TypeEnvironment Name) → n ≤ m → (d : Declared w n m k j p v before scope given)
@@ -211,7 +211,7 @@ module _ (w : Numbering) (fit : PartsFit) where
         (as_long before p.declared n scope env st.names) d.holds.names in
         subst (λ j. FitsLater n (ordinal_after_block n b) k j p (reported_block p (has_body (declares cs ts vs ps) statements)).known before (block_fits naming_by_spelling env k (tree_with_names w.source (has_body (declares cs ts vs ps) statements))) (block_bindings naming_by_spelling env k (tree_with_names w.source (has_body (declares cs ts vs ps) statements))))
         (block_end k (types_constructor_count (section_types (tree_with_names w.source ts))) (variables_constructor_count (section_variables (tree_with_names w.source vs))) (procedures_constructor_count (tree_with_names w.source ps)))
-        (block_then p t₃.known t₄.known before n (first_procedure_ordinal n b) (ordinal_after_block n b) k (constructor_after_variables k nb) l (following_variables w scope n b) env (option_and_then (declare_typed naming_by_spelling (constructor_after_types k nb) (section_variables (tree_with_names w.source vs))) (declare_first naming_by_spelling env k nb)) statements
+        (block_then p t₃.known t₄.known before n (first_procedure_ordinal n b) (ordinal_after_block n b) k (constructor_after_variables k nb) l (following_variables w scope n b) env (option_and_then (declare_typed naming_by_spelling (constructors_before_variables k nb) (section_variables (tree_with_names w.source vs))) (declare_first naming_by_spelling env k nb)) statements
         (λ inner. procedures_fit naming_by_spelling inner (constructor_after_variables k nb) (tree_with_names w.source statements) (tree_with_names w.source ps)) (λ inner. procedures_bindings naming_by_spelling inner (constructor_after_variables k nb) (tree_with_names w.source ps)) le d own rest)
 
     procedures_reported : (ps : Tree ℕ (items procedure)) (statements : Tree ℕ (maybe body)) (k n : ℕ) (p : KnownDeclarations) (before : List Shape) (scope : Scope Name) (env : TypeEnvironment Name) → length before ≡ k → IsKnownAt w p before n scope env → ProceduresPlaced w scope n statements ps → (reported_procedures p ps).faults ≡ []
@@ -316,7 +316,7 @@ first_holds r = record {
 }
 
 pub modules_fit-holds : ModulesFit
-unfolding reported_module fits_over
+unfolding reported_module passes_type_check
 modules_fit-holds r is h =
     let m = r.module_read in
     let a = none-reported (filter is_undeclared_fault r.faults) (reported_block (state_at_start r) (module_block (tree_of m))).faults h in

@@ -10,10 +10,10 @@ use Rattle.ob0_language_names.specs.Names.{Label, Name, naming_by_label, naming_
 use Rattle.ob0_language_names.specs.Parts.{module_block}
 use Rattle.ob0_scope_table.specs.Resolution.{is_undeclared_fault}
 use Rattle.ob0_language_names.specs.Scopes.{ordinal_after_block, label_from_ordinal, numbered, predeclared_scope, relabel_block}
-use Rattle.ob0_language_types.specs.Bindings.{block_bindings, declared_object, module_bindings, bound_object}
+use Rattle.ob0_language_types.specs.Bindings.{block_bindings, declared_object, module_bindings, object_of_ordinal}
 use Rattle.ob0_language_types.specs.Environments.{environment_from_binding, outermost}
 use Rattle.ob0_language_types.specs.Expressions as meant
-use Rattle.ob0_language_types.specs.WellTyped.{Signature, TypeEnvironment, fits_over}
+use Rattle.ob0_language_types.specs.WellTyped.{Signature, TypeEnvironment, passes_type_check}
 use Rattle.ob0_language_types.proofs.Bound.{newest_object-if}
 use Rattle.ob0_language_types.proofs.TypesByOrdinal.{TypeNoted, typed_by_name, typed_by_ordinal, typed_outermost, typed_scope}
 use Rattle.ob0_types_table.specs.declared.types.TypeId.{TypeId}
@@ -36,22 +36,22 @@ abbrev IsKnownAs : List Shape → List (Option (Meaning TypeId)) → ℕ → Opt
 IsKnownAs shapes known k o = KnownMeaningAgrees (shape_in shapes) (slice_index_or known k None) o × (7 ≤ k → is_standard_procedure o ≡ false)
 
 module _ (shapes : List Shape) (known : List (Option (Meaning TypeId))) where
-  known_at : (noted : TypeNoted Name) (m : ℕ) → InOrder 0 m noted → BindingsKnown shapes known 0 m (typed_by_name noted) → (k : ℕ) → k < m → IsKnownAs shapes known k (bound_object (typed_by_ordinal noted) k)
+  known_at : (noted : TypeNoted Name) (m : ℕ) → InOrder 0 m noted → BindingsKnown shapes known 0 m (typed_by_name noted) → (k : ℕ) → k < m → IsKnownAs shapes known k (object_of_ordinal (typed_by_ordinal noted) k)
   known_at [] m order h k less = absurd (omega (arith, order, less))
   known_at (b ∷ noted) m order h k less =
       let same : h.0 ≡ b.ordinal = omega (arith, order.0, h.1) in
       let rest : BindingsKnown shapes known 0 b.ordinal (typed_by_name noted) = subst (λ z. BindingsKnown shapes known 0 z (typed_by_name noted)) same h.4 in
       subst (IsKnownAs shapes known k) (sym (newest_object-if (k == b.ordinal) (declared b.ordinal) b.object (typed_by_ordinal noted) (environment_from_binding naming_by_label (typed_by_ordinal noted) (declared k))))
-      (elim (k == b.ordinal) as (λ t. (k == b.ordinal) ≡ t → IsKnownAs shapes known k (cond t (Some b.object) (bound_object (typed_by_ordinal noted) k))) [
+      (elim (k == b.ordinal) as (λ t. (k == b.ordinal) ≡ t → IsKnownAs shapes known k (cond t (Some b.object) (object_of_ordinal (typed_by_ordinal noted) k))) [
         | true ↦ λ e. subst (λ z. IsKnownAs shapes known z (Some b.object)) (same ∙ sym (eqb-true k b.ordinal e)) (h.2, h.3)
         | false ↦ λ e. let other : k ≡ b.ordinal → ⊥ = λ s. true≢false (sym (eq-eqb k b.ordinal s) ∙ e) in known_at noted b.ordinal order.1 rest k (omega (arith, order.0, less, other))
       ] refl)
 
-none_at : (noted : TypeNoted Name) (m : ℕ) → InOrder 0 m noted → (k : ℕ) → m ≤ k → bound_object (typed_by_ordinal noted) k ≡ None
+none_at : (noted : TypeNoted Name) (m : ℕ) → InOrder 0 m noted → (k : ℕ) → m ≤ k → object_of_ordinal (typed_by_ordinal noted) k ≡ None
 none_at [] m order k le = refl
 none_at (b ∷ noted) m order k le =
     newest_object-if (k == b.ordinal) (declared b.ordinal) b.object (typed_by_ordinal noted) (environment_from_binding naming_by_label (typed_by_ordinal noted) (declared k))
-    ∙ (ap (λ t. cond t (Some b.object) (bound_object (typed_by_ordinal noted) k)) (ne_eqb k b.ordinal (λ e. omega (arith, e, le, order.0)))
+    ∙ (ap (λ t. cond t (Some b.object) (object_of_ordinal (typed_by_ordinal noted) k)) (ne_eqb k b.ordinal (λ e. omega (arith, e, le, order.0)))
     ∙ none_at noted b.ordinal order.1 k (omega (arith, le, order.0)))
 
 holds_agree : (shape : TypeId → Option Shape) (m : Option (Meaning TypeId)) (o : Option (meant.Object Shape Signature)) → KnownMeaningAgrees shape m o → DeclarationAgrees shape m o
@@ -67,18 +67,18 @@ either {P} k m f g = by (nat_lt k m) refl
 
 -- The bindings of ordinals below `m` agree with their meanings, and ordinals from `m` upwards have neither.
 module _ (shapes : List Shape) (known : List (Option (Meaning TypeId))) (m : ℕ) (names : TypeEnvironment Name) (labels : TypeEnvironment Label) (all : Ordered 0 m names labels) (bound : BindingsKnown shapes known 0 m names) (room : length known ≡ m) where
-  below : (k : ℕ) → k < m → IsKnownAs shapes known k (bound_object labels k)
-  below k less = subst (λ z. IsKnownAs shapes known k (bound_object z k)) (sym all.by_label) (known_at shapes known all.noted m all.in_order (subst (BindingsKnown shapes known 0 m) all.by_name bound) k less)
+  below : (k : ℕ) → k < m → IsKnownAs shapes known k (object_of_ordinal labels k)
+  below k less = subst (λ z. IsKnownAs shapes known k (object_of_ordinal z k)) (sym all.by_label) (known_at shapes known all.noted m all.in_order (subst (BindingsKnown shapes known 0 m) all.by_name bound) k less)
 
-  past : (k : ℕ) → m ≤ k → (bound_object labels k ≡ None) × (slice_index_or known k None ≡ None)
-  past k le = (ap (λ z. bound_object z k) all.by_label ∙ none_at all.noted m all.in_order k le, get_or_past known k None (subst (λ n. n ≤ k) (sym room) le))
+  past : (k : ℕ) → m ≤ k → (object_of_ordinal labels k ≡ None) × (slice_index_or known k None ≡ None)
+  past k le = (ap (λ z. object_of_ordinal z k) all.by_label ∙ none_at all.noted m all.in_order k le, get_or_past known k None (subst (λ n. n ≤ k) (sym room) le))
 
-  every_agrees : (k : ℕ) → DeclarationAgrees (shape_in shapes) (slice_index_or known k None) (bound_object labels k)
+  every_agrees : (k : ℕ) → DeclarationAgrees (shape_in shapes) (slice_index_or known k None) (object_of_ordinal labels k)
   every_agrees k =
-      either k m (λ less. holds_agree (shape_in shapes) (slice_index_or known k None) (bound_object labels k) (below k less).0)
-      (λ le. subst (λ z. DeclarationAgrees (shape_in shapes) z (bound_object labels k)) (sym (past k le).1) (past k le).0)
+      either k m (λ less. holds_agree (shape_in shapes) (slice_index_or known k None) (object_of_ordinal labels k) (below k less).0)
+      (λ le. subst (λ z. DeclarationAgrees (shape_in shapes) z (object_of_ordinal labels k)) (sym (past k le).1) (past k le).0)
 
-  every_own : (k : ℕ) → 7 ≤ k → is_standard_procedure (bound_object labels k) ≡ false
+  every_own : (k : ℕ) → 7 ≤ k → is_standard_procedure (object_of_ordinal labels k) ≡ false
   every_own k own = either k m (λ less. (below k less).1 own) (λ le. ap is_standard_procedure (past k le).0)
 
 above_first : (n m : ℕ) (noted : TypeNoted Name) → InOrder n m noted → n ≤ m
@@ -86,22 +86,22 @@ above_first n m [] order = omega (arith, order)
 above_first n m (b ∷ noted) order = omega (arith, order.0, above_first n b.ordinal noted order.1)
 
 -- An ordinal below the ordinals of a block is bound to the same object as before the block.
-bound_before : (n m : ℕ) (noted : TypeNoted Name) → InOrder n m noted → (env : TypeEnvironment Label) (k : ℕ) → k < n → bound_object (typed_by_ordinal noted ++ env) k ≡ bound_object env k
+bound_before : (n m : ℕ) (noted : TypeNoted Name) → InOrder n m noted → (env : TypeEnvironment Label) (k : ℕ) → k < n → object_of_ordinal (typed_by_ordinal noted ++ env) k ≡ object_of_ordinal env k
 bound_before n m [] order env k less = refl
 bound_before n m (b ∷ noted) order env k less =
     newest_object-if (k == b.ordinal) (declared b.ordinal) b.object (typed_by_ordinal noted ++ env) (environment_from_binding naming_by_label (typed_by_ordinal noted ++ env) (declared k))
-    ∙ (ap (λ t. cond t (Some b.object) (bound_object (typed_by_ordinal noted ++ env) k)) (ne_eqb k b.ordinal (λ e. omega (arith, e, less, above_first n b.ordinal noted order.1)))
+    ∙ (ap (λ t. cond t (Some b.object) (object_of_ordinal (typed_by_ordinal noted ++ env) k)) (ne_eqb k b.ordinal (λ e. omega (arith, e, less, above_first n b.ordinal noted order.1)))
     ∙ bound_before n b.ordinal noted order.1 env k less)
 
-first_bound : (n m : ℕ) (names : TypeEnvironment Name) (labels env : TypeEnvironment Label) → Ordered n m names labels → (k : ℕ) → k < n → bound_object (labels ++ env) k ≡ bound_object env k
-first_bound n m names labels env all k less = ap (λ z. bound_object (z ++ env) k) all.by_label ∙ bound_before n m all.noted all.in_order env k less
+first_bound : (n m : ℕ) (names : TypeEnvironment Name) (labels env : TypeEnvironment Label) → Ordered n m names labels → (k : ℕ) → k < n → object_of_ordinal (labels ++ env) k ≡ object_of_ordinal env k
+first_bound n m names labels env all k less = ap (λ z. object_of_ordinal (z ++ env) k) all.by_label ∙ bound_before n m all.noted all.in_order env k less
 
-predeclared_bound : (m : Tree Name module_text) → fits_over naming_by_spelling m ≡ true → (k : ℕ) → k < 7 → declared_object m k ≡ bound_object (outermost naming_by_label) k
+predeclared_bound : (m : Tree Name module_text) → passes_type_check naming_by_spelling m ≡ true → (k : ℕ) → k < 7 → declared_object m k ≡ object_of_ordinal (outermost naming_by_label) k
 predeclared_bound (is_module x b closing) h k less =
     first_bound 7 (ordinal_after_block 7 b) (block_bindings naming_by_spelling (outermost naming_by_spelling) 0 b) (block_bindings naming_by_label (outermost naming_by_label) 0 (relabel_block naming_by_spelling (label_from_ordinal naming_by_spelling) (typed_scope (typed_outermost naming_by_spelling)) 7 b)) (outermost naming_by_label) (module-block x b closing h) k less
 
 pub declarations_known-holds : DeclarationsKnown
-unfolding reported_module fits_over
+unfolding reported_module passes_type_check
 declarations_known-holds r is h =
     let m = r.module_read in
     let b : Tree ℕ block = module_block (tree_of m) in

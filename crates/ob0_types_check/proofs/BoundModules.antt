@@ -11,11 +11,11 @@ use Rattle.ob0_language_names.specs.Occurrences.{bindings}
 use Rattle.ob0_language_names.specs.Parts.{formal_sections, names_in_list, procedure_formals, procedure_name, section_constants, section_names, section_type, section_types, section_variables}
 use Rattle.ob0_scope_table.specs.Resolution.{is_unbound, span_at, undeclared_faults_by_labels}
 use Rattle.ob0_language_names.specs.Scopes.{numbered}
-use Rattle.ob0_language_types.specs.Declarations.{constructor_after_types, constructor_after_variables, declare_constants, declare_first, declare_types, formals_constructor_count, procedure_constructor_count}
+use Rattle.ob0_language_types.specs.Declarations.{constructors_before_variables, constructor_after_variables, declare_constants, declare_first, declare_types, formals_constructor_count, procedure_constructor_count}
 use Rattle.ob0_language_types.specs.Environments.{environment_from_binding, meanings, newest_object, outermost}
 use Rattle.ob0_language_types.specs.Expressions.{Object, a_constant, a_type, a_variable}
 use Rattle.ob0_language_types.specs.Typing.{constant_value, constructor_count, denoted}
-use Rattle.ob0_language_types.specs.WellTyped.{Signature, TypeEnvironment, TypedParameter, bind_names, bind_typed_parameters, block_fits, body_fits, declare_typed, fits_over, bind_procedure, procedure_fits, procedures_fit, section_mode, typed_parameters}
+use Rattle.ob0_language_types.specs.WellTyped.{Signature, TypeEnvironment, TypedParameter, bind_names, bind_typed_parameters, block_fits, body_fits, declare_typed, passes_type_check, bind_procedure, procedure_fits, procedures_fit, section_mode, typed_parameters}
 use Rattle.ob0_language_types.proofs.Proved.{numbering_keeps_type_check-holds}
 use Rattle.ob0_language_types.proofs.Conditions.{hold-true}
 use Rattle.ob0_language_values.specs.Values.{Shape}
@@ -91,14 +91,14 @@ module _ {N : Type 0} (P : N → Type 0) (naming : Naming N) (bound : (env : Typ
     pub block-bound : (b : Tree N block) (k : ℕ) (env : TypeEnvironment N) → block_fits naming env k b ≡ true → Each P (occurrences b)
     block-bound (has_body (declares cs ts vs ps) statements) k env h =
         let b : Tree N block = has_body (declares cs ts vs ps) statements in
-        let (inner, whole, fitting) = hold-true (option_and_then (declare_typed naming (constructor_after_types k b) (section_variables vs)) (declare_first naming env k b)) (λ inner. procedures_fit naming inner (constructor_after_variables k b) statements ps) h in
-        let (first, hf, hv) = and-then (declare_typed naming (constructor_after_types k b) (section_variables vs)) (declare_first naming env k b) inner whole in
+        let (inner, whole, fitting) = hold-true (option_and_then (declare_typed naming (constructors_before_variables k b) (section_variables vs)) (declare_first naming env k b)) (λ inner. procedures_fit naming inner (constructor_after_variables k b) statements ps) h in
+        let (first, hf, hv) = and-then (declare_typed naming (constructors_before_variables k b) (section_variables vs)) (declare_first naming env k b) inner whole in
         let (first_env, hc, ht) = and-then (λ with_constants. declare_types naming with_constants k (section_types ts)) (declare_constants naming env (section_constants cs)) first hf in
         let rest = procedures-bound ps statements (constructor_after_variables k b) inner fitting in
         each-of-both P (occurrences cs ++ (occurrences ts ++ (occurrences vs ++ occurrences ps))) (occurrences statements)
         (each-of-both P (occurrences cs) (occurrences ts ++ (occurrences vs ++ occurrences ps)) (constant-section cs (constants-bound (section_constants cs) env first_env hc))
         (each-of-both P (occurrences ts) (occurrences vs ++ occurrences ps) (type-section ts (types-bound (section_types ts) k first_env first ht))
-        (each-of-both P (occurrences vs) (occurrences ps) (variable-section vs (variables-bound (section_variables vs) (constructor_after_types k b) first inner hv)) rest.0))) rest.1
+        (each-of-both P (occurrences vs) (occurrences ps) (variable-section vs (variables-bound (section_variables vs) (constructors_before_variables k b) first inner hv)) rest.0))) rest.1
 
     procedures-bound : (ps : Tree N (items procedure)) (statements : Tree N (maybe body)) (k : ℕ) (env : TypeEnvironment N) → procedures_fit naming env k statements ps ≡ true → Each P (occurrences ps) × Each P (occurrences statements)
     procedures-bound end statements k env h = (tt, body-bound statements env h)
@@ -122,8 +122,8 @@ label-bound : (env : TypeEnvironment Label) (x : Label) (o : Object Shape Signat
 label-bound env (declared k) o h = refl
 label-bound env (as_written x) o h = let no : None ≡ Some o = sym (only-written env x) ∙ h in absurd (cc)
 
-pub labels-bound : (m : Tree Label module_text) → fits_over naming_by_label m ≡ true → Each (λ x. is_unbound x ≡ false) (occurrences m)
-unfolding fits_over
+pub labels-bound : (m : Tree Label module_text) → passes_type_check naming_by_label m ≡ true → Each (λ x. is_unbound x ≡ false) (occurrences m)
+unfolding passes_type_check
 labels-bound (is_module x b closing) h = block-bound (λ x. is_unbound x ≡ false) naming_by_label label-bound b 0 (outermost naming_by_label) h
 
 none-unbound : (source : TextWithTokens) (tokens : List ℕ) (labels : List Label) → Each (λ x. is_unbound x ≡ false) labels → undeclared_faults_by_labels source tokens labels ≡ []

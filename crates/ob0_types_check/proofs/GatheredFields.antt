@@ -14,7 +14,7 @@ use Rattle.ob0_types_check.specs.declared.reporting.written_types.KnownFields as
 use Rattle.ob0_types_check.specs.Known.{Reported}
 use Rattle.ob0_types_check.specs.Operations.{ReportsAfter}
 use Rattle.ob0_types_check.specs.KnownDeclarations.{Size, empty_size, size_at}
-use Rattle.ob0_types_check.specs.CheckerFacts.{AddsKnownFields, HasKnownFields, capped_size, fields_in, size_of, declarations_in_state}
+use Rattle.ob0_types_check.specs.CheckerViews.{AddsKnownFields, HasKnownFields, capped_size, fields_in, size_of, declarations_in_state}
 use Rattle.ob0_types_check.specs.WrittenTypeFaults.{KnownFields, sum_of_sizes, no_known_fields, reported_fields, reported_groups, with_known_field, with_known_fields}
 use Rattle.ob0_types_check.proofs.Chains.{Chained, chain_goes_on}
 use Rattle.ob0_types_check.proofs.ReportedTypes.{group_reported, groups_chain}

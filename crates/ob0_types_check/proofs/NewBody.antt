@@ -6,8 +6,8 @@ use Rattle.ob0_language_names.specs.Names.{naming_by_spelling}
 use Rattle.ob0_language_names.specs.Parts.{formal_sections, module_block, section_constants, section_types, section_variables}
 use Rattle.ob0_language_names.specs.Scopes.{predeclared_scope}
 use Rattle.ob0_language_types.specs.Environments.{outermost}
-use Rattle.ob0_language_types.specs.WellTyped.{fits_over}
-use Rattle.ob0_scope_table.specs.BodyReplaced.{WayToBody, block_without, closing_name_in_procedures, closing_name_in_block, closing_name_in_procedure, procedure_without, procedures_without}
+use Rattle.ob0_language_types.specs.WellTyped.{passes_type_check}
+use Rattle.ob0_scope_table.specs.BodyReplaced.{PathToBody, block_without, closing_name_in_procedures, closing_name_in_block, closing_name_in_procedure, procedure_without, procedures_without}
 use Rattle.ob0_scope_table.specs.Resolution.{IsResolution, Resolution}
 use Rattle.ob0_types_check.specs.DeclarationFaults.{state_after_heading, reported_block, reported_body, reported_constants, reported_procedure, reported_procedures, reported_sections, reported_types, reported_variables}
 use Rattle.ob0_types_check.specs.Known.{Reported}
@@ -34,7 +34,7 @@ declared_so_far p cs ts vs = (reported_variables (reported_types (reported_const
 mutual
   unfolding reported_block
 
-  block_known : (way : WayToBody) (p : KnownDeclarations) (b : Tree ℕ block) → (reported_block p (block_without way b)).known ≡ (reported_block p b).known
+  block_known : (way : PathToBody) (p : KnownDeclarations) (b : Tree ℕ block) → (reported_block p (block_without way b)).known ≡ (reported_block p b).known
   block_known [] p (has_body (declares cs ts vs ps) a) =
       let q : KnownDeclarations = (reported_procedures (declared_so_far p cs ts vs) ps).known in
       body_known q none ∙ sym (body_known q a)
@@ -42,12 +42,12 @@ mutual
       let s : KnownDeclarations = declared_so_far p cs ts vs in
       body_known (reported_procedures s (procedures_without k way ps)).known a ∙ (procedures_known k way s ps ∙ sym (body_known (reported_procedures s ps).known a))
 
-  procedures_known : (k : ℕ) (way : WayToBody) (p : KnownDeclarations) (ps : Tree ℕ (items procedure)) → (reported_procedures p (procedures_without k way ps)).known ≡ (reported_procedures p ps).known
+  procedures_known : (k : ℕ) (way : PathToBody) (p : KnownDeclarations) (ps : Tree ℕ (items procedure)) → (reported_procedures p (procedures_without k way ps)).known ≡ (reported_procedures p ps).known
   procedures_known k way p end = refl
   procedures_known zero way p (more d rest) = ap (λ q. (reported_procedures q rest).known) (procedure_known way p d)
   procedures_known (suc k) way p (more d rest) = procedures_known k way (reported_procedure p d).known rest
 
-  procedure_known : (way : WayToBody) (p : KnownDeclarations) (d : Tree ℕ (item procedure)) → (reported_procedure p (procedure_without way d)).known ≡ (reported_procedure p d).known
+  procedure_known : (way : PathToBody) (p : KnownDeclarations) (d : Tree ℕ (item procedure)) → (reported_procedure p (procedure_without way d)).known ≡ (reported_procedure p d).known
   procedure_known way p (declares_procedure x fs b closing) = block_known way (heading_known p x fs) b
 
 -- ---- one step after another
@@ -124,7 +124,7 @@ procedures_none p cs ts vs ps a h =
     none-reported t₄.faults t₅.faults a₃.1
 
 -- The state after all procedures is the same if the statements of one body are left out.
-known_after : (k : ℕ) (way : WayToBody) (w : WalkProgress) (ps : Tree ℕ (items procedure)) → (reported_procedures w.so_far (procedures_without k way ps)).known ≡ (reported_procedures_with every_body w ps).known.so_far
+known_after : (k : ℕ) (way : PathToBody) (w : WalkProgress) (ps : Tree ℕ (items procedure)) → (reported_procedures w.so_far (procedures_without k way ps)).known ≡ (reported_procedures_with every_body w ps).known.so_far
 known_after k way w ps = procedures_known k way w.so_far ps ∙ sym (ap (λ (t : Reported KnownDeclarations). t.known) (procedures_forget w ps))
 
 module _ (wanted : ℕ → Bool) where
@@ -153,7 +153,7 @@ module _ (wanted : ℕ → Bool) where
   mutual
     unfolding reported_block_with reported_block
 
-    block_but : (way : WayToBody) (own : ℕ) (w : WalkProgress) (b : Tree ℕ block) → (reported_block w.so_far (block_without way b)).faults ≡ [] → wanted (closing_name_in_block way own b) ≡ true → reported_block_with wanted own w b ≡ reported_block_with every_body own w b
+    block_but : (way : PathToBody) (own : ℕ) (w : WalkProgress) (b : Tree ℕ block) → (reported_block w.so_far (block_without way b)).faults ≡ [] → wanted (closing_name_in_block way own b) ≡ true → reported_block_with wanted own w b ≡ reported_block_with every_body own w b
     block_but [] own w (has_body (declares cs ts vs ps) a) h e =
         let v : WalkProgress = further w (declared_so_far w.so_far cs ts vs) in
         block_all own w cs ts vs ps a (procedures_all v ps (procedures_none w.so_far cs ts vs ps none h).0) (ap (λ b. report_body_if b own (reported_procedures_with every_body v ps).known a) e)
@@ -164,7 +164,7 @@ module _ (wanted : ℕ → Bool) where
         let nothing : (reported_body last.so_far a).faults ≡ [] = subst (λ q. (reported_body q a).faults ≡ []) (known_after k way v ps) parts.1 in
         block_all own w cs ts vs ps a (procedures_but k way own v ps parts.0 e) (body_nothing (wanted own) own last a nothing ∙ sym (body_nothing true own last a nothing))
 
-    procedures_but : (k : ℕ) (way : WayToBody) (own : ℕ) (w : WalkProgress) (ps : Tree ℕ (items procedure)) → (reported_procedures w.so_far (procedures_without k way ps)).faults ≡ [] → wanted (closing_name_in_procedures k way own ps) ≡ true → reported_procedures_with wanted w ps ≡ reported_procedures_with every_body w ps
+    procedures_but : (k : ℕ) (way : PathToBody) (own : ℕ) (w : WalkProgress) (ps : Tree ℕ (items procedure)) → (reported_procedures w.so_far (procedures_without k way ps)).faults ≡ [] → wanted (closing_name_in_procedures k way own ps) ≡ true → reported_procedures_with wanted w ps ≡ reported_procedures_with every_body w ps
     procedures_but k way own w end h e = refl
     procedures_but zero way own w (more d rest) h e =
         let t : Reported KnownDeclarations = reported_procedure w.so_far (procedure_without way d) in
@@ -180,7 +180,7 @@ module _ (wanted : ℕ → Bool) where
         ∙ (procedures_but k way own (further w t.known) rest a.1 e
         ∙ sym (known_then (reported_procedure_with every_body w d) (further w t.known) (λ u. reported_procedures_with every_body u rest) (procedure_nothing every_body w d a.0)))
 
-    procedure_but : (way : WayToBody) (w : WalkProgress) (d : Tree ℕ (item procedure)) → (reported_procedure w.so_far (procedure_without way d)).faults ≡ [] → wanted (closing_name_in_procedure way d) ≡ true → reported_procedure_with wanted w d ≡ reported_procedure_with every_body w d
+    procedure_but : (way : PathToBody) (w : WalkProgress) (d : Tree ℕ (item procedure)) → (reported_procedure w.so_far (procedure_without way d)).faults ≡ [] → wanted (closing_name_in_procedure way d) ≡ true → reported_procedure_with wanted w d ≡ reported_procedure_with every_body w d
     procedure_but way w (declares_procedure x fs b closing) h e =
         let t = reported_sections (record { formals = []; following = w.so_far }) (formal_sections fs) in
         let q : KnownDeclarations = heading_known w.so_far x fs in
@@ -193,7 +193,7 @@ among_itself closing = ap (λ b. b || false) (eq-eqb closing closing refl)
 
 -- If a module fits without the statements of one body, walking only that body reports the same as walking all.
 pub new_body_reported : (r : Resolution) (closing : ℕ) → IsResolution r → FitsWithout r closing → reported_module_with (is_among (closing ∷ [])) r ≡ reported_module_with every_body r
-unfolding fits_over
+unfolding passes_type_check
 new_body_reported r closing is f =
     let b : Tree ℕ block = module_block (tree_of r.module_read) in
     let wanted : ℕ → Bool = is_among (closing ∷ []) in

@@ -10,8 +10,8 @@ use Rattle.ob0_types_check.specs.ModuleLaws.{DeclarationsKnown, HasDeclarations,
 use Rattle.ob0_types_check.specs.Known.{Reported}
 use Rattle.ob0_types_check.specs.Operations.{ReportsAfter}
 use Rattle.ob0_types_check.specs.KnownDeclarations.{KnownDeclarations}
-use Rattle.ob0_types_check.specs.SomeBodies.{HasWalked, WalkProgress, every_body, reported_module_with, walked_in}
-use Rattle.ob0_types_check.specs.CheckerFacts.{declarations_in_state, table_in}
+use Rattle.ob0_types_check.specs.SomeBodies.{IsFinishedWalk, WalkProgress, every_body, reported_module_with, walked_in}
+use Rattle.ob0_types_check.specs.CheckerViews.{declarations_in_state, table_in}
 use Rattle.ob0_types_check.specs.declared.reporting.checker_state.CheckerState.{CheckerState}
 use Rattle.ob0_types_check.proofs.Listed.{nothing_left}
 use Rattle.ob0_types_check.proofs.TableKnown.{table_declares, table_in_order}
@@ -26,7 +26,7 @@ pub is_something : (xs : List Fault) (n : ℕ) (b : Bool) → n ≡ length xs �
 is_something xs n b long e h none = true≢false (sym (eq-eqb n 0 (long ∙ ap length none)) ∙ (sym e ∙ h))
 
 -- A walk over some bodies ends with the faults of the module if it reports the same as the walk over all bodies.
-pub walked : (r : Resolution) (before after : List Fault) (s : CheckerState) (faulty : List ℕ) (t : Reported WalkProgress) → before ≡ filter is_undeclared_fault r.faults → reported_module_with every_body r ≡ t → ReportsAfter before after (walked_in s faulty) t → HasWalked r after s faulty
+pub walked : (r : Resolution) (before after : List Fault) (s : CheckerState) (faulty : List ℕ) (t : Reported WalkProgress) → before ≡ filter is_undeclared_fault r.faults → reported_module_with every_body r ≡ t → ReportsAfter before after (walked_in s faulty) t → IsFinishedWalk r after s faulty
 walked r before after s faulty t first is reported =
     let all = sym (module_forgets r) in
     record {
@@ -35,7 +35,7 @@ walked r before after s faulty t first is reported =
       faulty_are = ap (λ (w : WalkProgress). w.faulty) (reported.known ∙ ap (λ (x : Reported WalkProgress). x.known) (sym is));
     }
 
-module _ (r : Resolution) (after : List Fault) (s : CheckerState) (faulty : List ℕ) (w : HasWalked r after s faulty) (law : DeclarationsKnown) (is : IsResolution r) (none : after ≡ []) where
+module _ (r : Resolution) (after : List Fault) (s : CheckerState) (faulty : List ℕ) (w : IsFinishedWalk r after s faulty) (law : DeclarationsKnown) (is : IsResolution r) (none : after ≡ []) where
   pub nothing : reported_module r ≡ []
   nothing = sym w.faults ∙ none
 

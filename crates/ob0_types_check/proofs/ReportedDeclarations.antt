@@ -18,7 +18,7 @@ use Rattle.ob0_types_check.specs.Known.{Meaning, a_constant, a_type, a_variable}
 use Rattle.ob0_types_check.specs.Operations.{without_fault, ◌>>=◌}
 use Rattle.ob0_types_check.specs.KnownDeclarations.{KnownDeclarations, state_at_start, define, define_all, facts_at}
 use Rattle.ob0_types_check.specs.StatementFaults.{reported_sequence}
-use Rattle.ob0_types_check.specs.CheckerFacts.{formal_of}
+use Rattle.ob0_types_check.specs.CheckerViews.{formal_of}
 use Rattle.ob0_types_check.specs.TypeFaults.{reported_constant}
 use Rattle.ob0_types_check.specs.WrittenTypeFaults.{reported_type}
 use Rattle.ob0_types_check.proofs.Chains.{IsChain}

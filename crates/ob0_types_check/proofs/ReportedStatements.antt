@@ -15,7 +15,7 @@ use Rattle.ob0_types_check.specs.ExpressionFaults.{reported_expression, reported
 use Rattle.ob0_types_check.specs.Known.{Facts, KnownFormal, a_procedure}
 use Rattle.ob0_types_check.specs.Operations.{typed_name_operand, required_type, fault_at_token, ◌>>=◌}
 use Rattle.ob0_types_check.specs.StatementFaults.{target_name_type, reported_call_by_meaning, required_of_argument, reported_argument, reported_arguments, reported_required, reported_assignment, reported_call, reported_condition, reported_else, reported_elsifs, reported_untyped_arguments, reported_sequence, reported_statement, reported_statements, reported_target}
-use Rattle.ob0_types_check.specs.CheckerFacts.{formal_of}
+use Rattle.ob0_types_check.specs.CheckerViews.{formal_of}
 use Rattle.ob0_types_check.proofs.Listed.{IsEach, IsPairwise}
 
 further_listed : (es : List Expression) → further_arguments (items_of further_argument_of es) ≡ map expression_of es

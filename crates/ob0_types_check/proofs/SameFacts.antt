@@ -16,7 +16,7 @@ use Rattle.ob0_types_check.specs.declared.reporting.checker_state.Meaning.{Meani
 use Rattle.ob0_types_check.specs.declared.reporting.checker_state.CheckerState.{CheckerState}
 use Rattle.ob0_types_check.specs.Known.{a_record, an_array}
 use Rattle.ob0_types_check.specs.KnownDeclarations.{made_element_type, facts_at, made_field_type, type_of_first_field, form_at, same_type}
-use Rattle.ob0_types_check.specs.CheckerFacts.{entry_element_type, facts_in, entry_field_type, fields_in, form_in, composite_type_of, known_meaning, declarations_in_state}
+use Rattle.ob0_types_check.specs.CheckerViews.{entry_element_type, facts_in, entry_field_type, fields_in, form_in, composite_type_of, known_meaning, declarations_in_state}
 
 elements_same : (o : Option TypeEntry) → entry_element_type o ≡ made_element_type (option_map composite_type_of o)
 elements_same None = refl

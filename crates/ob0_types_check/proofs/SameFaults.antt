@@ -25,7 +25,7 @@ use Rattle.ob0_scope_table.proofs.FaultTokens.{both_same, none_same, one_same}
 use Rattle.ob0_types_table.specs.Operators.{product_value, sum_value}
 use Rattle.ob0_types_check.specs.ExpressionFaults.{reported_addends, reported_expression, reported_factor, reported_multipliers, reported_selectors, reported_simple, reported_term}
 use Rattle.ob0_types_check.specs.Known.{Facts, Form, KnownFormal, Meaning, Operand, Reported, Types, a_constant, a_procedure, a_record, a_scalar, a_type, a_variable, an_array, unknown_form}
-use Rattle.ob0_types_check.specs.Operations.{constant_name_operand, typed_name_operand, number_operand, add_operands, signed_operand, fault_at_tokens, comparison_type, complement_operand, element_type_in_form, element_operand, operand_in_parentheses, field_type_in_form, field_operand, fits, found_field_type, joint_operand, multiply_operands, name_operand, operand_by_meaning, part_of, relate_operands, required_type, required_type_of_both, add_operand_type, multiply_operand_type, relation_operand_type, without_fault, sign_operand, token_after, token_before, ◌>>=◌}
+use Rattle.ob0_types_check.specs.Operations.{constant_name_operand, typed_name_operand, number_operand, add_operands, signed_operand, fault_at_tokens, comparison_type, complement_operand, element_type_in_form, element_operand, operand_in_parentheses, field_type_in_form, field_operand, fits, found_field_type, joint_operand, multiply_operands, name_operand, operand_by_meaning, extended_operand, relate_operands, required_type, required_type_of_both, add_operand_type, multiply_operand_type, relation_operand_type, without_fault, sign_operand, token_after, token_before, ◌>>=◌}
 use Rattle.ob0_types_check.specs.StatementFaults.{reported_call_by_meaning, required_of_argument, reported_argument, reported_arguments, reported_assignment, reported_call, reported_else, reported_elsifs, reported_untyped_arguments, reported_required, reported_sequence, reported_statement, reported_statements, reported_target, target_type_by_meaning, target_name_type}
 use Rattle.ob0_types_check.specs.TypeFaults.{length_or_fault, length_by_value, length_of, operand_value, reported_constant, type_by_meaning, type_named_at, valued}
 
@@ -167,7 +167,7 @@ module _ (old new : TextWithTokens) (os ns : List (Option ℕ)) (P : ℕ → Typ
     field_same token h (an_array t) = faulty types.unknown code.NotRecord (token_before token) (token_before token)
 
     field_after : (o : Operand T) (token : ℕ) → P token → Eq (field_operand fo o token) (field_operand fn o token)
-    field_after o token h = gives old new (λ t. part_of o t token) (field_same token h (types.form o.of))
+    field_after o token h = gives old new (λ t. extended_operand o t token) (field_same token h (types.form o.of))
 
     element_same : (i : Operand T) (of : T) (form : Form T) → Eq (element_type_in_form fo i of form) (element_type_in_form fn i of form)
     element_same i of (an_array t) = equal old new (if types.same of types.integer then t else types.unknown)
@@ -177,10 +177,10 @@ module _ (old new : TextWithTokens) (os ns : List (Option ℕ)) (P : ℕ → Typ
 
     element_after : (o i : Operand T) → Eq (element_operand fo o i) (element_operand fn o i)
     element_after o i =
-        goes_on old new (λ n. element_type_in_form fo i n (types.form o.of) >>= (λ t. without_fault (part_of o t (token_after old i.last)))) (λ n. element_type_in_form fn i n (types.form o.of) >>= (λ t. without_fault (part_of o t (token_after new i.last)))) (required_same types.integer i)
+        goes_on old new (λ n. element_type_in_form fo i n (types.form o.of) >>= (λ t. without_fault (extended_operand o t (token_after old i.last)))) (λ n. element_type_in_form fn i n (types.form o.of) >>= (λ t. without_fault (extended_operand o t (token_after new i.last)))) (required_same types.integer i)
         (λ n.
-        goes_on old new (λ t. without_fault (part_of o t (token_after old i.last))) (λ t. without_fault (part_of o t (token_after new i.last))) (element_same i n (types.form o.of))
-        (λ t. record { value = part_of o t (token_after old i.last); before = refl; after = ap (part_of o t) (after_same i.last); faults = none_same old new }))
+        goes_on old new (λ t. without_fault (extended_operand o t (token_after old i.last))) (λ t. without_fault (extended_operand o t (token_after new i.last))) (element_same i n (types.form o.of))
+        (λ t. record { value = extended_operand o t (token_after old i.last); before = refl; after = ap (extended_operand o t) (after_same i.last); faults = none_same old new }))
 
     -- ---- expressions
 

@@ -25,7 +25,7 @@ use Rattle.ob0_types_table.specs.declared.types.TypeId.TheVariants as type
 use Rattle.ob0_language_values.specs.Values.{FieldShapes, Shape, array_shape, boolean_shape, integer_shape, next_field_shape, no_field_shape, record_shape}
 use Rattle.ob0_types_check.specs.Agreement.{DeclarationAgrees, EntriesAgree, FieldsAgree, FormalsAgree, CompositeAgrees, MeaningAgrees, as_array, as_record, is_standard_procedure, shape_in}
 use Rattle.ob0_types_check.specs.ModuleLaws.{KnowsDeclarations}
-use Rattle.ob0_types_check.specs.CheckerFacts.{fields_in, formal_of, composite_type_of, known_meaning, table_object, declarations_in_state, table_in, with_standard_procedures}
+use Rattle.ob0_types_check.specs.CheckerViews.{fields_in, formal_of, composite_type_of, known_meaning, table_object, declarations_in_state, table_in, with_standard_procedures}
 use Rattle.ob0_types_check.specs.declared.reporting.checker_state.Meaning.{Meaning}
 use Rattle.ob0_types_check.specs.declared.reporting.checker_state.Meaning.TheVariants as declared
 use Rattle.ob0_types_check.specs.declared.reporting.checker_state.CheckerState.{CheckerState}

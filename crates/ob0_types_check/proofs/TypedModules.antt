@@ -7,9 +7,9 @@ use Rattle.ob0_tree.specs.Tree.{Tree, block, body, declares, declares_procedure,
 use Rattle.ob0_language_names.specs.Names.{Name, naming_by_spelling}
 use Rattle.ob0_language_names.specs.Parts.{formal_names, formal_sections, module_block, procedure_formals, procedure_name, section_constants, section_types, section_variables}
 use Rattle.ob0_language_names.specs.Scopes.{Scope, ordinal_after_names, ordinal_after_procedure, first_procedure_ordinal, first_type_ordinal, first_variable_ordinal, predeclared_scope}
-use Rattle.ob0_language_types.specs.Declarations.{constructor_after_types, constructor_after_variables, declare_constants, declare_first, declare_types, formals_constructor_count, procedure_constructor_count, types_constructor_count}
+use Rattle.ob0_language_types.specs.Declarations.{constructors_before_variables, constructor_after_variables, declare_constants, declare_first, declare_types, formals_constructor_count, procedure_constructor_count, types_constructor_count}
 use Rattle.ob0_language_types.specs.Environments.{outermost}
-use Rattle.ob0_language_types.specs.WellTyped.{TypeEnvironment, TypedParameter, bind_typed_parameters, block_fits, declare_typed, fits_over, bind_procedure, some_satisfies, procedure_fits, procedures_fit, typed_parameters}
+use Rattle.ob0_language_types.specs.WellTyped.{TypeEnvironment, TypedParameter, bind_typed_parameters, block_fits, declare_typed, passes_type_check, bind_procedure, some_satisfies, procedure_fits, procedures_fit, typed_parameters}
 use Rattle.ob0_language_types.proofs.Conditions.{hold-true}
 use Rattle.ob0_language_values.specs.Values.{Shape}
 use Rattle.ob0_types_check.specs.DeclarationFaults.{reported_constants, reported_module, reported_block, reported_body, reported_procedure, reported_procedures, reported_sections, reported_types, reported_variables}
@@ -48,7 +48,7 @@ module _ (w : Numbering) (fit : PartsFit) (fine : PartsRight) where
         let t₂ : Reported KnownDeclarations = reported_types t₁.known (section_types ts) in
         let t₃ : Reported KnownDeclarations = reported_variables t₂.known (section_variables vs) in
         let t₄ : Reported KnownDeclarations = reported_procedures t₃.known ps in
-        let variables : TypeEnvironment Name → Option (TypeEnvironment Name) = declare_typed naming_by_spelling (constructor_after_types k nb) (section_variables (tree_with_names w.source vs)) in
+        let variables : TypeEnvironment Name → Option (TypeEnvironment Name) = declare_typed naming_by_spelling (constructors_before_variables k nb) (section_variables (tree_with_names w.source vs)) in
         let types : TypeEnvironment Name → Option (TypeEnvironment Name) = λ e. declare_types naming_by_spelling e k (section_types (tree_with_names w.source ts)) in
         let test : TypeEnvironment Name → Bool = λ inner. procedures_fit naming_by_spelling inner (constructor_after_variables k nb) (tree_with_names w.source statements) (tree_with_names w.source ps) in
         let (inner, whole, fitting) = hold-true (option_and_then variables (declare_first naming_by_spelling env k nb)) test h in
@@ -61,10 +61,10 @@ module _ (w : Numbering) (fit : PartsFit) (fine : PartsRight) where
         let none₂ = types_right w fit fine (section_types ts) k (first_type_ordinal n b) t₁.known dc.after (following_constants w scope n b) dc.env (omega (arith, fresh.counted, dc.apart.counted)) dc.holds placed.1 first (sym (ap (declare_types naming_by_spelling dc.env k) (types-mapped text value ts)) ∙ t_is) in
         let dt = types_declare w fit (section_types ts) k (first_type_ordinal n b) t₁.known dc.after (following_constants w scope n b) dc.env (omega (arith, fresh.counted, dc.apart.counted)) dc.holds placed.1 none₂ in
         let first_is : first ≡ dt.env = some-same first dt.env (sym t_is ∙ (ap (declare_types naming_by_spelling dc.env k) (types-mapped text value ts) ∙ dt.given_is)) in
-        let v_is : declare_typed naming_by_spelling (constructor_after_types k nb) (tree_with_names w.source (section_variables vs)) dt.env ≡ Some inner =
-        (λ i. declare_typed naming_by_spelling (constructor_after_types k nb) (sym (variables-mapped text value vs) i) (sym first_is i)) ∙ hv in
+        let v_is : declare_typed naming_by_spelling (constructors_before_variables k nb) (tree_with_names w.source (section_variables vs)) dt.env ≡ Some inner =
+        (λ i. declare_typed naming_by_spelling (constructors_before_variables k nb) (sym (variables-mapped text value vs) i) (sym first_is i)) ∙ hv in
         let t_same : types_constructor_count (section_types (tree_with_names w.source ts)) ≡ types_constructor_count (tree_with_names w.source (section_types ts)) = ap types_constructor_count (types-mapped text value ts) in
-        let none₃ = variables_right w fit fine (section_variables vs) (constructor_after_types k nb) (first_variable_ordinal n b) t₂.known dt.after (following_types w scope n b) dt.env (omega (arith, fresh.counted, dc.apart.counted, dt.apart.counted, t_same)) dt.holds placed.2 inner v_is in
+        let none₃ = variables_right w fit fine (section_variables vs) (constructors_before_variables k nb) (first_variable_ordinal n b) t₂.known dt.after (following_types w scope n b) dt.env (omega (arith, fresh.counted, dc.apart.counted, dt.apart.counted, t_same)) dt.holds placed.2 inner v_is in
         let d = declarations_reported w fit cs ts vs ps statements k n p before scope env fresh.counted st placed.0 placed.1 placed.2 none₁ none₂ none₃ in
         let rest = procedures_right ps statements (constructor_after_variables k nb) (first_procedure_ordinal n b) t₃.known d.after (following_variables w scope n b) d.env d.holds (fresh_after k (constructor_after_variables k nb) before d.after d.apart fresh) placed.3
         (held-again (option_and_then variables (declare_first naming_by_spelling env k nb)) test d.env d.given_is h) in
@@ -107,7 +107,7 @@ module _ (w : Numbering) (fit : PartsFit) (fine : PartsRight) where
         (fresh_after k first before e.after e.apart fresh) placed.2 inner)
 
 pub no_fault_in_modules-holds : NoFaultInModules
-unfolding reported_module fits_over
+unfolding reported_module passes_type_check
 no_fault_in_modules-holds r is h =
     let m = r.module_read in
     let names = names_bound-holds r is h in

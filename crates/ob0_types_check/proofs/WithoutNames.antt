@@ -10,7 +10,7 @@ use Rattle.ob0_language_names.specs.Parts.{constant_names, formal_names, formal_
 use Rattle.ob0_language_names.specs.Scopes.{Labelling, Scope, ordinal_after_block, ordinal_after_names, ordinal_after_procedure, ordinal_after_procedures, label_from_ordinal, declare_names, declare_procedure_names, first_procedure_ordinal, first_type_ordinal, first_variable_ordinal, numbered, predeclared_scope, procedures_scope, relabel_block, relabel_constant_section, relabel_formals, relabel_procedure, relabel_procedures, relabel_type_section, relabel_uses, relabel_variable_section, relabel_module, types_scope, variables_scope}
 use Rattle.ob0_language_names.proofs.OccurrencesMapped.{occurrences-mapped}
 use Rattle.ob0_language_types.proofs.Proved.{numbering_keeps_type_check-holds}
-use Rattle.ob0_scope_table.specs.BodyReplaced.{WayToBody, block_without, procedure_without, procedures_without, module_without_body}
+use Rattle.ob0_scope_table.specs.BodyReplaced.{PathToBody, block_without, procedure_without, procedures_without, module_without_body}
 use Rattle.ob0_scope_table.specs.Resolution.{IsResolution, Resolution, binding_at, is_unbound, label_at, ordinal_in, ordinal_and_spelling}
 use Rattle.ob0_scope_table.proofs.BodyReplaced.{without_mapped}
 use Rattle.ob0_types_check.specs.NewBody.{FitsWithout}
@@ -21,23 +21,23 @@ use Rattle.ob0_types_check.proofs.DeclaredNames.{BlockPlaced, Each, IsBound, Num
 -- ---- ordinals are unchanged
 
 mutual
-  pub ordinal_after_block-module_without_body : {N : Type 0} (way : WayToBody) (k : ℕ) (b : Tree N block) → ordinal_after_block k (block_without way b) ≡ ordinal_after_block k b
+  pub ordinal_after_block-module_without_body : {N : Type 0} (way : PathToBody) (k : ℕ) (b : Tree N block) → ordinal_after_block k (block_without way b) ≡ ordinal_after_block k b
   ordinal_after_block-module_without_body [] k (has_body (declares cs ts vs ps) a) = refl
   ordinal_after_block-module_without_body (j ∷ way) k (has_body (declares cs ts vs ps) a) =
       ordinal_after_procedures-module_without_body j way (ordinal_after_names (ordinal_after_names (ordinal_after_names k (constant_names (section_constants cs))) (declared_type_names (section_types ts))) (variable_names (section_variables vs))) ps
 
-  ordinal_after_procedures-module_without_body : {N : Type 0} (j : ℕ) (way : WayToBody) (k : ℕ) (ps : Tree N (items procedure)) → ordinal_after_procedures k (procedures_without j way ps) ≡ ordinal_after_procedures k ps
+  ordinal_after_procedures-module_without_body : {N : Type 0} (j : ℕ) (way : PathToBody) (k : ℕ) (ps : Tree N (items procedure)) → ordinal_after_procedures k (procedures_without j way ps) ≡ ordinal_after_procedures k ps
   ordinal_after_procedures-module_without_body j way k end = refl
   ordinal_after_procedures-module_without_body zero way k (more p rest) = ap (λ i. ordinal_after_procedures i rest) (ordinal_after_procedure-module_without_body way (suc k) p)
   ordinal_after_procedures-module_without_body (suc j) way k (more p rest) = ordinal_after_procedures-module_without_body j way (ordinal_after_procedure (suc k) p) rest
 
-  ordinal_after_procedure-module_without_body : {N : Type 0} (way : WayToBody) (k : ℕ) (p : Tree N (item procedure)) → ordinal_after_procedure k (procedure_without way p) ≡ ordinal_after_procedure k p
+  ordinal_after_procedure-module_without_body : {N : Type 0} (way : PathToBody) (k : ℕ) (p : Tree N (item procedure)) → ordinal_after_procedure k (procedure_without way p) ≡ ordinal_after_procedure k p
   ordinal_after_procedure-module_without_body way k (declares_procedure x fs b closing) = ordinal_after_block-module_without_body way (ordinal_after_names k (formal_names (formal_sections fs))) b
 
-pub procedure_name-module_without_body : {N : Type 0} (way : WayToBody) (p : Tree N (item procedure)) → procedure_name (procedure_without way p) ≡ procedure_name p
+pub procedure_name-module_without_body : {N : Type 0} (way : PathToBody) (p : Tree N (item procedure)) → procedure_name (procedure_without way p) ≡ procedure_name p
 procedure_name-module_without_body way (declares_procedure x fs b closing) = refl
 
-declared-module_without_body : {N : Type 0} (j : ℕ) (way : WayToBody) (k : ℕ) (ps : Tree N (items procedure)) (scope : Scope N) → declare_procedure_names k (procedures_without j way ps) scope ≡ declare_procedure_names k ps scope
+declared-module_without_body : {N : Type 0} (j : ℕ) (way : PathToBody) (k : ℕ) (ps : Tree N (items procedure)) (scope : Scope N) → declare_procedure_names k (procedures_without j way ps) scope ≡ declare_procedure_names k ps scope
 declared-module_without_body j way k end scope = refl
 declared-module_without_body zero way k (more p rest) scope = λ i. declare_procedure_names (ordinal_after_procedure-module_without_body way (suc k) p i) rest ((procedure_name-module_without_body way p i, k) ∷ scope)
 declared-module_without_body (suc j) way k (more p rest) scope = declared-module_without_body j way (ordinal_after_procedure (suc k) p) rest ((procedure_name p, k) ∷ scope)
@@ -46,7 +46,7 @@ declared-module_without_body (suc j) way k (more p rest) scope = declared-module
 
 module _ {N M : Type 0} (naming : Naming N) (label : Labelling N M) where
   mutual
-    relabel_block-module_without_body : (way : WayToBody) (scope : Scope N) (k : ℕ) (b : Tree N block) → relabel_block naming label scope k (block_without way b) ≡ block_without way (relabel_block naming label scope k b)
+    relabel_block-module_without_body : (way : PathToBody) (scope : Scope N) (k : ℕ) (b : Tree N block) → relabel_block naming label scope k (block_without way b) ≡ block_without way (relabel_block naming label scope k b)
     relabel_block-module_without_body [] scope k (has_body (declares cs ts vs ps) a) = refl
     relabel_block-module_without_body (j ∷ way) scope k (has_body (declares cs ts vs ps) a) =
         let b : Tree N block = has_body (declares cs ts vs ps) a in
@@ -56,18 +56,18 @@ module _ {N M : Type 0} (naming : Naming N) (label : Labelling N M) where
         (relabel_procedures-module_without_body j way (procedures_scope k b scope) (first_procedure_ordinal k b) ps i))
         (relabel_uses naming label (declared-module_without_body j way (first_procedure_ordinal k b) ps (procedures_scope k b scope) i) a)
 
-    relabel_procedures-module_without_body : (j : ℕ) (way : WayToBody) (scope : Scope N) (k : ℕ) (ps : Tree N (items procedure)) → relabel_procedures naming label scope k (procedures_without j way ps) ≡ procedures_without j way (relabel_procedures naming label scope k ps)
+    relabel_procedures-module_without_body : (j : ℕ) (way : PathToBody) (scope : Scope N) (k : ℕ) (ps : Tree N (items procedure)) → relabel_procedures naming label scope k (procedures_without j way ps) ≡ procedures_without j way (relabel_procedures naming label scope k ps)
     relabel_procedures-module_without_body j way scope k end = refl
     relabel_procedures-module_without_body zero way scope k (more p rest) =
         λ i. more (relabel_procedure-module_without_body way scope k p i) (relabel_procedures naming label ((procedure_name-module_without_body way p i, k) ∷ scope) (ordinal_after_procedure-module_without_body way (suc k) p i) rest)
     relabel_procedures-module_without_body (suc j) way scope k (more p rest) = ap (more (relabel_procedure naming label scope k p)) (relabel_procedures-module_without_body j way ((procedure_name p, k) ∷ scope) (ordinal_after_procedure (suc k) p) rest)
 
-    relabel_procedure-module_without_body : (way : WayToBody) (scope : Scope N) (k : ℕ) (p : Tree N (item procedure)) → relabel_procedure naming label scope k (procedure_without way p) ≡ procedure_without way (relabel_procedure naming label scope k p)
+    relabel_procedure-module_without_body : (way : PathToBody) (scope : Scope N) (k : ℕ) (p : Tree N (item procedure)) → relabel_procedure naming label scope k (procedure_without way p) ≡ procedure_without way (relabel_procedure naming label scope k p)
     relabel_procedure-module_without_body way scope k (declares_procedure x fs b closing) =
         ap (λ c. declares_procedure (label (Some k) x) (relabel_formals naming label scope (suc k) fs) c (label (Some k) closing))
         (relabel_block-module_without_body way (declare_names (suc k) (formal_names (formal_sections fs)) ((x, k) ∷ scope)) (ordinal_after_names (suc k) (formal_names (formal_sections fs))) b)
 
-  relabel_module-module_without_body : (way : WayToBody) (t : Tree N module_text) → relabel_module naming label (module_without_body way t) ≡ module_without_body way (relabel_module naming label t)
+  relabel_module-module_without_body : (way : PathToBody) (t : Tree N module_text) → relabel_module naming label (module_without_body way t) ≡ module_without_body way (relabel_module naming label t)
   relabel_module-module_without_body way (is_module x b closing) = ap (λ c. is_module (label None x) c (label None closing)) (relabel_block-module_without_body way (predeclared_scope naming) 7 b)
 
 -- ---- each remaining name is bound

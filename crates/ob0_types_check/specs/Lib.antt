@@ -6,7 +6,7 @@ pub mod TypeFaults
 pub mod KnownDeclarations
 pub mod WrittenTypeFaults
 pub mod DeclarationFaults
-pub mod CheckerFacts
+pub mod CheckerViews
 pub mod Agreement
 pub mod ReportLaws
 pub mod WellTypedLaws

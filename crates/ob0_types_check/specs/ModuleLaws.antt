@@ -8,9 +8,9 @@ use Rattle.ob0_language_names.specs.Scopes.{predeclared_count}
 use Rattle.ob0_scope_table.specs.Resolution.{IsResolution, Resolution}
 use Rattle.ob0_tree.specs.ParsedModule.{named_tree_of, tree_of}
 use Rattle.ob0_tree.specs.Tree.{Tree, module_text}
-use Rattle.ob0_language_types.specs.Bindings.{declared_object, bound_object}
+use Rattle.ob0_language_types.specs.Bindings.{declared_object, object_of_ordinal}
 use Rattle.ob0_language_types.specs.Environments.{outermost}
-use Rattle.ob0_language_types.specs.WellTyped.{fits_over}
+use Rattle.ob0_language_types.specs.WellTyped.{passes_type_check}
 use Rattle.ob0_types_table.specs.KnownTables.{Tables, declared_object_in}
 use Rattle.ob0_language_values.specs.Values.{Shape}
 use Rattle.ob0_types_check.specs.Agreement.{DeclarationAgrees, TableAgrees, is_standard_procedure, shape_in}
@@ -23,7 +23,7 @@ ModulesFit =
     (r : Resolution)
     → IsResolution r
     → reported_module r ≡ []
-    → fits_over naming_by_spelling (named_tree_of r.module_read) ≡ true
+    → passes_type_check naming_by_spelling (named_tree_of r.module_read) ≡ true
 
 -- States that the state after a module agrees with the module's declarations. The arrays and records of the state agree
 -- with `shapes`. The meaning at each ordinal agrees with the object of the declaration with this ordinal. The ordinals
@@ -34,7 +34,7 @@ pub record KnowsDeclarations (p : KnownDeclarations) (m : Tree Name module_text)
   pub declared : (k : ℕ)
       → DeclarationAgrees (shape_in shapes) (slice_index_or p.declared k None) (declared_object m k)
   pub standards : (k : ℕ) → predeclared_count ≤ k → is_standard_procedure (declared_object m k) ≡ false
-  pub predeclared : (k : ℕ) → k < predeclared_count → declared_object m k ≡ bound_object (outermost naming_by_label) k
+  pub predeclared : (k : ℕ) → k < predeclared_count → declared_object m k ≡ object_of_ordinal (outermost naming_by_label) k
   pub room : predeclared_count ≤ length p.declared
 
 -- states that a table has the object of each declaration of a module

@@ -2,8 +2,8 @@
 -- Rule: docs/LANGUAGE.md, Types 8; what is reported where one body was replaced.
 use Rattle.std.specs.Prelude.{◌≡◌, ℕ, true}
 use Rattle.ob0_language_names.specs.Names.{naming_by_spelling}
-use Rattle.ob0_language_types.specs.WellTyped.{fits_over}
-use Rattle.ob0_scope_table.specs.BodyReplaced.{WayToBody, closing_name_in_module, module_without_body}
+use Rattle.ob0_language_types.specs.WellTyped.{passes_type_check}
+use Rattle.ob0_scope_table.specs.BodyReplaced.{PathToBody, closing_name_in_module, module_without_body}
 use Rattle.ob0_scope_table.specs.Resolution.{Resolution}
 use Rattle.ob0_tree.specs.ParsedModule.{tree_of}
 use Rattle.ob0_tree.specs.Places.{tree_with_names}
@@ -11,7 +11,7 @@ use Rattle.ob0_tree.specs.Places.{tree_with_names}
 -- States that the module is well-typed if the statements of the block with this closing name are left out. Nothing is
 -- required of these statements.
 pub record FitsWithout (r : Resolution) (closing : ℕ) : Type 0 where
-  pub way : WayToBody
+  pub way : PathToBody
   pub at : closing_name_in_module way (tree_of r.module_read) ≡ closing
-  pub fits : fits_over naming_by_spelling (tree_with_names r.module_read.source (module_without_body way (tree_of r.module_read)))
+  pub fits : passes_type_check naming_by_spelling (tree_with_names r.module_read.source (module_without_body way (tree_of r.module_read)))
       ≡ true

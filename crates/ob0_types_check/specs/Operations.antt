@@ -252,8 +252,8 @@ name_operand facts token = operand_by_meaning facts token (facts.object_for toke
 
 -- returns the operand of a designator that extends the designator of `o` up to the token `last`, with the type `of` and
 -- no constant value
-abbrev pub part_of : {T : Type 0} → Operand T → T → ℕ → Operand T
-part_of o of last =
+abbrev pub extended_operand : {T : Type 0} → Operand T → T → ℕ → Operand T
+extended_operand o of last =
     record { of = of; value = None; is_place = o.is_place; first = o.first; last = last }
 
 -- returns the type of a record's field; for None, reports `NoField` at the field's name and returns
@@ -281,7 +281,7 @@ field_type_in_form facts token (an_array t) =
 abbrev pub field_operand : {T : Type 0} → Facts T → Operand T → ℕ → Reported (Operand T)
 field_operand facts o token = do
   t ← field_type_in_form facts token (facts.types.form o.of)
-  without_fault (part_of o t token)
+  without_fault (extended_operand o t token)
 
 -- Returns the type of an element, given the index's operand `i`, the index's type `of`, and the form of the indexed
 -- type. The result is the unknown type if the index isn't INTEGER. If the indexed type is known and not an array,
@@ -303,4 +303,4 @@ abbrev pub element_operand : {T : Type 0} → Facts T → Operand T → Operand 
 element_operand facts o i = do
   n ← required_type facts facts.types.integer i
   t ← element_type_in_form facts i n (facts.types.form o.of)
-  without_fault (part_of o t (token_after facts.source i.last))
+  without_fault (extended_operand o t (token_after facts.source i.last))

@@ -14,7 +14,7 @@ use Rattle.ob0_types_check.specs.Known.{Reported}
 use Rattle.ob0_types_check.specs.ModuleLaws.{HasDeclarations}
 use Rattle.ob0_types_check.specs.Operations.{without_fault, ◌>>=◌}
 use Rattle.ob0_types_check.specs.KnownDeclarations.{KnownDeclarations, state_at_start}
-use Rattle.ob0_types_check.specs.CheckerFacts.{declarations_in_state}
+use Rattle.ob0_types_check.specs.CheckerViews.{declarations_in_state}
 use Rattle.ob0_types_check.specs.declared.reporting.Report.{Report}
 use Rattle.ob0_types_check.specs.declared.reporting.BodiesToWalk.{BodiesToWalk}
 use Rattle.ob0_types_check.specs.declared.reporting.checker_state.CheckerState.{CheckerState}
@@ -132,7 +132,7 @@ walked_in s faulty = record { so_far = declarations_in_state s; faulty = faulty 
 
 -- states that a walk has ended with the faults of the module `r`, the state after the module, and the bodies with
 -- faults
-pub record HasWalked
+pub record IsFinishedWalk
     (r : Resolution) (found : List Fault) (s : CheckerState) (faulty : List ℕ) : Type 0 where
   pub faults : found ≡ reported_module r
   pub known : declarations_in_state s ≡ (reported_block (state_at_start r) (module_block (tree_of r.module_read))).known

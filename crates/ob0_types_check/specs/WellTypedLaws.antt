@@ -9,7 +9,7 @@ use Rattle.ob0_tree.specs.ParsedModule.{named_tree_of}
 use Rattle.ob0_tree.specs.Places.{value_at}
 use Rattle.ob0_tree.specs.Tree.{Tree, designator, expression, items, mapped, selector, sequence}
 use Rattle.ob0_language_types.specs.Typing.{array_length, constant_value, type_of}
-use Rattle.ob0_language_types.specs.WellTyped.{TypeMeanings, fits_over, sequence_fits, variable_type}
+use Rattle.ob0_language_types.specs.WellTyped.{TypeMeanings, passes_type_check, sequence_fits, variable_type}
 use Rattle.ob0_language_values.specs.Values.{Shape, array_shape, boolean_shape, integer_shape, record_shape}
 use Rattle.ob0_types_check.specs.DeclarationFaults.{reported_module}
 use Rattle.ob0_types_check.specs.ExpressionFaults.{reported_expression}
@@ -86,7 +86,7 @@ abbrev pub NamesBound : Type 0
 NamesBound =
     (r : Resolution)
     → IsResolution r
-    → fits_over naming_by_spelling (named_tree_of r.module_read) ≡ true
+    → passes_type_check naming_by_spelling (named_tree_of r.module_read) ≡ true
     → filter is_undeclared_fault r.faults ≡ []
 
 -- States that no undeclared name and no fault of types is reported for a well-typed module.
@@ -94,5 +94,5 @@ abbrev pub NoFaultInModules : Type 0
 NoFaultInModules =
     (r : Resolution)
     → IsResolution r
-    → fits_over naming_by_spelling (named_tree_of r.module_read) ≡ true
+    → passes_type_check naming_by_spelling (named_tree_of r.module_read) ≡ true
     → reported_module r ≡ []

@@ -70,8 +70,8 @@ ghost use Rattle.ob0_scope_table.specs.Resolution.{is_undeclared_fault};
 ghost use Rattle.ob0_types_table.specs.Tables.{AreEntriesInOrder};
 ghost use Rattle.ob0_types_check.specs.NewBody.{FitsWithout};
 ghost use Rattle.ob0_types_check.specs.KnownDeclarations.{state_at_start};
-ghost use Rattle.ob0_types_check.specs.SomeBodies.{HasWalked, IsReportOf, IncludesFaultyBodies, every_body, is_among, reported_module_with, includes_body};
-ghost use Rattle.ob0_types_check.specs.CheckerFacts.{known_meaning, declarations_in_state, table_in};
+ghost use Rattle.ob0_types_check.specs.SomeBodies.{IsFinishedWalk, IsReportOf, IncludesFaultyBodies, every_body, is_among, reported_module_with, includes_body};
+ghost use Rattle.ob0_types_check.specs.CheckerViews.{known_meaning, declarations_in_state, table_in};
 
 use crate::laws::{declarations_known, some_bodies_suffice};
 use crate::reporting::checker_state::{CheckerState, Meaning, predeclared_meanings};
@@ -238,7 +238,7 @@ impl<'t> Reporter<'t> {
         resolved: &'t Resolved<'t>,
         faulty: Vec<usize>,
     ) -> Result<Report, AllocError>
-        requires { HasWalked resolved.now self.faults.items self.checker_state faulty.items }
+        requires { IsFinishedWalk resolved.now self.faults.items self.checker_state faulty.items }
         ensures { IfOk result (IsReportOf resolved.now) }
     {
         declarations_known();

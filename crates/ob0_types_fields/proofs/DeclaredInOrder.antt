@@ -7,9 +7,9 @@ use Rattle.ob0_language_names.specs.Parts.{block_constants, block_types, block_v
 use Rattle.ob0_language_names.specs.Scopes.{Scope, ordinal_after_names, label_from_ordinal, declare_names, first_procedure_ordinal, first_type_ordinal, first_variable_ordinal, label_names, relabel_block, relabel_constants, relabel_names, relabel_types, relabel_uses, relabel_variables, types_scope, variables_scope}
 use Rattle.ob0_language_names.proofs.Ordinals.{ordinal_after_names-append}
 use Rattle.ob0_language_names.proofs.Relabelled.{constants-section, names-relabel, types-section, variables-section}
-use Rattle.ob0_language_types.specs.Bindings.{bound_object}
+use Rattle.ob0_language_types.specs.Bindings.{object_of_ordinal}
 use Rattle.ob0_language_types.specs.Declaring.{declare_block}
-use Rattle.ob0_language_types.specs.Declarations.{constructor_after_types, declare_constants, declare_first, declare_types}
+use Rattle.ob0_language_types.specs.Declarations.{constructors_before_variables, declare_constants, declare_first, declare_types}
 use Rattle.ob0_language_types.specs.Environments.{environment_from_binding, meanings}
 use Rattle.ob0_language_types.specs.Expressions.{Object, a_constant, a_type, a_variable}
 use Rattle.ob0_language_types.specs.Typing.{constant_value, constructor_count, denoted}
@@ -125,12 +125,12 @@ block_grows scope j k (has_body (declares cs ts vs ps) statements) env inner h =
     let b' : Tree Label block = relabel_block naming_by_spelling (label_from_ordinal naming_by_spelling) scope k b in
     let kt : ℕ = first_type_ordinal k b in
     let kv : ℕ = first_variable_ordinal k b in
-    let two = then_some (declare_first naming_by_label env j b') (declare_typed naming_by_label (constructor_after_types j b') (block_variables b')) inner h in
+    let two = then_some (declare_first naming_by_label env j b') (declare_typed naming_by_label (constructors_before_variables j b') (block_variables b')) inner h in
     let one = firsts env j b' two.0 two.1 in
     let c = constants_grow scope k (section_constants cs) env one.0 (ap (declare_constants naming_by_label env) (sym (constants-section naming_by_spelling (label_from_ordinal naming_by_spelling) scope k cs)) ∙ one.1) in
     let t = types_grow (types_scope k b scope) j kt (section_types ts) one.0 two.0 (ap (declare_types naming_by_label one.0 j) (sym (types-section naming_by_spelling (label_from_ordinal naming_by_spelling) (types_scope k b scope) kt ts)) ∙ one.2) in
-    let v = variables_grow (variables_scope k b scope) (constructor_after_types j b') kv (section_variables vs) two.0 inner
-    (ap (λ gs. declare_typed naming_by_label (constructor_after_types j b') gs two.0) (sym (variables-section naming_by_spelling (label_from_ordinal naming_by_spelling) (variables_scope k b scope) kv vs)) ∙ two.2) in
+    let v = variables_grow (variables_scope k b scope) (constructors_before_variables j b') kv (section_variables vs) two.0 inner
+    (ap (λ gs. declare_typed naming_by_label (constructors_before_variables j b') gs two.0) (sym (variables-section naming_by_spelling (label_from_ordinal naming_by_spelling) (variables_scope k b scope) kv vs)) ∙ two.2) in
     grown_then k kt (first_procedure_ordinal k b) env one.0 inner c (grown_then kt kv (first_procedure_ordinal k b) one.0 two.0 inner t v)
 
 -- returns the object of a label, given the objects of ordinals
@@ -159,11 +159,11 @@ right_older now before n (b ∷ env) (i, e, less, d) same h = (
 )
 
 -- If each ordinal is bound once, each binding has the object of its ordinal.
-pub bound_right : (n : ℕ) (env : TypeEnvironment Label) → Descends n env 0 → Right (bound_object env) env
+pub bound_right : (n : ℕ) (env : TypeEnvironment Label) → Descends n env 0 → Right (object_of_ordinal env) env
 bound_right n [] d = tt
 bound_right n ((x, o) ∷ env) (i, e, less, d) =
-    let choice : (d' : ℕ) → bound_object ((x, o) ∷ env) d' ≡ cond (same_label (declared d') x) (Some o) (bound_object env d') = λ d'. newest_object-if (same_label (declared d') x) x o env (environment_from_binding naming_by_label env (declared d')) in (
-      ap (at_label (bound_object ((x, o) ∷ env))) e ∙ choice i ∙ ap (λ t. cond t (Some o) (bound_object env i)) (ap (same_label (declared i)) e ∙ eq-eqb i i refl),
-      right_older (bound_object ((x, o) ∷ env)) (bound_object env) i env d
-          (λ d' below. choice d' ∙ ap (λ t. cond t (Some o) (bound_object env d')) (ap (same_label (declared d')) e ∙ ne_eqb d' i (λ same. omega (arith, same, below)))) (bound_right i env d),
+    let choice : (d' : ℕ) → object_of_ordinal ((x, o) ∷ env) d' ≡ cond (same_label (declared d') x) (Some o) (object_of_ordinal env d') = λ d'. newest_object-if (same_label (declared d') x) x o env (environment_from_binding naming_by_label env (declared d')) in (
+      ap (at_label (object_of_ordinal ((x, o) ∷ env))) e ∙ choice i ∙ ap (λ t. cond t (Some o) (object_of_ordinal env i)) (ap (same_label (declared i)) e ∙ eq-eqb i i refl),
+      right_older (object_of_ordinal ((x, o) ∷ env)) (object_of_ordinal env) i env d
+          (λ d' below. choice d' ∙ ap (λ t. cond t (Some o) (object_of_ordinal env d')) (ap (same_label (declared d')) e ∙ ne_eqb d' i (λ same. omega (arith, same, below)))) (bound_right i env d),
     )

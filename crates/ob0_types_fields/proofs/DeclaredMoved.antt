@@ -4,11 +4,11 @@ use Rattle.std.proofs.Common.{◌≡◌, ℕ, zero, suc, ◌+◌, List, [], ◌�
 use Rattle.std.specs.List.{AllByRecursion}
 use Rattle.ob0_tree.specs.Tree.{Tree, array_type, block, declares, declares_procedure, declares_type, declares_variable, end, fields, further_fields, further_name, further_section, has_body, is_module, item, items, listed, mapped, module_text, more, named_type, names, no_fields, procedure, record_type, section, some_fields, then_fields, then_name, then_section, type_name, value_section, variable, variable_section, written_type}
 use Rattle.ob0_language_names.specs.Parts.{formal_sections, further_names, module_block, names_in_list, section_type, section_types, section_variables}
-use Rattle.ob0_language_types.specs.Declarations.{constructor_after_formals, constructor_after_types, constructor_after_variables, procedure_constructor_count}
+use Rattle.ob0_language_types.specs.Declarations.{constructor_after_formals, constructors_before_variables, constructor_after_variables, procedure_constructor_count}
 use Rattle.ob0_language_types.specs.Expressions.{Meanings}
 use Rattle.ob0_language_types.specs.Typing.{constructor_count, group_constructor_count}
 use Rattle.ob0_language_values.specs.Values.{Shape}
-use Rattle.ob0_scope_table.specs.BodyReplaced.{WayToBody, block_without, procedure_without, procedures_without, module_without_body}
+use Rattle.ob0_scope_table.specs.BodyReplaced.{PathToBody, block_without, procedure_without, procedures_without, module_without_body}
 use Rattle.ob0_types_fields.specs.declared.field_name.FieldName.{FieldName}
 use Rattle.ob0_types_fields.specs.Identifiers.{declared_in_block, declared_in_procedure, declared_in_procedures}
 use Rattle.ob0_types_fields.specs.Owned.{fields_with_owners, fields_in_block, fields_in_group, fields_in_groups, fields_in_module, fields_at_tokens, fields_in_procedure, fields_in_procedures, fields_in_sections, fields_in_tree, fields_in_type, fields_in_types, fields_in_variables}
@@ -19,23 +19,23 @@ use Rattle.ob0_types_fields.proofs.OwnedTypes.{counted_formals_section, counted_
 -- ---- without some statements
 
 mutual
-  block_declares : (way : WayToBody) (k : ℕ) (b : Tree ℕ block) → declared_in_block k (block_without way b) ≡ declared_in_block k b
+  block_declares : (way : PathToBody) (k : ℕ) (b : Tree ℕ block) → declared_in_block k (block_without way b) ≡ declared_in_block k b
   block_declares [] k (has_body (declares cs ts vs ps) statements) = refl
   block_declares (j ∷ way) k (has_body (declares cs ts vs ps) statements) =
-      ap (λ l. fields_in_types k (section_types ts) ++ (fields_in_variables (constructor_after_types k (has_body (declares cs ts vs ps) statements)) (section_variables vs) ++ l))
+      ap (λ l. fields_in_types k (section_types ts) ++ (fields_in_variables (constructors_before_variables k (has_body (declares cs ts vs ps) statements)) (section_variables vs) ++ l))
       (procedures_declare j way (constructor_after_variables k (has_body (declares cs ts vs ps) statements)) ps)
 
-  procedures_declare : (j : ℕ) (way : WayToBody) (k : ℕ) (ps : Tree ℕ (items procedure)) → declared_in_procedures k (procedures_without j way ps) ≡ declared_in_procedures k ps
+  procedures_declare : (j : ℕ) (way : PathToBody) (k : ℕ) (ps : Tree ℕ (items procedure)) → declared_in_procedures k (procedures_without j way ps) ≡ declared_in_procedures k ps
   procedures_declare zero way k end = refl
   procedures_declare (suc j) way k end = refl
   procedures_declare zero way k (more p rest) = λ i. procedure_declares way k p i ++ declared_in_procedures (k + procedure_counted way p i) rest
   procedures_declare (suc j) way k (more p rest) = ap (λ l. declared_in_procedure k p ++ l) (procedures_declare j way (k + procedure_constructor_count p) rest)
 
-  procedure_declares : (way : WayToBody) (k : ℕ) (p : Tree ℕ (item procedure)) → declared_in_procedure k (procedure_without way p) ≡ declared_in_procedure k p
+  procedure_declares : (way : PathToBody) (k : ℕ) (p : Tree ℕ (item procedure)) → declared_in_procedure k (procedure_without way p) ≡ declared_in_procedure k p
   procedure_declares way k (declares_procedure x fs b closing) =
       ap (λ l. fields_in_sections k (formal_sections fs) ++ l) (block_declares way (constructor_after_formals k (declares_procedure x fs b closing)) b)
 
-pub declared_without : (way : WayToBody) (t : Tree ℕ module_text) → declared_in_block 0 (module_block (module_without_body way t)) ≡ declared_in_block 0 (module_block t)
+pub declared_without : (way : PathToBody) (t : Tree ℕ module_text) → declared_in_block 0 (module_block (module_without_body way t)) ≡ declared_in_block 0 (module_block t)
 declared_without way (is_module x b closing) = block_declares way 0 b
 
 -- ---- at other places
@@ -106,11 +106,11 @@ module _ (at : ℕ → ℕ) where
     block_fields_placed k (has_body (declares cs ts vs ps) statements) =
         let b : Tree ℕ block = has_body (declares cs ts vs ps) statements in
         let T : List FieldName = fields_in_types k (section_types ts) in
-        let V : List FieldName = fields_in_variables (constructor_after_types k b) (section_variables vs) in
+        let V : List FieldName = fields_in_variables (constructors_before_variables k b) (section_variables vs) in
         let Q : List FieldName = declared_in_procedures (constructor_after_variables k b) ps in
         both (field_placed at) T (V ++ Q) (ap (fields_in_types k) (types_mapped at at ts) ∙ types_placed k (section_types ts))
         (both (field_placed at) V Q
-        ((λ i. fields_in_variables (k + counted_type_section at at ts i) (variables_mapped at at vs i)) ∙ variables_placed (constructor_after_types k b) (section_variables vs))
+        ((λ i. fields_in_variables (k + counted_type_section at at ts i) (variables_mapped at at vs i)) ∙ variables_placed (constructors_before_variables k b) (section_variables vs))
         ((λ i. declared_in_procedures (k + counted_type_section at at ts i + counted_variable_section at at vs i) (mapped at at ps)) ∙ procedures_fields_placed (constructor_after_variables k b) ps))
 
     procedures_fields_placed : (k : ℕ) (ps : Tree ℕ (items procedure)) → declared_in_procedures k (mapped at at ps) ≡ map (field_placed at) (declared_in_procedures k ps)
@@ -145,7 +145,7 @@ module _ {Q : Type 0} (m : Meanings ℕ Shape Q) (P : FieldName → Type 0) wher
     block_among k (has_body (declares cs ts vs ps) statements) h =
         let b : Tree ℕ block = has_body (declares cs ts vs ps) statements in
         let T : List FieldName = fields_in_types k (section_types ts) in
-        let V : List FieldName = fields_in_variables (constructor_after_types k b) (section_variables vs) in
+        let V : List FieldName = fields_in_variables (constructors_before_variables k b) (section_variables vs) in
         let all : List FieldName = fields_in_procedures m (constructor_after_variables k b) ps in
         let some : List FieldName = declared_in_procedures (constructor_after_variables k b) ps in
         let p = parts P (T ++ (V ++ all)) (fields_in_tree m statements) h in

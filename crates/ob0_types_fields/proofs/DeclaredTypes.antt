@@ -12,11 +12,11 @@ use Rattle.ob0_language_types.specs.Bindings.{block_bindings, declared_object, m
 use Rattle.ob0_language_types.specs.Declaring.{declare_block}
 use Rattle.ob0_scope_table.specs.LabelledTrees.{tree_with_labels, label_at_token}
 use Rattle.ob0_language_types.proofs.Bound.{bindings_since-append, bind_typed_parameters-append}
-use Rattle.ob0_language_types.specs.Declarations.{constructor_after_types, constructor_after_variables, declare_constants, declare_first, declare_types, formals_constructor_count, procedure_constructor_count}
+use Rattle.ob0_language_types.specs.Declarations.{constructors_before_variables, constructor_after_variables, declare_constants, declare_first, declare_types, formals_constructor_count, procedure_constructor_count}
 use Rattle.ob0_language_types.specs.Environments.{meanings, outermost}
 use Rattle.ob0_language_types.specs.Expressions.{Meanings, Object, a_constant, a_type, a_variable}
 use Rattle.ob0_language_types.specs.Typing.{constant_value, constructor_count, denoted}
-use Rattle.ob0_language_types.specs.WellTyped.{FormalParameter, Mode, Signature, TypeEnvironment, TypedParameter, WellTyped, bind_names, bind_typed_parameters, block_fits, by_place, by_value, declare_typed, fits_over, bind_procedure, procedures_fit, typed_parameters}
+use Rattle.ob0_language_types.specs.WellTyped.{FormalParameter, Mode, Signature, TypeEnvironment, TypedParameter, WellTyped, bind_names, bind_typed_parameters, block_fits, by_place, by_value, declare_typed, passes_type_check, bind_procedure, procedures_fit, typed_parameters}
 use Rattle.ob0_language_types.proofs.Literals.{some_inverse}
 use Rattle.ob0_language_types.proofs.Proved.{numbering_keeps_type_check-holds}
 use Rattle.ob0_language_types.proofs.TypedElsewhere.{then_some}
@@ -163,11 +163,11 @@ module _ (r : Resolution) where
   block-put : (env : TypeEnvironment Label) (k : ℕ) (b : Tree ℕ block) (inner : TypeEnvironment Label) → declare_block naming_by_label env k (tree_with_labels r b) ≡ Some inner → Put env inner (TypesAreTyped (block_types b) × VariablesAreTyped (block_variables b))
   block-put env k (has_body (declares cs ts vs ps) statements) inner h =
       let b : Tree Label block = tree_with_labels r (has_body (declares cs ts vs ps) statements) in
-      let two = then_some (declare_first naming_by_label env k b) (declare_typed naming_by_label (constructor_after_types k b) (block_variables b)) inner h in
+      let two = then_some (declare_first naming_by_label env k b) (declare_typed naming_by_label (constructors_before_variables k b) (block_variables b)) inner h in
       let one = firsts env k b two.0 two.1 in
       let c = constants-put env (block_constants b) one.0 one.1 in
       let t = type_section-put one.0 k ts two.0 one.2 in
-      let v = variable_section-put two.0 (constructor_after_types k b) vs inner two.2 in
+      let v = variable_section-put two.0 (constructors_before_variables k b) vs inner two.2 in
       put_weaker env inner _ _ (λ p. (p.0.1, p.1)) (put_more env two.0 inner _ _ (put_more env one.0 two.0 _ _ c t) v)
 
   -- ---- headings
@@ -258,10 +258,10 @@ module _ (r : Resolution) where
         )
 
   pub module-typed : IsResolution r → WellTyped (named_tree_of r.module_read) → BlockIsTyped (module_block (tree_of r.module_read))
-  unfolding WellTyped fits_over
+  unfolding WellTyped passes_type_check
   module-typed is well =
       let m = named_tree_of r.module_read in
       let t : Tree Label module_text = tree_with_labels r (tree_of r.module_read) in
-      let fits : fits_over naming_by_label t ≡ true = ap (fits_over naming_by_label) (sym is.numbering) ∙ (sym (numbering_keeps_type_check-holds m) ∙ well.1) in
+      let fits : passes_type_check naming_by_label t ≡ true = ap (passes_type_check naming_by_label) (sym is.numbering) ∙ (sym (numbering_keeps_type_check-holds m) ∙ well.1) in
       let right : Right objects (module_bindings naming_by_label t) = subst (λ z. Right objects (module_bindings naming_by_label z)) is.numbering (bindings_right r well) in
       block-typed (outermost naming_by_label) 0 (module_block (tree_of r.module_read)) fits (right_split objects (block_bindings naming_by_label (outermost naming_by_label) 0 (module_block t)) (outermost naming_by_label) right).0

@@ -11,7 +11,7 @@ use Rattle.ob0_tree.specs.Tree.{Tree, item, items, maybe, array_type, block, dec
 use Rattle.ob0_language_names.specs.DeclaredOnce.{group_fields, further_group_fields}
 use Rattle.ob0_language_names.specs.Names.{Name, same_name}
 use Rattle.ob0_language_names.specs.Parts.{formal_sections, further_names, module_block, names_in_list, section_type, section_types, section_variables}
-use Rattle.ob0_language_types.specs.Declarations.{constructor_after_formals, constructor_after_types, constructor_after_variables, procedure_constructor_count}
+use Rattle.ob0_language_types.specs.Declarations.{constructor_after_formals, constructors_before_variables, constructor_after_variables, procedure_constructor_count}
 use Rattle.ob0_language_types.specs.Typing.{constructor_count, group_constructor_count}
 use Rattle.ob0_types_fields.specs.declared.field_name.FieldName.{FieldName}
 use Rattle.ob0_types_fields.specs.Identifiers.{DuplicateHasDeclaringToken, declared_fields, declared_in_block, declared_in_procedure, declared_in_procedures, first, belongs_to_field, tokens_of_field}
@@ -140,16 +140,16 @@ module _ (text : ℕ → Name) (value : ℕ → ℕ) where
       block-hit k (has_body (declares cs ts vs ps) statements) =
           let b : Tree ℕ block = has_body (declares cs ts vs ps) statements in
           let b' = mapped text value b in
-          let n : ℕ = constructor_after_types k b in
+          let n : ℕ = constructors_before_variables k b in
           let l : ℕ = constructor_after_variables k b in
-          let types : constructor_after_types k b' ≡ n = ap (λ c. k + c) (counted_type_section text value ts) in
+          let types : constructors_before_variables k b' ≡ n = ap (λ c. k + c) (counted_type_section text value ts) in
           let variables : constructor_after_variables k b' ≡ l = λ i. types i + counted_variable_section text value vs i in
           let ts' = section_types (mapped text value ts) in
           let vs' = section_variables (mapped text value vs) in
           let ps' = mapped text value ps in
-          both (fields_in_types k (section_types ts)) (fields_in_variables n (section_variables vs) ++ declared_in_procedures l ps) (records_in_types k ts') (records_in_variables (constructor_after_types k b') vs' ++ records_in_procedures (constructor_after_variables k b') ps')
+          both (fields_in_types k (section_types ts)) (fields_in_variables n (section_variables vs) ++ declared_in_procedures l ps) (records_in_types k ts') (records_in_variables (constructors_before_variables k b') vs' ++ records_in_procedures (constructor_after_variables k b') ps')
           (types-hit k (section_types ts) ∙ ap (λ t. list_any in_record (records_in_types k t)) (sym (types_mapped text value ts)))
-          (both (fields_in_variables n (section_variables vs)) (declared_in_procedures l ps) (records_in_variables (constructor_after_types k b') vs') (records_in_procedures (constructor_after_variables k b') ps')
+          (both (fields_in_variables n (section_variables vs)) (declared_in_procedures l ps) (records_in_variables (constructors_before_variables k b') vs') (records_in_procedures (constructor_after_variables k b') ps')
           (variables-hit n (section_variables vs) ∙ (λ i. list_any in_record (records_in_variables (sym types i) (sym (variables_mapped text value vs) i))))
           (procedures-hit l ps ∙ ap (λ c. list_any in_record (records_in_procedures c ps')) (sym variables)))
 

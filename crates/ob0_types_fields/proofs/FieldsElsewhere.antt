@@ -22,7 +22,7 @@ use Rattle.ob0_language_fields.specs.Fields.{rename_fields_in_module}
 use Rattle.ob0_language_values.specs.Values.{Shape}
 use Rattle.ob0_tree.specs.FirstIdentifier.{first_token_of}
 use Rattle.ob0_tree.proofs.MappedIdentifiers.{leaves_mapped}
-use Rattle.ob0_scope_table.specs.BodyReplaced.{IsBodyReplaced, WayToBody, body_at, closing_name_in_module, moved_token_index, module_without_body}
+use Rattle.ob0_scope_table.specs.BodyReplaced.{IsBodyReplaced, PathToBody, body_at, closing_name_in_module, moved_token_index, module_without_body}
 use Rattle.ob0_scope_table.specs.Resolution.{IsResolution, Resolution, ordinal_in}
 use Rattle.ob0_scope_table.proofs.BodyReplaced.{names_outside, without_mapped}
 use Rattle.ob0_scope_table.proofs.FewTokens.{few_tokens}
@@ -31,7 +31,7 @@ use Rattle.ob0_types_table.specs.KnownTables.{Tables, declared_object_in}
 use Rattle.ob0_types_fields.specs.declared.field_name.FieldName.{FieldName}
 use Rattle.ob0_types_fields.specs.Identifiers.{declared_fields, declared_in_block, field_identifiers}
 use Rattle.ob0_types_fields.specs.FieldLists.{AreFieldListsOf, FieldLists, moved_field, fields_before, fields_from, old_token_index}
-use Rattle.ob0_types_fields.specs.Owned.{GivesListedOwners, fields_with_owners, fields_in_tree, owners_in_tree, owners_in_module, owners_in_resolution, meanings_by_token}
+use Rattle.ob0_types_fields.specs.Owned.{AgreesWithOwnerList, fields_with_owners, fields_in_tree, owners_in_tree, owners_in_module, owners_in_resolution, meanings_by_token}
 use Rattle.ob0_types_fields.specs.Owners.{field_names_by_record}
 use Rattle.ob0_types_fields.proofs.DeclaredMoved.{among_placed, declared_among, declared_placed, declared_without, field_placed, placed}
 use Rattle.ob0_types_fields.proofs.WalkFindsAllFields.{fields_in_tree-fields, module-fields}
@@ -85,7 +85,7 @@ owners_kept at before now written writes (x ∷ xs) e h =
     (same_owner (now (at x)) (before x) (writes (at x)) (written x) (heads h).0 (heads e).0, owners_kept at before now written writes xs (heads e).1 (heads h).1)
 
 -- Two lists of identifiers with the same owners, one at the new indexes of the other, are the same list moved.
-placed_alike : (at : ℕ → ℕ) (before now : ℕ → Option ℕ) (xs ys : List (ℕ × Option ℕ)) → tokens xs ≡ map at (tokens ys) → GivesListedOwners now xs → GivesListedOwners before ys
+placed_alike : (at : ℕ → ℕ) (before now : ℕ → Option ℕ) (xs ys : List (ℕ × Option ℕ)) → tokens xs ≡ map at (tokens ys) → AgreesWithOwnerList now xs → AgreesWithOwnerList before ys
     → AllByRecursion (λ i. now (at i) ≡ before i) (tokens ys) → xs ≡ map (placed at) ys
 placed_alike at before now [] [] e h g same = refl
 placed_alike at before now [] (y ∷ ys) e h g same = absurd (cc)
@@ -95,12 +95,12 @@ placed_alike at before now ((i, o) ∷ xs) ((j, p) ∷ ys) e h g same =
     let owner : o ≡ p = sym h.0 ∙ (ap now here ∙ (same.0 ∙ g.0)) in
     λ z. (here z, owner z) ∷ placed_alike at before now xs ys (heads e).1 h.1 g.1 same.1 z
 
-owners_joined : (table : ℕ → Option ℕ) (xs ys : List (ℕ × Option ℕ)) → GivesListedOwners table xs → GivesListedOwners table ys → GivesListedOwners table (xs ++ ys)
+owners_joined : (table : ℕ → Option ℕ) (xs ys : List (ℕ × Option ℕ)) → AgreesWithOwnerList table xs → AgreesWithOwnerList table ys → AgreesWithOwnerList table (xs ++ ys)
 owners_joined table [] ys h g = g
 owners_joined table (x ∷ xs) ys h g = (h.0, owners_joined table xs ys h.1 g)
 
 -- If a table has the owners of three lists, it has the owners of the first and the last list.
-owners_around : (table : ℕ → Option ℕ) (xs ys zs : List (ℕ × Option ℕ)) → GivesListedOwners table (xs ++ (ys ++ zs)) → GivesListedOwners table (xs ++ zs)
+owners_around : (table : ℕ → Option ℕ) (xs ys zs : List (ℕ × Option ℕ)) → AgreesWithOwnerList table (xs ++ (ys ++ zs)) → AgreesWithOwnerList table (xs ++ zs)
 owners_around table xs ys zs h =
     let p = owners_split table xs (ys ++ zs) h in
     owners_joined table xs zs p.0 (owners_split table ys zs p.1).1
@@ -111,7 +111,7 @@ meant q = meanings_by_token (declared_object (named_tree_of q.module_read)) q
 
 -- In a well-typed module without some statements, putting the owner before each field's name is the same as rewriting
 -- each token according to the table.
-written_without : (q : Resolution) (way : WayToBody) → IsResolution q → WellTyped (named_tree_of q.module_read)
+written_without : (q : Resolution) (way : PathToBody) → IsResolution q → WellTyped (named_tree_of q.module_read)
     → rename_fields_in_module (field_names_by_record with_owner) (tree_with_names q.module_read.source (module_without_body way (tree_of q.module_read)))
     ≡ mapped (λ i. field_names_by_record with_owner (ordinal_in (with_owners q) i) (text_at q.module_read.source i)) (value_at q.module_read.source) (module_without_body way (tree_of q.module_read))
 written_without q way named_q fits =
@@ -121,7 +121,7 @@ written_without q way named_q fits =
     ∙ (sym (refielded_without (field_names_by_record with_owner) way (named_tree_of m))
     ∙ (ap (module_without_body way) (fields_give_all_owners-holds q named_q fits with_owner) ∙ without_mapped writes (value_at m.source) way (tree_of m)))
 
-module _ (old r : Resolution) (way : WayToBody) (s : SameTokens) (is : IsBodyReplaced old.module_read r.module_read way s)
+module _ (old r : Resolution) (way : PathToBody) (s : SameTokens) (is : IsBodyReplaced old.module_read r.module_read way s)
     (was_named : IsResolution old) (is_named : IsResolution r) (was_typed : WellTyped (named_tree_of old.module_read)) (is_typed : WellTyped (named_tree_of r.module_read)) where
   abbrev before : Tree ℕ module_text
   before = tree_of old.module_read
@@ -204,8 +204,8 @@ module _ (old r : Resolution) (way : WayToBody) (s : SameTokens) (is : IsBodyRep
   rest_placed =
       placed_alike (moved_token_index s) (ordinal_in (with_owners old)) (ordinal_in (with_owners r)) rest_now rest_before
       (ap tokens (sym around_now.left) ∙ (module-tokens meant_now (module_without_body way now) ∙ (leaves_now ∙ ap (map (moved_token_index s)) (sym tokens_before))))
-      (owners_around (ordinal_in (with_owners r)) around_now.before inner_now ((closing_name_in_module way now, None) ∷ around_now.after) (subst (GivesListedOwners (ordinal_in (with_owners r))) around_now.whole (fields_have-owners r is_named)))
-      (owners_around (ordinal_in (with_owners old)) around_before.before inner_before ((closing_name_in_module way before, None) ∷ around_before.after) (subst (GivesListedOwners (ordinal_in (with_owners old))) around_before.whole (fields_have-owners old was_named)))
+      (owners_around (ordinal_in (with_owners r)) around_now.before inner_now ((closing_name_in_module way now, None) ∷ around_now.after) (subst (AgreesWithOwnerList (ordinal_in (with_owners r))) around_now.whole (fields_have-owners r is_named)))
+      (owners_around (ordinal_in (with_owners old)) around_before.before inner_before ((closing_name_in_module way before, None) ∷ around_before.after) (subst (AgreesWithOwnerList (ordinal_in (with_owners old))) around_before.whole (fields_have-owners old was_named)))
       (subst (AllByRecursion (λ i. ordinal_in (with_owners r) (moved_token_index s i) ≡ ordinal_in (with_owners old) i)) (sym tokens_before) owners_same)
 
   seam : rest_now ≡ around_before.before ++ ((closing_name_in_module way now, None) ∷ map (placed (moved_token_index s)) around_before.after)

@@ -14,11 +14,11 @@ use Rattle.ob0_language_names.specs.Names.{Name, naming_by_spelling}
 use Rattle.ob0_language_names.specs.Parts.{formal_sections, names_in_list, procedure_formals, procedure_name, section_constants, section_names, section_type, section_types, section_variables}
 use Rattle.ob0_language_names.proofs.Peeling.{heads}
 use Rattle.ob0_scope_table.specs.Resolution.{ordinal_in}
-use Rattle.ob0_language_types.specs.Declarations.{constructor_after_formals, constructor_after_types, constructor_after_variables, declare_constants, declare_first, declare_types, procedure_constructor_count}
+use Rattle.ob0_language_types.specs.Declarations.{constructor_after_formals, constructors_before_variables, constructor_after_variables, declare_constants, declare_first, declare_types, procedure_constructor_count}
 use Rattle.ob0_language_types.specs.Environments.{meanings, outermost}
 use Rattle.ob0_language_types.specs.Expressions.{Meanings, Object, a_constant, a_procedure, a_standard, a_type, a_variable, evaluate}
 use Rattle.ob0_language_types.specs.Typing.{addition_type, array_length, negation_type, constant_of, constant_value, constant_meanings, constructor_count, denoted, denoted_group, denoted_groups, element_type, outcome_value, group_constructor_count, multiplication_type, object_type, relation_type, sign_type, type_at, type_of, type_of_addends, type_of_factor, type_of_multipliers, type_of_simple, type_of_term, value_type, prepend_fields, check_limits}
-use Rattle.ob0_language_types.specs.WellTyped.{Signature, TypeEnvironment, TypeMeanings, TypedParameter, WellTyped, bind_names, bind_typed_parameters, block_fits, declare_typed, fits_over, bind_procedure, procedure_fits, procedures_fit, section_mode, typed_parameters}
+use Rattle.ob0_language_types.specs.WellTyped.{Signature, TypeEnvironment, TypeMeanings, TypedParameter, WellTyped, bind_names, bind_typed_parameters, block_fits, declare_typed, passes_type_check, bind_procedure, procedure_fits, procedures_fit, section_mode, typed_parameters}
 use Rattle.ob0_language_values.specs.Values.{FieldShapes, Shape, Value, array_shape, boolean_shape, elements, integer_shape, members, number, record_shape, truth}
 use Rattle.ob0_language_fields.specs.Fields.{FieldRenaming, select_type, rename_fields, rename_fields_in_block, rename_fields_in_formals, rename_fields_in_group, rename_fields_in_groups, rename_fields_in_procedure, rename_fields_in_procedures, rename_fields_in_section, rename_fields_in_sections, rename_fields_in_type, rename_fields_in_type_section, rename_fields_in_types, rename_fields_in_variable_section, rename_fields_in_variables, rename_fields_in_module}
 use Rattle.ob0_types_fields.specs.Owners.{field_names_by_record}
@@ -30,7 +30,7 @@ use Rattle.ob0_language_types.specs.Bindings.{declared_object}
 use Rattle.ob0_language_types.proofs.Conditions.{both_true, hold-true, of_some}
 use Rattle.ob0_language_types.proofs.TypedElsewhere.{then_some}
 use Rattle.ob0_types_fields.specs.Identifiers.{FieldsMatchGrammar, tokens_of, field_role_tokens}
-use Rattle.ob0_types_fields.specs.Owned.{GivesListedOwners, fields_with_owners, owners_in_resolution, meanings_by_token}
+use Rattle.ob0_types_fields.specs.Owned.{AgreesWithOwnerList, fields_with_owners, owners_in_resolution, meanings_by_token}
 use Rattle.ob0_tree.proofs.MappedIdentifiers.{beside_role, both, identifiers-mapped}
 use Rattle.ob0_types_fields.proofs.OwnedModules.{listed_owners_are_complete-holds}
 use Rattle.ob0_types_fields.proofs.OwnedTokens.{fields_have-owners, module-tokens, tokens, with_owners}
@@ -322,14 +322,14 @@ mutual
   block-marked : (env : TypeEnvironment Name) (k : ℕ) (b : Tree Name block) → block_fits naming_by_spelling env k b ≡ true → ids (rename_fields_in_block every env k b) ≡ marked (ids b)
   block-marked env k (has_body (declares cs ts vs ps) statements) h =
       let b : Tree Name block = has_body (declares cs ts vs ps) statements in
-      let (inner, e₁, e₂) = hold-true (option_and_then (declare_typed naming_by_spelling (constructor_after_types k b) (section_variables vs)) (declare_first naming_by_spelling env k b)) (λ inner. procedures_fit naming_by_spelling inner (constructor_after_variables k b) statements ps) h in
-      let (first, ef, e₃) = then_some (declare_first naming_by_spelling env k b) (declare_typed naming_by_spelling (constructor_after_types k b) (section_variables vs)) inner e₁ in
+      let (inner, e₁, e₂) = hold-true (option_and_then (declare_typed naming_by_spelling (constructors_before_variables k b) (section_variables vs)) (declare_first naming_by_spelling env k b)) (λ inner. procedures_fit naming_by_spelling inner (constructor_after_variables k b) statements ps) h in
+      let (first, ef, e₃) = then_some (declare_first naming_by_spelling env k b) (declare_typed naming_by_spelling (constructors_before_variables k b) (section_variables vs)) inner e₁ in
       let (consts, ec, e₄) = then_some (declare_constants naming_by_spelling env (section_constants cs)) (λ env. declare_types naming_by_spelling env k (section_types ts)) first ef in
       let later = subst (λ inner. ids (rename_fields_in_procedures every inner (constructor_after_variables k b) ps) ≡ marked (ids ps)) (sym (ap (λ o. unwrap_or o env) e₁)) (procedures-marked inner (constructor_after_variables k b) statements ps e₂) in
       both mark_at (ids cs ++ (ids ts ++ (ids vs ++ ids ps))) (ids statements)
       (both mark_at (ids cs) (ids ts ++ (ids vs ++ ids ps)) (constant_section-plain env cs consts ec)
       (both mark_at (ids ts) (ids vs ++ ids ps) (type_section-marked consts k ts first e₄)
-      (both mark_at (ids vs) (ids ps) (variable_section-marked first (constructor_after_types k b) vs inner e₃) later)))
+      (both mark_at (ids vs) (ids ps) (variable_section-marked first (constructors_before_variables k b) vs inner e₃) later)))
       (body-marked _ statements)
 
   procedures-marked : (env : TypeEnvironment Name) (k : ℕ) (statements : Tree Name (maybe body)) (ps : Tree Name (items procedure)) → procedures_fit naming_by_spelling env k statements ps ≡ true → ids (rename_fields_in_procedures every env k ps) ≡ marked (ids ps)
@@ -348,8 +348,8 @@ mutual
       ap (λ z. (role.Declaring, x) ∷ z) (both mark_at (ids fs) (ids b ++ ((role.ClosingName, closing) ∷ [])) (formals-marked before k fs ps h)
       (both mark_at (ids b) ((role.ClosingName, closing) ∷ []) (block-marked env (constructor_after_formals k (declares_procedure x fs b closing)) b e) refl))
 
-module-marked : (m : Tree Name module_text) → fits_over naming_by_spelling m ≡ true → ids (rename_fields_in_module every m) ≡ marked (ids m)
-unfolding fits_over
+module-marked : (m : Tree Name module_text) → passes_type_check naming_by_spelling m ≡ true → ids (rename_fields_in_module every m) ≡ marked (ids m)
+unfolding passes_type_check
 module-marked (is_module x b closing) h = ap (λ z. (role.ModuleName, x) ∷ z) (both mark_at (ids b) ((role.ModuleName, closing) ∷ []) (block-marked (outermost naming_by_spelling) 0 b h) refl)
 
 -- ---- the declarations of records have the same spelling, whatever is used for an unknown record
@@ -394,7 +394,7 @@ matched x role.ModuleName (Some k) h = longer x h
 
 -- The identifiers with an owner are exactly the identifiers in the places of fields, if each identifier has an owner
 -- exactly if its role says that it is a field.
-listed_fields : (source : TextWithTokens) (table : ℕ → Option ℕ) (xs : List (ℕ × Option ℕ)) (ys : List (Role × ℕ)) → tokens xs ≡ names_without_roles ys → GivesListedOwners table xs
+listed_fields : (source : TextWithTokens) (table : ℕ → Option ℕ) (xs : List (ℕ × Option ℕ)) (ys : List (Role × ℕ)) → tokens xs ≡ names_without_roles ys → AgreesWithOwnerList table xs
     → map mark_at (map (beside_role (text_at source)) ys) ≡ map (beside_role (owner_writes source table)) ys → tokens_of (fields_with_owners xs) ≡ field_role_tokens ys
 listed_fields source table [] [] e has h = refl
 listed_fields source table [] (y ∷ ys) e has h = absurd (cc)
@@ -423,7 +423,7 @@ unfolding WellTyped
 fields_match_grammar-holds r named fits =
     let m : ParsedModule = r.module_read in
     let owners : List (Option ℕ) = with_owners r in
-    let has : GivesListedOwners (ordinal_in owners) (owners_in_resolution r) = fields_have-owners r named in
+    let has : AgreesWithOwnerList (ordinal_in owners) (owners_in_resolution r) = fields_have-owners r named in
     let by_table = listed_owners_are_complete-holds r owners named fits has (λ k x. again x) in
     let written : marked (ids (named_tree_of m)) ≡ ids (mapped (owner_writes m.source (ordinal_in owners)) (value_at m.source) (tree_of m)) =
     sym (module-marked (named_tree_of m) fits.1) ∙ (ap ids (module-alike every by_record (named_tree_of m) (alike-records (records (named_tree_of m))) fits.1) ∙ ap ids by_table) in

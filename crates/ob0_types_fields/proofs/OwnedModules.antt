@@ -22,11 +22,11 @@ use Rattle.ob0_language_names.proofs.Peeling.{heads}
 use Rattle.ob0_language_names.proofs.Relabelled.{formals-section, types-section, variables-section}
 use Rattle.ob0_language_types.specs.Bindings.{block_bindings, declared_object, module_bindings, procedures_bindings, bindings_since}
 use Rattle.ob0_language_types.specs.Declaring.{declare_block}
-use Rattle.ob0_language_types.specs.Declarations.{constructor_after_formals, constructor_after_types, constructor_after_variables, declare_first, formals_constructor_count, procedure_constructor_count, types_constructor_count, variables_constructor_count}
+use Rattle.ob0_language_types.specs.Declarations.{constructor_after_formals, constructors_before_variables, constructor_after_variables, declare_first, formals_constructor_count, procedure_constructor_count, types_constructor_count, variables_constructor_count}
 use Rattle.ob0_language_types.specs.Environments.{environment_from_binding, meanings, newest_object, outermost}
 use Rattle.ob0_language_types.specs.Expressions.{Meanings, Object, a_procedure}
 use Rattle.ob0_language_types.specs.Typing.{object_type}
-use Rattle.ob0_language_types.specs.WellTyped.{Signature, TypeEnvironment, TypeMeanings, TypedParameter, WellTyped, bind_typed_parameters, block_fits, body_fits, declare_typed, fits_over, bind_procedure, procedures_fit, typed_parameters}
+use Rattle.ob0_language_types.specs.WellTyped.{Signature, TypeEnvironment, TypeMeanings, TypedParameter, WellTyped, bind_typed_parameters, block_fits, body_fits, declare_typed, passes_type_check, bind_procedure, procedures_fit, typed_parameters}
 use Rattle.ob0_language_values.specs.Values.{Shape}
 use Rattle.ob0_language_types.proofs.Agreeing.{Agree, HoldsOf}
 use Rattle.ob0_language_types.proofs.Constructors.{formals_constructor_count-relabel, procedure_constructor_count-relabel, types_constructor_count-relabel, variables_constructor_count-relabel}
@@ -38,7 +38,7 @@ use Rattle.ob0_language_types.proofs.ConstantsDeclared as blocks
 use Rattle.ob0_language_types.proofs.ConstantsDeclared.{block-listed, block-parts, predeclared-below}
 use Rattle.ob0_language_fields.specs.Fields.{environment_after_heading, environment_after_procedures, environment_after_variables, parameters_of, rename_fields, rename_fields_in_block, rename_fields_in_procedures, rename_fields_in_variable_section}
 use Rattle.ob0_types_fields.specs.Owners.{field_names_by_record}
-use Rattle.ob0_types_fields.specs.Owned.{GivesListedOwners, ListedOwnersAreComplete, owners_in_tree, owners_in_block, owners_in_formals, owners_in_procedure, owners_in_procedures, owners_in_type_section, owners_in_variable_section, meanings_by_token, identifiers_without_owners}
+use Rattle.ob0_types_fields.specs.Owned.{AgreesWithOwnerList, ListedOwnersAreComplete, owners_in_tree, owners_in_block, owners_in_formals, owners_in_procedure, owners_in_procedures, owners_in_type_section, owners_in_variable_section, meanings_by_token, identifiers_without_owners}
 use Rattle.ob0_types_fields.proofs.OwnedStatements.{Alike, SameTypes, owners_in_tree-alike, owners_split, recorded, recorded-alike, recorded-mapped, identifiers_without_owners-all}
 use Rattle.ob0_types_fields.proofs.OwnedTypes.{counted_formals_section, counted_procedure, counted_type_section, counted_variable_section, formals-owners_in_tree, type_section-owners_in_tree, variable_section-owners_in_tree}
 use Rattle.ob0_language_fields.proofs.NamesMeant.{object_in}
@@ -68,7 +68,7 @@ opened noted j k below b h =
     let b' : Tree Label block = relabel_block naming_by_spelling (label_from_ordinal naming_by_spelling) (typed_scope noted) k b in
     let parts = block-parts env j b' h in
     let f = found typed_by_name typed_by_ordinal (TypedWithin (first_procedure_ordinal k b) (procedures_scope k b (typed_scope noted)))
-    (option_and_then (declare_typed naming_by_spelling (constructor_after_types j b) (block_variables b)) (declare_first naming_by_spelling (typed_by_name noted) j b)) (declare_block naming_by_label env j b') (declarations_typed naming_by_spelling j k noted below b) parts.0 parts.1 in
+    (option_and_then (declare_typed naming_by_spelling (constructors_before_variables j b) (block_variables b)) (declare_first naming_by_spelling (typed_by_name noted) j b)) (declare_block naming_by_label env j b') (declarations_typed naming_by_spelling j k noted below b) parts.0 parts.1 in
     let last : TypeNoted Name = f.0 in
     let same : typed_by_ordinal last ≡ parts.0 = f.2 in
     let g : Grown k (first_procedure_ordinal k b) env (typed_by_ordinal last) = subst (Grown k (first_procedure_ordinal k b) env) (sym same) (block_grows (typed_scope noted) j k b env parts.0 parts.1) in
@@ -180,7 +180,7 @@ module _ (l : ℕ → Name → Name) (at : ℕ → Option ℕ) (text : ℕ → N
   record BlockHeld (noted : TypeNoted Name) (j k : ℕ) (b : Tree ℕ block) : Type 0 where
     pub descends : Descends (ordinal_after_block k (mapped text value b)) (block_bindings naming_by_label (typed_by_ordinal noted) j (relabel_block naming_by_spelling (label_from_ordinal naming_by_spelling) (typed_scope noted) k (mapped text value b))) k
     pub written : Right objects (typed_by_ordinal noted) → Right objects (block_bindings naming_by_label (typed_by_ordinal noted) j (relabel_block naming_by_spelling (label_from_ordinal naming_by_spelling) (typed_scope noted) k (mapped text value b)))
-        → relabel_block naming_by_spelling (label_from_ordinal naming_by_spelling) (typed_scope noted) k (mapped text value b) ≡ mapped label value b → GivesListedOwners at (owners_in_block by_token j b)
+        → relabel_block naming_by_spelling (label_from_ordinal naming_by_spelling) (typed_scope noted) k (mapped text value b) ≡ mapped label value b → AgreesWithOwnerList at (owners_in_block by_token j b)
         → rename_fields_in_block (field_names_by_record l) (typed_by_name noted) j (mapped text value b) ≡ mapped (λ i. field_names_by_record l (at i) (text i)) value b
 
   record ProceduresHeld (noted : TypeNoted Name) (j k : ℕ) (statements : Tree Label (maybe body)) (ps : Tree ℕ (items procedure)) : Type 0 where
@@ -191,7 +191,7 @@ module _ (l : ℕ → Name → Name) (at : ℕ → Option ℕ) (text : ℕ → N
     pub fits : body_fits naming_by_label (typed_by_ordinal last) statements ≡ true
     pub scoped : typed_scope last ≡ declare_procedure_names k (mapped text value ps) (typed_scope noted)
     pub written : Right objects (typed_by_ordinal noted) → Right objects (procedures_bindings naming_by_label (typed_by_ordinal noted) j (relabel_procedures naming_by_spelling (label_from_ordinal naming_by_spelling) (typed_scope noted) k (mapped text value ps)))
-        → relabel_procedures naming_by_spelling (label_from_ordinal naming_by_spelling) (typed_scope noted) k (mapped text value ps) ≡ mapped label value ps → GivesListedOwners at (owners_in_procedures by_token j ps)
+        → relabel_procedures naming_by_spelling (label_from_ordinal naming_by_spelling) (typed_scope noted) k (mapped text value ps) ≡ mapped label value ps → AgreesWithOwnerList at (owners_in_procedures by_token j ps)
         → (rename_fields_in_procedures (field_names_by_record l) (typed_by_name noted) j (mapped text value ps) ≡ mapped (λ i. field_names_by_record l (at i) (text i)) value ps) × Right objects (typed_by_ordinal last)
 
   no-procedures : (noted : TypeNoted Name) (j k : ℕ) → TypedBelow k noted → (statements : Tree Label (maybe body)) → procedures_fit naming_by_label (typed_by_ordinal noted) j statements end ≡ true → ProceduresHeld noted j k statements end
@@ -211,7 +211,7 @@ module _ (l : ℕ → Name → Name) (at : ℕ → Option ℕ) (text : ℕ → N
 
   statements-written : (noted last : TypeNoted Name) (n : ℕ) → TypedBelow n last → Right objects (typed_by_ordinal last) → (scope : Scope Name) → typed_scope last ≡ scope → (st : Tree ℕ (maybe body))
       → body_fits naming_by_label (typed_by_ordinal last) (relabel_uses naming_by_spelling (label_from_ordinal naming_by_spelling) scope (mapped text value st)) ≡ true → relabel_uses naming_by_spelling (label_from_ordinal naming_by_spelling) scope (mapped text value st) ≡ mapped label value st
-      → GivesListedOwners at (owners_in_tree by_token None st) → rename_fields (field_names_by_record l) (meanings naming_by_spelling (typed_by_name last)) None (mapped text value st) ≡ mapped (λ i. field_names_by_record l (at i) (text i)) value st
+      → AgreesWithOwnerList at (owners_in_tree by_token None st) → rename_fields (field_names_by_record l) (meanings naming_by_spelling (typed_by_name last)) None (mapped text value st) ≡ mapped (λ i. field_names_by_record l (at i) (text i)) value st
   statements-written noted last n below right scope scoped st fits numbered has =
       let alike = body-alike last right st (ap (λ s. relabel_uses naming_by_spelling (label_from_ordinal naming_by_spelling) s (mapped text value st)) scoped ∙ numbered) in
       let fitting : body_fits naming_by_spelling (typed_by_name last) (mapped text value st) ≡ true =
@@ -220,7 +220,7 @@ module _ (l : ℕ → Name → Name) (at : ℕ → Option ℕ) (text : ℕ → N
       let types = same-types (meanings naming_by_spelling (typed_by_name last)) (occurrences st) alike in
       let selecting : owners_in_tree by_token None st ≡ recorded by_token None st =
       sym (owners_in_tree-alike by_name by_token (λ x. refl) None st types) ∙ (body-selects (typed_by_name last) text value st fitting ∙ recorded-alike by_name by_token (λ x. refl) None st types) in
-      recorded-mapped l at (meanings naming_by_spelling (typed_by_name last)) by_token value None st (subst (GivesListedOwners at) selecting has) alike
+      recorded-mapped l at (meanings naming_by_spelling (typed_by_name last)) by_token value None st (subst (AgreesWithOwnerList at) selecting has) alike
 
   block-joined : (noted : TypeNoted Name) (j k : ℕ) (cs : Tree ℕ (maybe constants)) (ts : Tree ℕ (maybe type_names)) (vs : Tree ℕ (maybe variables)) (ps : Tree ℕ (items procedure)) (st : Tree ℕ (maybe body))
       → (o : Opened noted j k (mapped text value (has_body (declares cs ts vs ps) st)))
@@ -243,7 +243,7 @@ module _ (l : ℕ → Name → Name) (at : ℕ → Option ℕ) (text : ℕ → N
         written = λ right all numbered has.
             let two = right_split objects P o.grown.bound (subst (Right objects) all_listed all) in
             let right_last : Right objects (typed_by_ordinal o.last) = subst (Right objects) (sym o.grown.is) (right_join objects o.grown.bound (typed_by_ordinal noted) two.1 right) in
-            let B : List (ℕ × Option ℕ) = owners_in_variable_section (constructor_after_types j b) vs in
+            let B : List (ℕ × Option ℕ) = owners_in_variable_section (constructors_before_variables j b) vs in
             let C : List (ℕ × Option ℕ) = owners_in_procedures by_token (constructor_after_variables j b) ps in
             let s0 = owners_split at (identifiers_without_owners cs ++ (owners_in_type_section j ts ++ (B ++ C))) (owners_in_tree by_token None st) has in
             let s1 = owners_split at (identifiers_without_owners cs) (owners_in_type_section j ts ++ (B ++ C)) s0.0 in
@@ -251,8 +251,8 @@ module _ (l : ℕ → Name → Name) (at : ℕ → Option ℕ) (text : ℕ → N
             let s3 = owners_split at B C s2.1 in
             let r = q.written right_last two.0 (ap (λ s. relabel_procedures naming_by_spelling (label_from_ordinal naming_by_spelling) s kp nps) o.within.0 ∙ ap block_procedures numbered) s3.1 in
             let following_all : typed_scope q.last ≡ declare_procedure_names kp nps (procedures_scope k nb scope) = q.scoped ∙ ap (declare_procedure_names kp nps) o.within.0 in
-            let variables-written : rename_fields_in_variable_section (field_names_by_record l) (constructor_after_types j nb) (mapped text value vs) ≡ mapped (λ i. field_names_by_record l (at i) (text i)) value vs =
-            (λ i. rename_fields_in_variable_section (field_names_by_record l) (j + counted_type_section text value ts i) (mapped text value vs)) ∙ variable_section-owners_in_tree l at text value (constructor_after_types j b) vs s3.0 in
+            let variables-written : rename_fields_in_variable_section (field_names_by_record l) (constructors_before_variables j nb) (mapped text value vs) ≡ mapped (λ i. field_names_by_record l (at i) (text i)) value vs =
+            (λ i. rename_fields_in_variable_section (field_names_by_record l) (j + counted_type_section text value ts i) (mapped text value vs)) ∙ variable_section-owners_in_tree l at text value (constructors_before_variables j b) vs s3.0 in
             let procedures-written : rename_fields_in_procedures (field_names_by_record l) (environment_after_variables (typed_by_name noted) j nb) (constructor_after_variables j nb) nps ≡ mapped (λ i. field_names_by_record l (at i) (text i)) value ps =
             (λ i. rename_fields_in_procedures (field_names_by_record l) (o.named i) (counted i) nps) ∙ r.0 in
             let environment : environment_after_procedures (environment_after_variables (typed_by_name noted) j nb) (constructor_after_variables j nb) nps ≡ typed_by_name q.last = (λ i. environment_after_procedures (o.named i) (counted i) nps) ∙ q.following in
@@ -389,7 +389,7 @@ outermost-descends = (6, refl, omega arith, (5, refl, omega arith, (4, refl, ome
 
 -- Each binding of a well-typed module has the object of its ordinal.
 pub bindings_right : (r : Resolution) → WellTyped (named_tree_of r.module_read) → Right (declared_object (named_tree_of r.module_read)) (module_bindings naming_by_label (numbered (named_tree_of r.module_read)))
-unfolding WellTyped fits_over
+unfolding WellTyped passes_type_check
 bindings_right r fits =
     let p : ParsedModule = r.module_read in
     let b : Tree ℕ block = module_block (tree_of p) in
@@ -398,7 +398,7 @@ bindings_right r fits =
     bound_right (ordinal_after_block 7 (mapped (text_at p.source) (value_at p.source) b)) (all ++ outermost naming_by_label) (descends_join (ordinal_after_block 7 (mapped (text_at p.source) (value_at p.source) b)) 7 0 all (outermost naming_by_label) held.descends outermost-descends)
 
 pub listed_owners_are_complete-holds : ListedOwnersAreComplete
-unfolding WellTyped fits_over
+unfolding WellTyped passes_type_check
 listed_owners_are_complete-holds r owners named fits has = λ l.
     let p : ParsedModule = r.module_read in
     let text : ℕ → Name = text_at p.source in

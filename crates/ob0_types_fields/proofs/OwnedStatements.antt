@@ -11,9 +11,9 @@ use Rattle.ob0_language_types.specs.WellTyped.{TypeMeanings}
 use Rattle.ob0_language_values.specs.Values.{Shape}
 use Rattle.ob0_language_fields.specs.Fields.{select_type, record_ordinal, rename_fields}
 use Rattle.ob0_types_fields.specs.Owners.{field_names_by_record}
-use Rattle.ob0_types_fields.specs.Owned.{GivesListedOwners, owners_in_tree, owner, type_after_selector, identifiers_without_owners, unowned_identifiers}
+use Rattle.ob0_types_fields.specs.Owned.{AgreesWithOwnerList, owners_in_tree, owner, type_after_selector, identifiers_without_owners, unowned_identifiers}
 
-pub owners_split : (at : ℕ → Option ℕ) (xs ys : List (ℕ × Option ℕ)) → GivesListedOwners at (xs ++ ys) → GivesListedOwners at xs × GivesListedOwners at ys
+pub owners_split : (at : ℕ → Option ℕ) (xs ys : List (ℕ × Option ℕ)) → AgreesWithOwnerList at (xs ++ ys) → AgreesWithOwnerList at xs × AgreesWithOwnerList at ys
 owners_split at [] ys h = (tt, h)
 owners_split at (x ∷ xs) ys h = let rest = owners_split at xs ys h.1 in ((h.0, rest.0), rest.1)
 
@@ -26,7 +26,7 @@ none_split : (at : ℕ → Option ℕ) (xs ys : List (Role × ℕ)) → AllNone 
 none_split at [] ys h = (tt, h)
 none_split at (x ∷ xs) ys h = let rest = none_split at xs ys h.1 in ((h.0, rest.0), rest.1)
 
-all_none : (at : ℕ → Option ℕ) (xs : List (Role × ℕ)) → GivesListedOwners at (unowned_identifiers xs) → AllNone at xs
+all_none : (at : ℕ → Option ℕ) (xs : List (Role × ℕ)) → AgreesWithOwnerList at (unowned_identifiers xs) → AllNone at xs
 all_none at [] h = tt
 all_none at (x ∷ xs) h = (h.0, all_none at xs h.1)
 
@@ -135,7 +135,7 @@ identifiers_without_owners-mapped l at text value r (is_module a b c) h =
     λ i. is_module (field_names_by_record l (sym h.0 i) (text a)) (identifiers_without_owners-mapped l at text value r b s0.0 i) (field_names_by_record l (sym s0.1.0 i) (text c))
 
 -- Rewriting a part without fields changes nothing.
-pub identifiers_without_owners-all : (l : ℕ → Name → Name) (at : ℕ → Option ℕ) (text : ℕ → Name) (value : ℕ → ℕ) {s : Sort} (t : Tree ℕ s) → GivesListedOwners at (identifiers_without_owners t) → mapped text value t ≡ mapped (λ j. field_names_by_record l (at j) (text j)) value t
+pub identifiers_without_owners-all : (l : ℕ → Name → Name) (at : ℕ → Option ℕ) (text : ℕ → Name) (value : ℕ → ℕ) {s : Sort} (t : Tree ℕ s) → AgreesWithOwnerList at (identifiers_without_owners t) → mapped text value t ≡ mapped (λ j. field_names_by_record l (at j) (text j)) value t
 identifiers_without_owners-all l at text value t h = identifiers_without_owners-mapped l at text value role.Declaring t (all_none at (identifiers role.Declaring t) h)
 
 -- holds if names have values of the same types by name and by token
@@ -209,7 +209,7 @@ recorded m s t = identifiers_without_owners t
 
 -- Rewriting the fields in a part of a statement is the same as rewriting each token according to the table.
 pub recorded-mapped : {P : Type 0} (l : ℕ → Name → Name) (at : ℕ → Option ℕ) (meaning : TypeMeanings Name) (m : Meanings ℕ Shape P) (value : ℕ → ℕ) (s : Option Shape) {sort : Sort} (t : Tree ℕ sort)
-    → GivesListedOwners at (recorded m s t) → Alike meaning m (occurrences t) → rename_fields (field_names_by_record l) meaning s (mapped m.written value t) ≡ mapped (λ j. field_names_by_record l (at j) (m.written j)) value t
+    → AgreesWithOwnerList at (recorded m s t) → Alike meaning m (occurrences t) → rename_fields (field_names_by_record l) meaning s (mapped m.written value t) ≡ mapped (λ j. field_names_by_record l (at j) (m.written j)) value t
 recorded-mapped l at meaning m value s none h e = refl
 recorded-mapped l at meaning m value s (one a) h e = λ i. one (recorded-mapped l at meaning m value None a h e i)
 recorded-mapped l at meaning m value s end h e = refl

@@ -11,11 +11,11 @@ use Rattle.ob0_tree.specs.Tree.{Sort, Tree, item, adds, array_type, assigns, beg
 use Rattle.ob0_tree.proofs.Leaves.{ascending_bounds, leaves_ascend}
 use Rattle.ob0_language_names.specs.Parts.{further_names, names_in_list, section_type}
 use Rattle.ob0_scope_table.specs.Resolution.{IsResolution, Resolution, ordinal_in}
-use Rattle.ob0_language_types.specs.Declarations.{constructor_after_formals, constructor_after_types, constructor_after_variables, procedure_constructor_count}
+use Rattle.ob0_language_types.specs.Declarations.{constructor_after_formals, constructors_before_variables, constructor_after_variables, procedure_constructor_count}
 use Rattle.ob0_language_types.specs.Expressions.{Meanings}
 use Rattle.ob0_language_types.specs.Typing.{constructor_count, group_constructor_count, object_type}
 use Rattle.ob0_language_values.specs.Values.{Shape}
-use Rattle.ob0_types_fields.specs.Owned.{GivesListedOwners, FieldsGiveAllOwners, fields_with_owners, owners_in_tree, owners_in_block, owners_in_formals, owners_in_group, owners_in_groups, owners_in_module, owners_in_procedure, owners_in_procedures, owners_in_section, owners_in_sections, owners_in_resolution, owners_in_type, owners_in_type_section, owners_in_types, owners_in_variable_section, owners_in_variables, type_after_selector, identifiers_without_owners, unowned_identifiers, table_with_owners}
+use Rattle.ob0_types_fields.specs.Owned.{AgreesWithOwnerList, FieldsGiveAllOwners, fields_with_owners, owners_in_tree, owners_in_block, owners_in_formals, owners_in_group, owners_in_groups, owners_in_module, owners_in_procedure, owners_in_procedures, owners_in_section, owners_in_sections, owners_in_resolution, owners_in_type, owners_in_type_section, owners_in_types, owners_in_variable_section, owners_in_variables, type_after_selector, identifiers_without_owners, unowned_identifiers, table_with_owners}
 use Rattle.ob0_types_fields.proofs.OwnedModules.{listed_owners_are_complete-holds}
 
 abbrev pub tokens : List (ℕ × Option ℕ) → List ℕ
@@ -152,12 +152,12 @@ mutual
   block-tokens : {P : Type 0} (m : Meanings ℕ Shape P) (k : ℕ) (b : Tree ℕ block) → tokens (owners_in_block m k b) ≡ names_without_roles (identifiers role.Declaring b)
   block-tokens m k (has_body (declares cs ts vs ps) st) =
       let b : Tree ℕ block = has_body (declares cs ts vs ps) st in
-      let V : List (ℕ × Option ℕ) = owners_in_variable_section (constructor_after_types k b) vs in
+      let V : List (ℕ × Option ℕ) = owners_in_variable_section (constructors_before_variables k b) vs in
       let Q : List (ℕ × Option ℕ) = owners_in_procedures m (constructor_after_variables k b) ps in
       both-tokens (identifiers_without_owners cs ++ (owners_in_type_section k ts ++ (V ++ Q))) (owners_in_tree m None st) (identifiers role.Declaring cs ++ (identifiers role.Declaring ts ++ (identifiers role.Declaring vs ++ identifiers role.Declaring ps))) (identifiers role.Declaring st)
       (both-tokens (identifiers_without_owners cs) (owners_in_type_section k ts ++ (V ++ Q)) (identifiers role.Declaring cs) (identifiers role.Declaring ts ++ (identifiers role.Declaring vs ++ identifiers role.Declaring ps)) (plain-tokens cs)
       (both-tokens (owners_in_type_section k ts) (V ++ Q) (identifiers role.Declaring ts) (identifiers role.Declaring vs ++ identifiers role.Declaring ps) (type_section-tokens k ts)
-      (both-tokens V Q (identifiers role.Declaring vs) (identifiers role.Declaring ps) (variable_section-tokens (constructor_after_types k b) vs) (procedures-tokens m (constructor_after_variables k b) ps))))
+      (both-tokens V Q (identifiers role.Declaring vs) (identifiers role.Declaring ps) (variable_section-tokens (constructors_before_variables k b) vs) (procedures-tokens m (constructor_after_variables k b) ps))))
       (owners_in_tree-tokens m None st)
 
   procedures-tokens : {P : Type 0} (m : Meanings ℕ Shape P) (k : ℕ) (ps : Tree ℕ (items procedure)) → tokens (owners_in_procedures m k ps) ≡ names_without_roles (identifiers role.Declaring ps)
@@ -185,7 +185,7 @@ kept_below ((x, Some k) ∷ xs) table low high i ascend below =
     kept_below xs (set table x (Some k)) (x + 1) high i ascend.1 (omega (arith, ascend.0, below)) ∙ get_or-set_other table x i (Some k) None other
 
 fields_are_identifiers : (xs : List (ℕ × Option ℕ)) (table : List (Option ℕ)) (low high : ℕ) → AreAscending low (tokens xs) high → high ≤ length table → ((i : ℕ) → low ≤ i → i < high → ordinal_in table i ≡ None)
-    → GivesListedOwners (ordinal_in (table_with_owners table (fields_with_owners xs))) xs
+    → AgreesWithOwnerList (ordinal_in (table_with_owners table (fields_with_owners xs))) xs
 fields_are_identifiers [] table low high ascend within vacant = tt
 fields_are_identifiers ((x, None) ∷ xs) table low high ascend within vacant =
     let last = ascending_bounds (x + 1) (tokens xs) high ascend.1 in (
@@ -205,7 +205,7 @@ fields_are_identifiers ((x, Some k) ∷ xs) table low high ascend within vacant 
 abbrev pub with_owners : Resolution → List (Option ℕ)
 with_owners r = table_with_owners (replicate (length r.module_read.source.tokens) None) (fields_with_owners (owners_in_resolution r))
 
-pub fields_have-owners : (r : Resolution) → IsResolution r → GivesListedOwners (ordinal_in (with_owners r)) (owners_in_resolution r)
+pub fields_have-owners : (r : Resolution) → IsResolution r → AgreesWithOwnerList (ordinal_in (with_owners r)) (owners_in_resolution r)
 fields_have-owners r named =
     let n : ℕ = length r.module_read.source.tokens in
     let nothing : Option ℕ = None in

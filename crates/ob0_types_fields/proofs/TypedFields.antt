@@ -17,10 +17,10 @@ use Rattle.ob0_language_names.specs.Parts.{formal_names, formal_sections, furthe
 use Rattle.ob0_scope_table.specs.Resolution.{IsResolution, Resolution, ordinal_in}
 use Rattle.ob0_language_names.specs.Scopes.{label_from_ordinal}
 use Rattle.ob0_language_names.proofs.NameEquality.{same_name-refl}
-use Rattle.ob0_language_types.specs.Declarations.{constructor_after_formals, constructor_after_types, constructor_after_variables, block_constructor_count, formals_constructor_count, procedure_constructor_count, procedures_constructor_count, types_constructor_count, variables_constructor_count}
+use Rattle.ob0_language_types.specs.Declarations.{constructor_after_formals, constructors_before_variables, constructor_after_variables, block_constructor_count, formals_constructor_count, procedure_constructor_count, procedures_constructor_count, types_constructor_count, variables_constructor_count}
 use Rattle.ob0_language_types.specs.Environments.{meanings}
 use Rattle.ob0_scope_table.specs.LabelledTrees.{tree_with_labels, label_at_token}
-use Rattle.ob0_language_types.specs.Typing.{array_length, constant_value, constructor_count, denoted, denoted_group, denoted_groups, depth, element_type, group_constructor_count, groups_constructor_count, scalars, shape_of_field, type_of_declaration, prepend_fields, check_limits}
+use Rattle.ob0_language_types.specs.Typing.{array_length, constant_value, constructor_count, denoted, denoted_group, denoted_groups, depth, element_type, group_constructor_count, groups_constructor_count, scalars, shape_of_field, type_of_object, prepend_fields, check_limits}
 use Rattle.ob0_language_types.specs.WellTyped.{TypeEnvironment, WellTyped}
 use Rattle.ob0_language_types.proofs.Literals.{some_inverse}
 use Rattle.ob0_language_types.proofs.TypedElsewhere.{then_some}
@@ -126,19 +126,19 @@ module _ (r : Resolution) where
   types-counted : (ds : Tree ℕ (items type_name)) → length (constructed_types (meaning r) None ds) ≡ types_constructor_count ds
   types-counted end = refl
   types-counted (more (declares_type x u) ds) =
-      length-append (constructed_types (meaning r) None (declares_type x u)) (constructed_types (meaning r) None ds) ∙ (λ i. type-counted (type_of_declaration ((meaning r).object_for x)) u i + types-counted ds i)
+      length-append (constructed_types (meaning r) None (declares_type x u)) (constructed_types (meaning r) None ds) ∙ (λ i. type-counted (type_of_object ((meaning r).object_for x)) u i + types-counted ds i)
 
   variables-counted : (gs : Tree ℕ (items variable)) → length (constructed_types (meaning r) None gs) ≡ variables_constructor_count gs
   variables-counted end = refl
   variables-counted (more (declares_variable ns u) gs) =
-      length-append (constructed_types (meaning r) None (declares_variable ns u)) (constructed_types (meaning r) None gs) ∙ (λ i. type-counted (type_of_declaration ((meaning r).object_for (first_name_listed ns))) u i + variables-counted gs i)
+      length-append (constructed_types (meaning r) None (declares_variable ns u)) (constructed_types (meaning r) None gs) ∙ (λ i. type-counted (type_of_object ((meaning r).object_for (first_name_listed ns))) u i + variables-counted gs i)
 
   sections-counted : (fs : Tree ℕ (items further_section)) → length (constructed_types (meaning r) None fs) ≡ formals_constructor_count fs
   sections-counted end = refl
   sections-counted (more (then_section (value_section ns u)) fs) =
-      length-append (constructed_types (meaning r) None (value_section ns u)) (constructed_types (meaning r) None fs) ∙ (λ i. type-counted (type_of_declaration ((meaning r).object_for (first_name_listed ns))) u i + sections-counted fs i)
+      length-append (constructed_types (meaning r) None (value_section ns u)) (constructed_types (meaning r) None fs) ∙ (λ i. type-counted (type_of_object ((meaning r).object_for (first_name_listed ns))) u i + sections-counted fs i)
   sections-counted (more (then_section (variable_section ns u)) fs) =
-      length-append (constructed_types (meaning r) None (variable_section ns u)) (constructed_types (meaning r) None fs) ∙ (λ i. type-counted (type_of_declaration ((meaning r).object_for (first_name_listed ns))) u i + sections-counted fs i)
+      length-append (constructed_types (meaning r) None (variable_section ns u)) (constructed_types (meaning r) None fs) ∙ (λ i. type-counted (type_of_object ((meaning r).object_for (first_name_listed ns))) u i + sections-counted fs i)
 
   type_section-counted : (ts : Tree ℕ (maybe type_names)) → length (constructed_types (meaning r) None ts) ≡ types_constructor_count (section_types ts)
   type_section-counted none = refl
@@ -380,30 +380,30 @@ module _ (r : Resolution) where
   types-have end are_typed plain once k = tt
   types-have (more (declares_type x u) ds) are_typed plain once k =
       let o = and_parts (has_distinct_fields (mapped text value u)) (types_have_distinct_fields (mapped text value ds)) once in
-      let t : Option Shape = type_of_declaration ((meaning r).object_for x) in
+      let t : Option Shape = type_of_object ((meaning r).object_for x) in
       parts-have (constructed_types (meaning r) t u) (constructed_types (meaning r) None ds) k (k + constructor_count u) (fields_in_type k u) (fields_in_types (k + constructor_count u) ds) (ap (λ c. k + c) (sym (type-counted r t u)))
-      (declared-have t u are_typed.0.0 (ap type_of_declaration are_typed.0.1) are_typed.0.2 plain.0 o.0 k) (types-have ds are_typed.1 plain.1 o.1 (k + constructor_count u))
+      (declared-have t u are_typed.0.0 (ap type_of_object are_typed.0.1) are_typed.0.2 plain.0 o.0 k) (types-have ds are_typed.1 plain.1 o.1 (k + constructor_count u))
 
   variables-have : (gs : Tree ℕ (items variable)) → VariablesAreTyped r gs → VariablesPlain (tree_with_labels r gs) → variables_have_distinct_fields (mapped text value gs) ≡ true → (k : ℕ) → AllByRecursion (HasField (constructed_types (meaning r) None gs) k) (fields_in_variables k gs)
   variables-have end are_typed plain once k = tt
   variables-have (more (declares_variable (listed x others) u) gs) are_typed plain once k =
       let o = and_parts (has_distinct_fields (mapped text value u)) (variables_have_distinct_fields (mapped text value gs)) once in
-      let t : Option Shape = type_of_declaration ((meaning r).object_for x) in
+      let t : Option Shape = type_of_object ((meaning r).object_for x) in
       parts-have (constructed_types (meaning r) t u) (constructed_types (meaning r) None gs) k (k + constructor_count u) (fields_in_type k u) (fields_in_variables (k + constructor_count u) gs) (ap (λ c. k + c) (sym (type-counted r t u)))
-      (declared-have t u are_typed.0.0 (ap type_of_declaration are_typed.0.1) are_typed.0.2 plain.0 o.0 k) (variables-have gs are_typed.1 plain.1 o.1 (k + constructor_count u))
+      (declared-have t u are_typed.0.0 (ap type_of_object are_typed.0.1) are_typed.0.2 plain.0 o.0 k) (variables-have gs are_typed.1 plain.1 o.1 (k + constructor_count u))
 
   sections-have : (fs : Tree ℕ (items further_section)) → FormalsAreTyped r fs → SectionsPlain (tree_with_labels r fs) → formals_have_distinct_fields (mapped text value fs) ≡ true → (k : ℕ) → AllByRecursion (HasField (constructed_types (meaning r) None fs) k) (fields_in_sections k fs)
   sections-have end are_typed plain once k = tt
   sections-have (more (then_section (value_section (listed x others) u)) fs) are_typed plain once k =
       let o = and_parts (has_distinct_fields (mapped text value u)) (formals_have_distinct_fields (mapped text value fs)) once in
-      let t : Option Shape = type_of_declaration ((meaning r).object_for x) in
+      let t : Option Shape = type_of_object ((meaning r).object_for x) in
       parts-have (constructed_types (meaning r) t u) (constructed_types (meaning r) None fs) k (k + constructor_count u) (fields_in_type k u) (fields_in_sections (k + constructor_count u) fs) (ap (λ c. k + c) (sym (type-counted r t u)))
-      (declared-have t u are_typed.0.0 (ap type_of_declaration are_typed.0.1) are_typed.0.2 plain.0 o.0 k) (sections-have fs are_typed.1 plain.1 o.1 (k + constructor_count u))
+      (declared-have t u are_typed.0.0 (ap type_of_object are_typed.0.1) are_typed.0.2 plain.0 o.0 k) (sections-have fs are_typed.1 plain.1 o.1 (k + constructor_count u))
   sections-have (more (then_section (variable_section (listed x others) u)) fs) are_typed plain once k =
       let o = and_parts (has_distinct_fields (mapped text value u)) (formals_have_distinct_fields (mapped text value fs)) once in
-      let t : Option Shape = type_of_declaration ((meaning r).object_for x) in
+      let t : Option Shape = type_of_object ((meaning r).object_for x) in
       parts-have (constructed_types (meaning r) t u) (constructed_types (meaning r) None fs) k (k + constructor_count u) (fields_in_type k u) (fields_in_sections (k + constructor_count u) fs) (ap (λ c. k + c) (sym (type-counted r t u)))
-      (declared-have t u are_typed.0.0 (ap type_of_declaration are_typed.0.1) are_typed.0.2 plain.0 o.0 k) (sections-have fs are_typed.1 plain.1 o.1 (k + constructor_count u))
+      (declared-have t u are_typed.0.0 (ap type_of_object are_typed.0.1) are_typed.0.2 plain.0 o.0 k) (sections-have fs are_typed.1 plain.1 o.1 (k + constructor_count u))
 
   type_section-have : (ts : Tree ℕ (maybe type_names)) → TypesAreTyped r (section_types ts) → TypesPlain (section_types (tree_with_labels r ts)) → types_have_distinct_fields (section_types (mapped text value ts)) ≡ true → (k : ℕ)
       → AllByRecursion (HasField (constructed_types (meaning r) None ts) k) (fields_in_types k (section_types ts))
@@ -432,12 +432,12 @@ module _ (r : Resolution) where
         let o1 = and_parts _ (T && (V && P)) once in
         let o2 = and_parts T (V && P) o1.1 in
         let o3 = and_parts V P o2.1 in
-        parts-have (constructed_types (meaning r) None ts) (constructed_types (meaning r) None vs ++ constructed_types (meaning r) None ps) k (constructor_after_types k b)
-        (fields_in_types k (section_types ts)) (fields_in_variables (constructor_after_types k b) (section_variables vs) ++ declared_in_procedures (constructor_after_variables k b) ps) (ap (λ c. k + c) (sym (type_section-counted r ts)))
+        parts-have (constructed_types (meaning r) None ts) (constructed_types (meaning r) None vs ++ constructed_types (meaning r) None ps) k (constructors_before_variables k b)
+        (fields_in_types k (section_types ts)) (fields_in_variables (constructors_before_variables k b) (section_variables vs) ++ declared_in_procedures (constructor_after_variables k b) ps) (ap (λ c. k + c) (sym (type_section-counted r ts)))
         (type_section-have ts are_typed.0.0 plain.0.0 o2.0 k)
-        (parts-have (constructed_types (meaning r) None vs) (constructed_types (meaning r) None ps) (constructor_after_types k b) (constructor_after_variables k b)
-        (fields_in_variables (constructor_after_types k b) (section_variables vs)) (declared_in_procedures (constructor_after_variables k b) ps) (ap (λ c. constructor_after_types k b + c) (sym (variable_section-counted r vs)))
-        (variable_section-have vs are_typed.0.1 plain.0.1 o3.0 (constructor_after_types k b)) (procedures-have ps are_typed.1 plain.1 o3.1 (constructor_after_variables k b)))
+        (parts-have (constructed_types (meaning r) None vs) (constructed_types (meaning r) None ps) (constructors_before_variables k b) (constructor_after_variables k b)
+        (fields_in_variables (constructors_before_variables k b) (section_variables vs)) (declared_in_procedures (constructor_after_variables k b) ps) (ap (λ c. constructors_before_variables k b + c) (sym (variable_section-counted r vs)))
+        (variable_section-have vs are_typed.0.1 plain.0.1 o3.0 (constructors_before_variables k b)) (procedures-have ps are_typed.1 plain.1 o3.1 (constructor_after_variables k b)))
 
     procedures-have : (ps : Tree ℕ (items procedure)) → ProceduresAreTyped r ps → ProceduresPlain (tree_with_labels r ps) → procedures_once (mapped text value ps) ≡ true → (k : ℕ) → AllByRecursion (HasField (constructed_types (meaning r) None ps) k) (declared_in_procedures k ps)
     procedures-have end are_typed plain once k = tt

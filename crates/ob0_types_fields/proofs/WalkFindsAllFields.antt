@@ -4,7 +4,7 @@ use Rattle.ob0_tree.specs.declared.tree.Role.{Role}
 use Rattle.ob0_tree.specs.declared.tree.Role.TheVariants as role
 use Rattle.ob0_tree.specs.Tree.{Sort, Tree, item, adds, array_type, assigns, begins, branches, calls, compares, declares, declares_constant, declares_constants, declares_procedure, declares_type, declares_types, declares_variable, declares_variables, designator, else_branch, elsif_branch, empty, end, field, has_body, identifiers, index, integer, is_module, listed, more, multiplies, named_type, negation, no_arguments, no_fields, no_formals, none, one, parenthesised, product, record_type, relates, repeat_loop, runs, some_arguments, some_fields, some_formals, sum, then_argument, then_fields, then_name, then_section, then_statement, value_section, variable_section, while_loop, block, written_type, fields, further_fields, section, further_section, formals, type_name, type_names, variable, variables, procedure, module_text, items, maybe, selector, Item}
 use Rattle.ob0_language_names.specs.Parts.{formal_sections, names_in_list, section_type, section_types, section_variables}
-use Rattle.ob0_language_types.specs.Declarations.{constructor_after_formals, constructor_after_types, constructor_after_variables, procedure_constructor_count}
+use Rattle.ob0_language_types.specs.Declarations.{constructor_after_formals, constructors_before_variables, constructor_after_variables, procedure_constructor_count}
 use Rattle.ob0_language_types.specs.Expressions.{Meanings}
 use Rattle.ob0_language_types.specs.Typing.{constructor_count, element_type, field_type, group_constructor_count, object_type}
 use Rattle.ob0_language_values.specs.Values.{Shape, integer_shape}
@@ -177,11 +177,11 @@ mutual
   block-fields : {P : Type 0} (m : Meanings ℕ Shape P) (k : ℕ) (b : Tree ℕ block) → fields_with_owners (owners_in_block m k b) ≡ fields_in_block m k b
   block-fields m k (has_body (declares cs ts vs ps) st) =
       let b : Tree ℕ block = has_body (declares cs ts vs ps) st in
-      let V : List (ℕ × Option ℕ) = owners_in_variable_section (constructor_after_types k b) vs in
+      let V : List (ℕ × Option ℕ) = owners_in_variable_section (constructors_before_variables k b) vs in
       let Q : List (ℕ × Option ℕ) = owners_in_procedures m (constructor_after_variables k b) ps in
       among-both (identifiers_without_owners cs ++ (owners_in_type_section k ts ++ (V ++ Q))) (owners_in_tree m None st)
       (after-plain cs (owners_in_type_section k ts ++ (V ++ Q)) (among-both (owners_in_type_section k ts) (V ++ Q) (type_section-fields k ts)
-      (among-both V Q (variable_section-fields (constructor_after_types k b) vs) (procedures-fields m (constructor_after_variables k b) ps))))
+      (among-both V Q (variable_section-fields (constructors_before_variables k b) vs) (procedures-fields m (constructor_after_variables k b) ps))))
       (fields_in_tree-fields m st)
 
   procedures-fields : {P : Type 0} (m : Meanings ℕ Shape P) (k : ℕ) (ps : Tree ℕ (items procedure)) → fields_with_owners (owners_in_procedures m k ps) ≡ fields_in_procedures m k ps

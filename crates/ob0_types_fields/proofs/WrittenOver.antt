@@ -8,7 +8,7 @@ use Rattle.std.specs.List.Sorted.{IsNonDecreasingBy, IsPartitionPoint}
 use Rattle.ob0_tree.specs.Order.{AreAscending}
 use Rattle.ob0_types_fields.specs.declared.field_name.FieldName.{FieldName}
 use Rattle.ob0_types_fields.specs.Identifiers.{tokens_of}
-use Rattle.ob0_types_fields.specs.FieldLists.{HasOthersWithin, overwritten_fields}
+use Rattle.ob0_types_fields.specs.FieldLists.{HasSameTokensWith, overwritten_fields}
 
 pub past_end : (xs : List FieldName) (k : ℕ) (ys : List FieldName) → length xs ≤ k → overwritten_fields xs k ys ≡ xs
 past_end xs k [] le = refl
@@ -60,7 +60,7 @@ at_seam (y ∷ before) x rest d = at_seam before x rest d
 
 -- ---- the position at which they are written
 
-module _ (all before others after : List FieldName) (h : HasOthersWithin all before others after) where
+module _ (all before others after : List FieldName) (h : HasSameTokensWith all before others after) where
   parts_same : tokens_of h.old ++ tokens_of after ≡ tokens_of others ++ tokens_of after
   parts_same =
       append_cancel_left (tokens_of before) (tokens_of h.old ++ tokens_of after) (tokens_of others ++ tokens_of after)
@@ -118,11 +118,11 @@ module _ (all before others after : List FieldName) (h : HasOthersWithin all bef
         (λ same. omega (arith, le, same)) (cases_lt (length before) k))
         (cases_lt k (length before))
 
-pub without_others : (all before others after : List FieldName) → HasOthersWithin all before others after → slice_get others 0 ≡ None → all ≡ before ++ (others ++ after)
+pub without_others : (all before others after : List FieldName) → HasSameTokensWith all before others after → slice_get others 0 ≡ None → all ≡ before ++ (others ++ after)
 without_others all before [] after h e = none_over all before [] after h refl
 without_others all before (z ∷ zs) after h e = absurd (cc)
 
-pub start_found : (all before others after : List FieldName) → HasOthersWithin all before others after → (y : FieldName) → slice_get others 0 ≡ Some y
+pub start_found : (all before others after : List FieldName) → HasSameTokensWith all before others after → (y : FieldName) → slice_get others 0 ≡ Some y
     → (k : ℕ) → IsPartitionPoint (λ x. nat_lt x.token y.token ≡ true) (λ x. nat_lt x.token y.token ≡ false) all k → k ≡ length before
 start_found all before [] after h y e k point = absurd (cc)
 start_found all before (z ∷ zs) after h y e k point =

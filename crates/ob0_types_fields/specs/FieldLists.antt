@@ -46,7 +46,7 @@ overwritten_fields xs k (y ∷ ys) = overwritten_fields (set xs k y) (k + 1) ys
 -- States that the list `all` consists of `before`, then old fields at the same tokens as the fields
 -- in `others`, and then `after`. Also states that the tokens of `all` are in strictly ascending
 -- order.
-pub record HasOthersWithin (all before others after : List FieldName) : Type 0 where
+pub record HasSameTokensWith (all before others after : List FieldName) : Type 0 where
   pub old : List FieldName
   pub top : ℕ
   pub in_order : AreAscending 0 (tokens_of all) top

@@ -11,7 +11,7 @@ use Rattle.ob0_language_names.specs.Names.{Name}
 use Rattle.ob0_scope_table.specs.Resolution.{IsResolution, Resolution}
 use Rattle.ob0_language_types.specs.Bindings.{declared_object}
 use Rattle.ob0_language_types.specs.Expressions.{Meanings, Object}
-use Rattle.ob0_language_types.specs.Typing.{element_type, field_type, type_of_declaration}
+use Rattle.ob0_language_types.specs.Typing.{element_type, field_type, type_of_object}
 use Rattle.ob0_language_types.specs.WellTyped.{Signature, WellTyped}
 use Rattle.ob0_types_table.specs.FieldPlaces.{field_selected}
 use Rattle.ob0_types_table.specs.declared.known.FieldId.{FieldId}
@@ -46,14 +46,14 @@ constructed_types m t (some_fields ns of) =
 constructed_types m t (then_fields f) = constructed_types m t f
 constructed_types m t (some_formals first others) = constructed_types m t first ++ constructed_types m t others
 constructed_types m t (value_section ns of) =
-    constructed_types m (type_of_declaration (m.object_for (first_name_listed ns))) of
+    constructed_types m (type_of_object (m.object_for (first_name_listed ns))) of
 constructed_types m t (variable_section ns of) =
-    constructed_types m (type_of_declaration (m.object_for (first_name_listed ns))) of
+    constructed_types m (type_of_object (m.object_for (first_name_listed ns))) of
 constructed_types m t (then_section s) = constructed_types m t s
-constructed_types m t (declares_type name of) = constructed_types m (type_of_declaration (m.object_for name)) of
+constructed_types m t (declares_type name of) = constructed_types m (type_of_object (m.object_for name)) of
 constructed_types m t (declares_types ts) = constructed_types m t ts
 constructed_types m t (declares_variable ns of) =
-    constructed_types m (type_of_declaration (m.object_for (first_name_listed ns))) of
+    constructed_types m (type_of_object (m.object_for (first_name_listed ns))) of
 constructed_types m t (declares_variables vs) = constructed_types m t vs
 constructed_types m t (declares_procedure name fs b closing) = constructed_types m t fs ++ constructed_types m t b
 constructed_types m t (declares cs ts vs ps) =

@@ -14,7 +14,7 @@ use Rattle.ob0_language_names.specs.Names.{Name, same_name}
 use Rattle.ob0_language_names.specs.Parts.{formal_sections, module_block, section_types, section_variables}
 use Rattle.ob0_scope_table.specs.Resolution.{IsResolution, Resolution, span_at}
 use Rattle.ob0_scope_table.specs.Spans.{is_on}
-use Rattle.ob0_language_types.specs.Declarations.{constructor_after_formals, constructor_after_types, constructor_after_variables, procedure_constructor_count}
+use Rattle.ob0_language_types.specs.Declarations.{constructor_after_formals, constructors_before_variables, constructor_after_variables, procedure_constructor_count}
 use Rattle.ob0_language_types.specs.WellTyped.{WellTyped}
 use Rattle.ob0_types_fields.specs.declared.field_name.FieldName.{FieldName}
 use Rattle.ob0_types_fields.specs.Owned.{fields_with_owners, fields_in_sections, fields_in_types, fields_in_variables, owners_in_resolution}
@@ -71,7 +71,7 @@ abbrev mutual
   pub declared_in_block : ℕ → Tree ℕ block → List FieldName
   declared_in_block k (has_body (declares cs ts vs ps) statements) =
       fields_in_types k (section_types ts)
-      ++ (fields_in_variables (constructor_after_types k (has_body (declares cs ts vs ps) statements))
+      ++ (fields_in_variables (constructors_before_variables k (has_body (declares cs ts vs ps) statements))
       (section_variables vs)
       ++ declared_in_procedures (constructor_after_variables k (has_body (declares cs ts vs ps) statements)) ps)
 

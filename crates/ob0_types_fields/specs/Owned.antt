@@ -12,7 +12,7 @@ use Rattle.ob0_language_names.specs.Names.{Name}
 use Rattle.ob0_language_names.specs.Parts.{formal_sections, names_in_list, section_type, section_types, section_variables}
 use Rattle.ob0_scope_table.specs.Resolution.{IsResolution, Resolution, ordinal_in}
 use Rattle.ob0_language_types.specs.Bindings.{declared_object}
-use Rattle.ob0_language_types.specs.Declarations.{constructor_after_formals, constructor_after_types, constructor_after_variables, procedure_constructor_count}
+use Rattle.ob0_language_types.specs.Declarations.{constructor_after_formals, constructors_before_variables, constructor_after_variables, procedure_constructor_count}
 use Rattle.ob0_language_types.specs.Expressions.{Meanings, Object}
 use Rattle.ob0_types_table.specs.FieldPlaces.{field_selected}
 use Rattle.ob0_language_types.specs.Typing.{constructor_count, element_type, field_type, group_constructor_count, object_type}
@@ -166,7 +166,7 @@ abbrev mutual
   pub owners_in_block : {P : Type 0} → Meanings ℕ Shape P → ℕ → Tree ℕ block → List (ℕ × Option ℕ)
   owners_in_block m k (has_body (declares cs ts vs ps) statements) =
       (identifiers_without_owners cs ++ (owners_in_type_section k ts
-      ++ (owners_in_variable_section (constructor_after_types k (has_body (declares cs ts vs ps) statements)) vs
+      ++ (owners_in_variable_section (constructors_before_variables k (has_body (declares cs ts vs ps) statements)) vs
       ++ owners_in_procedures m (constructor_after_variables k (has_body (declares cs ts vs ps) statements)) ps)))
       ++ owners_in_tree m None statements
 
@@ -219,9 +219,9 @@ owners_in_resolution r =
     (tree_of r.module_read)
 
 -- states that, for each token in the list, the table and the list give the same owner
-abbrev pub GivesListedOwners : (ℕ → Option ℕ) → List (ℕ × Option ℕ) → Type 0
-GivesListedOwners table [] = Unit {0}
-GivesListedOwners table (x ∷ xs) = (table x.0 ≡ x.1) × GivesListedOwners table xs
+abbrev pub AgreesWithOwnerList : (ℕ → Option ℕ) → List (ℕ × Option ℕ) → Type 0
+AgreesWithOwnerList table [] = Unit {0}
+AgreesWithOwnerList table (x ∷ xs) = (table x.0 ≡ x.1) × AgreesWithOwnerList table xs
 
 -- States that a table has the owners of all fields of a well-typed module (`IsOwnerTable`) if it agrees with the list
 -- `owners_in_resolution`. For each identifier in the list, the table and the list must give the same owner. This holds
@@ -231,7 +231,7 @@ ListedOwnersAreComplete =
     (r : Resolution) (owners : List (Option ℕ))
     → IsResolution r
     → WellTyped (named_tree_of r.module_read)
-    → GivesListedOwners (ordinal_in owners) (owners_in_resolution r)
+    → AgreesWithOwnerList (ordinal_in owners) (owners_in_resolution r)
     → IsOwnerTable r.module_read owners
 
 -- returns the identifiers in a list that have an owner; these are the field identifiers
@@ -368,7 +368,7 @@ abbrev mutual
   pub fields_in_block : {P : Type 0} → Meanings ℕ Shape P → ℕ → Tree ℕ block → List FieldName
   fields_in_block m k (has_body (declares cs ts vs ps) statements) =
       (fields_in_types k (section_types ts)
-      ++ (fields_in_variables (constructor_after_types k (has_body (declares cs ts vs ps) statements))
+      ++ (fields_in_variables (constructors_before_variables k (has_body (declares cs ts vs ps) statements))
       (section_variables vs)
       ++ fields_in_procedures m (constructor_after_variables k (has_body (declares cs ts vs ps) statements)) ps))
       ++ fields_in_tree m statements

@@ -29,7 +29,7 @@ ghost use Rattle.ob0_language_names.specs.Names.{same_name};
 ghost use Rattle.ob0_types_table.specs.KnownTables.{declared_object_in};
 ghost use Rattle.ob0_types_fields.specs.declared.field_name.FieldName.{FieldName};
 ghost use Rattle.ob0_types_fields.specs.Identifiers.{AreInTextOrder, declared_fields, field_at_offset, first, field_tokens_of_record, tokens_of_field};
-ghost use Rattle.ob0_types_fields.specs.FieldLists.{HasOthersWithin, moved_field, fields_before, fields_from, all_if_declared, field_lists_of, old_token_index, new_token_index, overwritten_fields};
+ghost use Rattle.ob0_types_fields.specs.FieldLists.{HasSameTokensWith, moved_field, fields_before, fields_from, all_if_declared, field_lists_of, old_token_index, new_token_index, overwritten_fields};
 ghost use Rattle.ob0_types_fields.specs.Owned.{fields_in_module, fields_in_tree, meanings_by_token};
 
 use crate::declaring::add_block_declared_fields;
@@ -99,7 +99,7 @@ impl FieldList {
     ) -> Result<FieldList, AllocError>
         ensures declared { IfOk result (λ f. f.declared ≡ self.declared) }
         ensures all { IfOk result (λ f. (before after : List FieldName)
-            → HasOthersWithin self.all before (fields_in_tree (meanings_by_token (declared_object_in known.now)
+            → HasSameTokensWith self.all before (fields_in_tree (meanings_by_token (declared_object_in known.now)
             resolved.now) (body_of statements.now)) after
             → f.all
             ≡ before ++ (fields_in_tree (meanings_by_token (declared_object_in known.now) resolved.now)
@@ -201,7 +201,7 @@ impl FieldList {
 /// Replaces fields of the list `all` by the fields in `found`. A replaced field has the same token
 /// as the field that replaces it. The replaced fields must be consecutive in `all`.
 fn replace_at_tokens(all: &mut FieldNameList, found: &[FieldName])
-    ensures { (before after : List FieldName) → HasOthersWithin all.old.items before found.now after
+    ensures { (before after : List FieldName) → HasSameTokensWith all.old.items before found.now after
         → all.new.items ≡ before ++ (found.now ++ after) }
 {
     match found.first() {

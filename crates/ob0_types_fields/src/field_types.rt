@@ -15,7 +15,7 @@
 
 ghost use Rattle.std.specs.Prelude.{◌≡◌, List, None, option_and_then, option_map};
 ghost use Rattle.ob0_tree.specs.View.{block_of, fields_of, formals_of, procedure_of, record_type_of, section_of, type_of, types_of, variables_of};
-ghost use Rattle.ob0_language_types.specs.Typing.{element_type, field_type, type_of_declaration};
+ghost use Rattle.ob0_language_types.specs.Typing.{element_type, field_type, type_of_object};
 ghost use Rattle.ob0_types_table.specs.KnownTables.{declared_object_in, shapes_of};
 ghost use Rattle.ob0_types_table.specs.Tables.{type_shape};
 ghost use Rattle.ob0_language_values.specs.Values.{Shape, integer_shape};
@@ -116,7 +116,7 @@ impl<'a, 't> ConstructorWalk<'a, 't> {
     /// anything else, or if the type is unknown.
     fn declared_type(&self, token: usize) -> Option<TypeId>
         ensures { shape_in_walk self.now result
-            ≡ type_of_declaration ((constructor_walk_meanings self.now).object_for token) }
+            ≡ type_of_object ((constructor_walk_meanings self.now).object_for token) }
     {
         let ordinal = self.resolved.ordinal_at(token)?;
         self.known.declared_type(ordinal)

@@ -140,7 +140,7 @@ impl DeclarationTable {
     ghost use Rattle.std.specs.Prelude.{◌≡◌, [], length, option_map, option_and_then, slice_get, slice_index_or, MatchOption};
     ghost use Rattle.ob0_types_table.specs.KnownTables.{declared_object_in, shapes_of};
     ghost use Rattle.ob0_types_table.specs.Tables.{AreEntriesInOrder, HasSizeOfShape, entry_shape, faulty_shape, object_view, type_shape};
-    ghost use Rattle.ob0_language_types.specs.Typing.{constant_of, element_type, field_type, type_of_declaration};
+    ghost use Rattle.ob0_language_types.specs.Typing.{constant_of, element_type, field_type, type_of_object};
     ghost use Rattle.ob0_language_values.specs.Scalars.{scalar_value};
     ghost use Rattle.ob0_language_values.specs.Values.{integer_shape};
 
@@ -201,7 +201,7 @@ impl DeclarationTable {
     /// parameter or a constant. Otherwise returns None.
     pub fn declared_type(&self, ordinal: usize) -> Option<TypeId>
         ensures { option_map (type_shape (shapes_of self.now)) result
-            ≡ type_of_declaration (declared_object_in self.now ordinal) }
+            ≡ type_of_object (declared_object_in self.now ordinal) }
     {
         match self.object(ordinal)? {
             Object::Named(of) => Some(*of),

@@ -33,7 +33,7 @@ use Rattle.ob0_world_rules.specs.Asks.{Ask, rename, inline_here, inline_all, for
 use Rattle.ob0_world_rules.specs.ClientAndServer.{OpenDocument, SentAsk, Editor, request_numbered, MessageToServer, notifies, requests, MessageToEditor, publishes, answers, Made, after_message}
 use Rattle.ob0_world_rules.specs.EditorActs.{ActResult, reads, without_answer}
 use Rattle.ob0_world_rules.specs.Editors.{Revision, Move, to_open, to_revise, to_close, to_ask, to_apply, to_drop, revised_document, with_document, Revises, IsAllowedMove}
-use Rattle.ob0_world_rules.specs.EveryEditor.{EditorAndServer, initial_editor_and_server, modeled_messages, notifications_among, Turn, editor_does, editor_says, server_takes, editor_takes, MayHappen, MayLeadTo, HoldsWithEditor}
+use Rattle.ob0_world_rules.specs.EveryEditor.{EditorAndServer, initial_editor_and_server, modeled_messages, notifications_among, Turn, editor_does, editor_sends_unmodeled, server_takes, editor_takes, MayHappen, MayLeadTo, HoldsWithEditor}
 use Rattle.ob0_world_rules.specs.Answers.{Here, Everywhere, IsEmptyIfWellTyped}
 use Rattle.ob0_world_rules.specs.Serving.{Publishes, Replies}
 use Rattle.ob0_world_rules.specs.Headline.{IsCorrectPublication, last_publication}
@@ -443,13 +443,13 @@ module _ (got : List (List ℕ)) (x : Exchange) (made : List Made) where
         };
       })
 
-  says_step : (q : List (Option MessageToServer)) (r : List (Option MessageToEditor)) (y : Exchange) → Tied got x q r made → Exchanges x editor_says y → Step got (model_of x q r made) editor_says y
+  says_step : (q : List (Option MessageToServer)) (r : List (Option MessageToEditor)) (y : Exchange) → Tied got x q r made → Exchanges x editor_sends_unmodeled y → Step got (model_of x q r made) editor_sends_unmodeled y
   says_step q r y tied (id, content, is_other, is) =
       let client : ClientFeatures = x.wire.session.client in
       let known : List SentAsk = x.editor.requested in
       let ids : List SentRequestId = with_non_ask_id x.ids id in
       let later : (later : List SentRequestId) × (ids ≡ x.ids ++ later) = others_more x.ids id in
-      subst (Step got (model_of x q r made) editor_says) (sym is)
+      subst (Step got (model_of x q r made) editor_sends_unmodeled) (sym is)
       (record {
         q = q ++ None ∷ [];
         r = r;
@@ -564,7 +564,7 @@ module _ (got : List (List ℕ)) (x : Exchange) (made : List Made) where
 
   turn_step : (q : List (Option MessageToServer)) (r : List (Option MessageToEditor)) (turn : Turn) (y : Exchange) → Tied got x q r made → Exchanges x turn y → Step got (model_of x q r made) turn y
   turn_step q r (editor_does move) y tied h = does_step q r move y tied h
-  turn_step q r editor_says y tied h = says_step q r y tied h
+  turn_step q r editor_sends_unmodeled y tied h = says_step q r y tied h
   turn_step q r server_takes y tied (wire, takes, is) = subst (Step got (model_of x q r made) server_takes) (sym is) (serve_step q r x.wire.to_server wire refl tied takes)
   turn_step q r editor_takes y tied h = get_step q r x.wire.to_editor y refl tied h
 

@@ -9,11 +9,11 @@ use Rattle.ob0_world_rules.proofs.CourseIsDetermined.{course_push}
 use Rattle.ob0_text.specs.declared.position_types.Unit.{Unit}
 use Rattle.ob0_world.specs.Queues.{IsReachable}
 use Rattle.ob0_world.specs.Seen.{Seen, HappensWithReport}
-use Rattle.ob0_world.specs.Worlds.{World, MovesWire, IsTied, SameHistory, StepsUnlessEnded, WorldSteps, FailsGivenEnded, WorldFails}
+use Rattle.ob0_world.specs.Worlds.{World, MovesWire, QueuesMatch, SameHistory, StepsUnlessEnded, WorldSteps, FailsGivenEnded, WorldFails}
 use Rattle.ob0_world.specs.declared.faults.WorldFault.{WorldFault}
 use Rattle.ob0_world.specs.declared.faults.WorldFault.TheVariants.{Memory, Ended}
 
-pub made_step : (w old : World) (event : Event) (seen : Seen) (new : World) → w ≡ old → w.ended ≡ false → HappensWithReport w.connection.model event seen new.connection.model → MovesWire event w.connection.wire new.connection.wire → IsTied new.connection
+pub made_step : (w old : World) (event : Event) (seen : Seen) (new : World) → w ≡ old → w.ended ≡ false → HappensWithReport w.connection.model event seen new.connection.model → MovesWire event w.connection.wire new.connection.wire → QueuesMatch new.connection
     → new.steps ≡ w.steps + 1 → new.ended ≡ false → WorldSteps old event seen new
 made_step w old event seen new same on shows moves tied counted goes_on =
     subst (λ (x : World). WorldSteps x event seen new) same (subst (λ b. StepsUnlessEnded b w event seen new) (sym on) (record { made = record { happens = shows.0; moves = moves; tied = tied }; shown = shows.1; counted = counted; goes_on = goes_on }))

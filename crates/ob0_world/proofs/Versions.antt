@@ -44,7 +44,7 @@ use Rattle.ob0_world_rules.proofs.PerformsAct.{of_each}
 use Rattle.ob0_world_rules.proofs.Asked.{numbered_push, slice_get_last}
 use Rattle.ob0_world.specs.Queues.{IsReachable, RunsWithEditor}
 use Rattle.ob0_world.specs.Versions.{answer_uri_and_version, edited_uri_and_version, MentionsAskedDocument, MentionsDocumentOfAsk, IsFormatting, AnswersMentionVersions, VersionsSuffice}
-use Rattle.ob0_world.specs.Worlds.{Wire, Connection, Begins, SessionTakesFirst, EditorGetsFirst, AreMessagesToServer, IsTied, ConnectionStep, ConnectionCourse}
+use Rattle.ob0_world.specs.Worlds.{Wire, Connection, Begins, SessionTakesFirst, EditorGetsFirst, AreMessagesToServer, QueuesMatch, ConnectionStep, ConnectionCourse}
 use Rattle.ob0_world.proofs.Answering.{reacts_so, request_reaction, served, runs_on, inlining_at, none_read_back, actions_requested_at}
 use Rattle.ob0_world.proofs.Stepping.{reached_start, reached_more, reached_mirrors}
 
@@ -285,7 +285,7 @@ content_names requested (requests k uri ask) before after content sent running (
 
 record Known (w : Connection) : Type 0 where
   pub reached : IsReachable w.model
-  pub tied : IsTied w
+  pub tied : QueuesMatch w
   pub running : RunsWithEditor w.wire.session
   pub asks : AsksHeld w.model.editor.requested w.model.held w.model.to_server
   pub named : All (MentionsDocumentOfAsk w.model.editor.requested) w.wire.to_editor
@@ -293,7 +293,7 @@ record Known (w : Connection) : Type 0 where
 abbrev AsksOf : ClientAndServer → Type 0
 AsksOf w = AsksHeld w.editor.requested w.held w.to_server
 
-serve_known : (old new : Connection) (q : List MessageToServer) (c : List (List ℕ)) → old.model.to_server ≡ q → AreMessagesToServer old.model.editor.requested q c → ServerTakes old.model q new.model → SessionTakesFirst c old.wire new.wire → Known old → IsTied new → IsReachable new.model → Known new
+serve_known : (old new : Connection) (q : List MessageToServer) (c : List (List ℕ)) → old.model.to_server ≡ q → AreMessagesToServer old.model.editor.requested q c → ServerTakes old.model q new.model → SessionTakesFirst c old.wire new.wire → Known old → QueuesMatch new → IsReachable new.model → Known new
 serve_known old new [] [] waits says_all happens moves k tied reached =
     record {
       reached = reached;

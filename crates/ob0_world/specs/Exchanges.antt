@@ -27,7 +27,7 @@ use Rattle.ob0_world_rules.specs.Asks.{Ask, rename, inline_here, inline_all, for
 use Rattle.ob0_world_rules.specs.ClientAndServer.{OpenDocument, SentAsk, Editor, new_editor, open_at, MessageToServer, notifies, requests, MessageToEditor, publishes, answers, Applied, after_message}
 use Rattle.ob0_world_rules.specs.EditorActs.{ActResult, reads}
 use Rattle.ob0_world_rules.specs.Editors.{IsAllowedMove}
-use Rattle.ob0_world_rules.specs.EveryEditor.{EditorAndServer, initial_editor_and_server, Turn, editor_does, editor_says, server_takes, editor_takes, MayLeadTo, HoldsWithEditor}
+use Rattle.ob0_world_rules.specs.EveryEditor.{EditorAndServer, initial_editor_and_server, Turn, editor_does, editor_sends_unmodeled, server_takes, editor_takes, MayLeadTo, HoldsWithEditor}
 use Rattle.ob0_world_rules.specs.Answers.{IsEmptyIfWellTyped}
 use Rattle.ob0_world_rules.specs.Headline.{KeepsTheRun}
 use Rattle.ob0_world_rules.specs.Mirror.{in_step_document}
@@ -301,7 +301,7 @@ Exchanges old (editor_does move) new =
       announced = old.announced ++ announced;
       applied = old.applied ++ done.applied;
     })
-Exchanges old editor_says new =
+Exchanges old editor_sends_unmodeled new =
     (id : Option RequestId)
     × (content : List ℕ)
     × IsUnmodeledContent (with_non_ask_id old.ids id) content

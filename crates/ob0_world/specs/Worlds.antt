@@ -104,7 +104,7 @@ AreMessagesToServer requested (m ∷ messages) [] = ⊥
 
 -- States that the waiting contents are the messages that wait in the model, in both directions. The
 -- documents of the model's server are the session's.
-pub record IsTied (w : Connection) : Type 0 where
+pub record QueuesMatch (w : Connection) : Type 0 where
   pub says : AreMessagesToServer w.model.editor.requested w.model.to_server w.wire.to_server
   pub means : map (message_to_editor_in w.model.editor.requested) w.wire.to_editor
       ≡ map Some w.model.to_editor
@@ -112,11 +112,11 @@ pub record IsTied (w : Connection) : Type 0 where
 
 -- States that one event happens in the model, and that it changes the session and the contents
 -- (`MovesWire`). After the event, the waiting contents are the messages that wait in the model
--- (`IsTied`).
+-- (`QueuesMatch`).
 pub record ConnectionStep (old : Connection) (event : Event) (new : Connection) : Type 0 where
   pub happens : Happens old.model event new.model
   pub moves : MovesWire event old.wire new.wire
-  pub tied : IsTied new
+  pub tied : QueuesMatch new
 
 -- states that these events, one after another, lead from `old` to `new`
 abbrev pub ConnectionCourse : Connection → List Event → Connection → Type 0

@@ -15,7 +15,7 @@ ghost use Rattle.ob0_world_rules.specs.Happens.{does, take_message};
 ghost use Rattle.ob0_world.specs.Code.{event_of, publication_of};
 ghost use Rattle.ob0_world.specs.Seen.{report_of, HappensWithReport};
 ghost use Rattle.ob0_world.specs.Queues.{content_bytes, QueuesContent, MovesFirst, publication_in_message, publication_with_text, publication_in_first_content};
-ghost use Rattle.ob0_world.specs.Worlds.{Begins, EditorGetsFirst, ResultsMatch, ContentsMatch, IsTied, MovesWire, SameHistory, SessionTakesFirst, WritesContent};
+ghost use Rattle.ob0_world.specs.Worlds.{Begins, EditorGetsFirst, ResultsMatch, ContentsMatch, QueuesMatch, MovesWire, SameHistory, SessionTakesFirst, WritesContent};
 
 use crate::events::{Event, Seen};
 use crate::played::{Made, Played};
@@ -88,7 +88,7 @@ impl<T: TextStore> Connection<T> {
     /// Does nothing, and is called only for its contract, which is a law. By this law, the contents
     /// that wait in the two queues are the messages that wait in the model.
     pub(crate) fn contents_match_messages(&self)
-        ensures { IsTied self.now }
+        ensures { QueuesMatch self.now }
     {
         // The proof needs the contract of this call.
         let _waiting = self.to_server.len();

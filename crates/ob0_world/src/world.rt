@@ -4,7 +4,7 @@
 //! with their documents and messages. The second is the `Wire`: the session, and the contents of
 //! all messages in each direction, taken or still waiting.
 //!
-//! `MovesWire` states how each event changes the session and the contents, and `IsTied` joins the
+//! `MovesWire` states how each event changes the session and the contents, and `QueuesMatch` joins the
 //! two parts. (`Connection::contents_match_messages` is called only for its contract.) The contract
 //! of a step distinguishes whether the world had ended before the step (`WorldSteps`,
 //! `WorldFails`).

@@ -18,7 +18,7 @@ use Rattle.ob0_world_rules.specs.Headline.{KeepsTheRun}
 use Rattle.ob0_world_rules.specs.Laws.{EditsPreserveRun}
 use Rattle.ob0_world_rules.specs.PublicationsInOrder.{AnnouncedDocument, AreMadeForDocuments, versions_announced_by, versioned_uri}
 use Rattle.ob0_world_rules.specs.Editors.{Revision, Move, to_open, to_revise, to_close, to_ask, to_apply, to_drop, revised_document, with_document, Revises, notifications_of, AppliesAnswer, opening_result_as, IsAllowedMove}
-use Rattle.ob0_world_rules.specs.EveryEditor.{EditorAndServer, initial_editor_and_server, modeled_messages, notifications_among, model_state_of, Turn, editor_does, editor_says, server_takes, editor_takes, after_move, ServerTakesNext, after_editor_takes_next, MayHappen, MayLeadTo, HoldsWithEditor, HoldsForEveryEditor}
+use Rattle.ob0_world_rules.specs.EveryEditor.{EditorAndServer, initial_editor_and_server, modeled_messages, notifications_among, model_state_of, Turn, editor_does, editor_sends_unmodeled, server_takes, editor_takes, after_move, ServerTakesNext, after_editor_takes_next, MayHappen, MayLeadTo, HoldsWithEditor, HoldsForEveryEditor}
 use Rattle.ob0_world_rules.proofs.UriLaws.{get_put, uri_itself}
 use Rattle.ob0_world_rules.proofs.Asked.{Known}
 use Rattle.ob0_world_rules.proofs.Keeping.{AnswerFits, Kept, acts_kept, revise_kept, held_known}
@@ -254,7 +254,7 @@ module _ (unit : Unit) where
 
   turn_good : (w : EditorAndServer) (turn : Turn) (new : EditorAndServer) → Good w → MayHappen w turn new → Good new
   turn_good w (editor_does move) new good (done, announced, may, is) = subst Good (sym is) (move_good w move done announced good may)
-  turn_good w editor_says new good is = subst Good (sym is) (says_good w good)
+  turn_good w editor_sends_unmodeled new good is = subst Good (sym is) (says_good w good)
   turn_good w server_takes new good takes = serve_good w w.to_server new refl good takes
   turn_good w editor_takes new good is = subst Good (sym is) (take_good w w.to_editor refl good)
 

@@ -19,7 +19,7 @@ use Rattle.ob0_types.specs.CheckedModules.{IsWellTyped}
 use Rattle.ob0_language_fields.specs.Fields.{rename_fields_in_module}
 use Rattle.ob0_types_fields.specs.Owners.{IsOwnerTable, field_names_by_record}
 use Rattle.ob0_types_fields.specs.Identifiers.{field_identifiers}
-use Rattle.ob0_types_fields.specs.Owned.{GivesListedOwners, fields_with_owners, owners_in_resolution, table_with_owners}
+use Rattle.ob0_types_fields.specs.Owned.{AgreesWithOwnerList, fields_with_owners, owners_in_resolution, table_with_owners}
 use Rattle.ob0_types_fields.proofs.OwnedModules.{listed_owners_are_complete-holds}
 use Rattle.ob0_types_fields.proofs.OwnedTokens.{module-tokens, tokens}
 use Rattle.ob0_world_rules.proofs.OneModule.{Same, one_named_tree}
@@ -36,7 +36,7 @@ kept_below ((x, Some k) ∷ xs) table low high i ascend below =
 
 -- Writing the fields of ascending tokens into a table that has none of them gives each token its owner.
 has_owners : (xs : List (ℕ × Option ℕ)) (table : List (Option ℕ)) (low high : ℕ) → AreAscending low (tokens xs) high → high ≤ length table → ((i : ℕ) → low ≤ i → i < high → ordinal_in table i ≡ None)
-    → GivesListedOwners (ordinal_in (table_with_owners table (fields_with_owners xs))) xs
+    → AgreesWithOwnerList (ordinal_in (table_with_owners table (fields_with_owners xs))) xs
 has_owners [] table low high ascend within vacant = tt
 has_owners ((x, None) ∷ xs) table low high ascend within vacant =
     let last = ascending_bounds (x + 1) (tokens xs) high ascend.1 in (
@@ -56,7 +56,7 @@ abbrev table_of : Resolution → List (Option ℕ)
 table_of r = table_with_owners (replicate (length r.module_read.source.tokens) None) (fields_with_owners (owners_in_resolution r))
 
 module _ (r : Resolution) (well : IsWellTyped r) where
-  table_has : GivesListedOwners (ordinal_in (table_of r)) (owners_in_resolution r)
+  table_has : AgreesWithOwnerList (ordinal_in (table_of r)) (owners_in_resolution r)
   table_has =
       let n : ℕ = length r.module_read.source.tokens in
       let nothing : Option ℕ = None in
@@ -103,7 +103,7 @@ tail_is h = cc
 abbrev writes : (ℕ → written.Name) → List (Option ℕ) → ℕ → written.Name
 writes text table i = field_names_by_record marked_by (ordinal_in table i) (text i)
 
-same_owned : (text : ℕ → written.Name) (a b : List (Option ℕ)) (xs ys : List (ℕ × Option ℕ)) → GivesListedOwners (ordinal_in a) xs → GivesListedOwners (ordinal_in b) ys → tokens xs ≡ tokens ys
+same_owned : (text : ℕ → written.Name) (a b : List (Option ℕ)) (xs ys : List (ℕ × Option ℕ)) → AgreesWithOwnerList (ordinal_in a) xs → AgreesWithOwnerList (ordinal_in b) ys → tokens xs ≡ tokens ys
     → map (writes text a) (tokens xs) ≡ map (writes text b) (tokens ys) → xs ≡ ys
 same_owned text a b [] [] h k same wrote = refl
 same_owned text a b [] ((y, l) ∷ ys) h k same wrote = absurd (cc)

@@ -74,7 +74,7 @@ pub data Turn : Type 0 where
   -- the editor makes a move
   editor_does : Move → Turn
   -- the editor sends a message outside the model (`None`)
-  editor_says : Turn
+  editor_sends_unmodeled : Turn
   -- the server takes the first message that waits for it, and sends its replies
   server_takes : Turn
   -- the editor takes the first message that waits for it
@@ -126,7 +126,7 @@ MayHappen w (editor_does move) new =
     × (announced : List AnnouncedDocument)
     × IsAllowedMove w.editor move done announced
     × (new ≡ after_move w done announced)
-MayHappen w editor_says new = new ≡ record w { to_server = w.to_server ++ None ∷ [] }
+MayHappen w editor_sends_unmodeled new = new ≡ record w { to_server = w.to_server ++ None ∷ [] }
 MayHappen w server_takes new = ServerTakesNext w w.to_server new
 MayHappen w editor_takes new = new ≡ after_editor_takes_next w w.to_editor
 

@@ -9,7 +9,7 @@ use Rattle.ob0_text.specs.declared.position_types.Unit.TheVariants.{Utf16}
 use Rattle.ob0_text.specs.Units.{width_of}
 use Rattle.ob0_text.specs.Texts.{before, body_at, ends_line, fitting, lines, offset_of, position_in, position_of, starts_with_lf}
 use Rattle.ob0_text.specs.Texts as texts
-use Rattle.ob0_text.specs.Patches.{all_apart, cut_at, in_text_order, patched, patched_by_cuts, pieced, place}
+use Rattle.ob0_text.specs.Patches.{all_apart, cut_at, in_text_order, patched, patched_by_cuts, text_with_cuts, place}
 use Rattle.ob0_edits_tokens.specs.Ranges.{range_of}
 use Rattle.ob0_edits_tokens.specs.Removed.{span_of_tokens, text_after_removal}
 use Rattle.ob0_edits_tokens.specs.Replaced.{edit_at, parts, text_after_replacement}
@@ -50,21 +50,21 @@ unfolding position_of position_in lines ends_line starts_with_lf fitting
 inlines_parts = refl
 
 renames_made : patched (width_of Utf16) worked_text renames ≡ Some (joined renamed_lexemes)
-unfolding patched_by_cuts cut_at place all_apart in_text_order pieced before fitting lines body_at ends_line starts_with_lf texts.joined chars
+unfolding patched_by_cuts cut_at place all_apart in_text_order text_with_cuts before fitting lines body_at ends_line starts_with_lf texts.joined chars
 renames_made = refl
 
 pub renames_leave : patched (width_of Utf16) worked_text renames ≡ Some (chars (joined renamed_lexemes))
 renames_leave = renames_made ∙ ap Some (sym (chars_so (joined renamed_lexemes) refl))
 
 inlines_made : patched (width_of Utf16) worked_text (puts_two ∷ []) ≡ Some (joined inlined_lexemes)
-unfolding patched_by_cuts cut_at place all_apart in_text_order pieced before fitting lines body_at ends_line starts_with_lf texts.joined chars
+unfolding patched_by_cuts cut_at place all_apart in_text_order text_with_cuts before fitting lines body_at ends_line starts_with_lf texts.joined chars
 inlines_made = refl
 
 pub inlines_leave : patched (width_of Utf16) worked_text (puts_two ∷ []) ≡ Some (chars (joined inlined_lexemes))
 inlines_leave = inlines_made ∙ ap Some (sym (chars_so (joined inlined_lexemes) refl))
 
 everywhere_made : patched (width_of Utf16) worked_text (takes_out ∷ puts_two ∷ []) ≡ Some (joined without_lexemes)
-unfolding patched_by_cuts cut_at place all_apart in_text_order pieced before fitting lines body_at ends_line starts_with_lf texts.joined chars
+unfolding patched_by_cuts cut_at place all_apart in_text_order text_with_cuts before fitting lines body_at ends_line starts_with_lf texts.joined chars
 everywhere_made = refl
 
 pub everywhere_leave : patched (width_of Utf16) worked_text (takes_out ∷ puts_two ∷ []) ≡ Some (chars (joined without_lexemes))
@@ -79,15 +79,15 @@ unfolding position_of position_in lines ends_line starts_with_lf fitting
 write_is_at = refl
 
 pub renamed_length : length (text_after_replacement (scanned_of worked_lexemes) (9 ∷ 14 ∷ 20 ∷ []) (codes "y")) ≡ 77
-unfolding pieced
+unfolding text_with_cuts
 renamed_length = refl
 
 pub inlined_length : length (text_after_replacement (scanned_of worked_lexemes) (16 ∷ []) (codes "2")) ≡ 77
-unfolding pieced
+unfolding text_with_cuts
 inlined_length = refl
 
 pub without_length : length (text_after_removal (scanned_of worked_lexemes) 4 7 (16 ∷ []) (codes "2")) ≡ 71
-unfolding pieced
+unfolding text_with_cuts
 without_length = refl
 
 pub two_text : decimal 2 ≡ codes "2"

@@ -8,7 +8,7 @@ use Rattle.serde_json.specs.Data.{Data, null, number, unsigned, depth}
 use Rattle.ob0_text.specs.declared.position_types.Unit.TheVariants.{Utf16}
 use Rattle.ob0_text.specs.Texts.{before, body_at, ends_line, fitting, lines, offset_of, starts_with_lf}
 use Rattle.ob0_text.specs.Texts as texts
-use Rattle.ob0_text.specs.Patches.{all_apart, cut_at, in_text_order, patched_by_cuts, pieced, place}
+use Rattle.ob0_text.specs.Patches.{all_apart, cut_at, in_text_order, patched_by_cuts, text_with_cuts, place}
 use Rattle.ob0_text.specs.OpenDocuments.{Document, InStep, changed_text, document_at, no_open_documents, documents_after_open}
 use Rattle.ob0_rpc.specs.Appending.{ReadsBack}
 use Rattle.ob0_rpc.specs.Requesting.{DocumentPlace}
@@ -33,7 +33,7 @@ use Rattle.ob0_world_rules.specs.ClientAndServer.{Applied, Editor, OpenDocument,
 use Rattle.ob0_world_rules.specs.Edited.{Replacement, text_after_changes, edited}
 use Rattle.ob0_world_rules.specs.EditorActs.{asks, without_answer}
 use Rattle.ob0_world_rules.specs.Editors.{AppliesAnswer, opening_result_as, revised_document, to_apply, to_ask, to_open, notifications_of, with_document}
-use Rattle.ob0_world_rules.specs.EveryEditor.{editor_does, editor_says, editor_takes, server_takes}
+use Rattle.ob0_world_rules.specs.EveryEditor.{editor_does, editor_sends_unmodeled, editor_takes, server_takes}
 use Rattle.ob0_world_rules.specs.PublicationsInOrder.{AnnouncedDocument}
 use Rattle.ob0_world_rules.proofs.UriLaws.{get_put}
 use Rattle.ob0_world.specs.Exchanges.{BeginsExchange, Exchange, Exchanges, IsActionsRequest, SentRequestId, ask_number_by_id, number_id, message_to_editor_by_ids, after_reading_if_any}
@@ -176,7 +176,7 @@ begins_so = record {
   is = refl;
 }
 
-turn₁ : Exchanges x₀ editor_says x₁
+turn₁ : Exchanges x₀ editor_sends_unmodeled x₁
 turn₁ = (None, content_of initialized_notification, (initialized_notification, reads_so initialized_notification initialized_read refl, refl), refl)
 
 turn₂ : Exchanges x₁ server_takes x₂
@@ -222,7 +222,7 @@ turn₄ = (x₄.wire, (session₁, content_of shows_none ∷ [], opened_so, refl
 
 -- ---- a hover
 
-turn₅ : Exchanges x₄ editor_says x₅
+turn₅ : Exchanges x₄ editor_sends_unmodeled x₅
 turn₅ = (Some (number_id 1), content_of hover_request, (hover_request, reads_so hover_request hover_read refl, (refl, tt, refl)), refl)
 
 abbrev hover_place : DocumentPlace
@@ -327,11 +327,11 @@ turn₁₁ = ap (λ (m : Option MessageToEditor). record x₁₁ { editor = afte
 -- ---- the edits are made
 
 edits_make : edited Utf16 worked_text the_edits ≡ Some inlined_text
-unfolding edited patched_by_cuts cut_at place all_apart in_text_order pieced before fitting lines body_at ends_line starts_with_lf texts.joined
+unfolding edited patched_by_cuts cut_at place all_apart in_text_order text_with_cuts before fitting lines body_at ends_line starts_with_lf texts.joined
 edits_make = refl
 
 changes_make : text_after_changes Utf16 (Some worked_text) law.changes ≡ Some inlined_text
-unfolding changed_text patched_by_cuts cut_at place all_apart in_text_order pieced before fitting lines body_at ends_line starts_with_lf texts.joined
+unfolding changed_text patched_by_cuts cut_at place all_apart in_text_order text_with_cuts before fitting lines body_at ends_line starts_with_lf texts.joined
 changes_make = refl
 
 abbrev the_change : Data

@@ -10,7 +10,7 @@ use Rattle.ob0_world_editor.specs.InitializeRequest.{initialize_message}
 use Rattle.ob0_world_editor.specs.Shapes.{change_object, change_params, document_value, open_params, request_message}
 use Rattle.ob0_world_rules.specs.Asks.{inline_all}
 use Rattle.ob0_world_rules.specs.Editors.{Revision, to_apply, to_ask, to_open}
-use Rattle.ob0_world_rules.specs.EveryEditor.{Turn, editor_does, editor_says, editor_takes, server_takes}
+use Rattle.ob0_world_rules.specs.EveryEditor.{Turn, editor_does, editor_sends_unmodeled, editor_takes, server_takes}
 use Rattle.ob0_world.specs.Exchanges.{BeginsExchange, Exchange, ExchangeCourse}
 use Rattle.ob0_world_worked.specs.WorkedText.{at, line, worked_text}
 use Rattle.ob0_world_worked.specs.WorkedAnswers.{range_on_line}
@@ -45,13 +45,13 @@ worked_revision = record { version = pos 1; text = inlined_text; how = changes }
 abbrev pub worked_turns : List Turn
 worked_turns =
     -- the editor sends the notification `initialized`
-    editor_says
+    editor_sends_unmodeled
     ∷ server_takes
     -- the editor opens the document with version 0
     ∷ editor_does (to_open uri (pos 0) worked_text)
     ∷ server_takes
     -- the editor sends a hover request
-    ∷ editor_says
+    ∷ editor_sends_unmodeled
     ∷ server_takes
     -- the editor requests the code actions of one kind in a range
     ∷ editor_does (to_ask uri (inline_all (at 6 7)))

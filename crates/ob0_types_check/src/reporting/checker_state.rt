@@ -7,7 +7,7 @@ ghost use Rattle.ob0_tree.specs.Places.{text_at};
 ghost use Rattle.ob0_types_check.specs.Known.{a_procedure};
 ghost use Rattle.ob0_types_check.specs.Operations.{ReportsAfter, fault_between, token_after};
 ghost use Rattle.ob0_types_check.specs.KnownDeclarations.{define, is_within_limits, make_type, predeclared_meanings, size_at, with_meaning};
-ghost use Rattle.ob0_types_check.specs.CheckerFacts.{capped_size, meaning_in_state, entry_element_type, entry_field_type, composite_type_of, known_meaning, size_of, declarations_in_state};
+ghost use Rattle.ob0_types_check.specs.CheckerViews.{capped_size, meaning_in_state, entry_element_type, entry_field_type, composite_type_of, known_meaning, size_of, declarations_in_state};
 ghost use Rattle.ob0_types_check.specs.WrittenTypeFaults.{array_size, sum_of_sizes, next_type_ordinal, record_size};
 
 use ob0_language_values::Scalar;

@@ -9,7 +9,7 @@ ghost use Rattle.ob0_types_check.specs.Known.{a_variable};
 ghost use Rattle.ob0_types_check.specs.Operations.{ReportsAfter};
 ghost use Rattle.ob0_types_check.specs.KnownDeclarations.{define_all};
 ghost use Rattle.ob0_types_check.specs.SomeBodies.{reported_block_with, report_body_if, reported_procedure_with, reported_procedures_with, walked_in, includes_body};
-ghost use Rattle.ob0_types_check.specs.CheckerFacts.{heading_in, declarations_in_state};
+ghost use Rattle.ob0_types_check.specs.CheckerViews.{heading_in, declarations_in_state};
 
 use crate::reporting::checker_state::{CheckerState, Meaning};
 use crate::reporting::{BodiesToWalk, Reporter};

@@ -7,10 +7,10 @@ ghost use Rattle.ob0_types_table.specs.declared.types.TypeId.TheVariants as type
 ghost use Rattle.ob0_tree.specs.View.{compound_of, expression_of, factor_of, selector_of, simple_of, term_of};
 ghost use Rattle.ob0_language_types.specs.Selected.{selectors_in};
 ghost use Rattle.ob0_types_check.specs.ExpressionFaults.{reported_expression, reported_factor, reported_selector, reported_selectors, reported_simple, reported_term};
-ghost use Rattle.ob0_types_check.specs.Operations.{ReportsAfter, constant_name_operand, number_operand, add_operands, required_type, required_type_of_both, fault_at_operand, signed_operand, complement_operand, element_type_in_form, element_operand, operand_in_parentheses, field_type_in_form, field_operand, fits, joint_operand, multiply_operands, name_operand, part_of, relate_operands, sign_operand, comparison_type, add_operand_type, equality_operand_type, multiply_operand_type, relation_operand_type, value_type};
+ghost use Rattle.ob0_types_check.specs.Operations.{ReportsAfter, constant_name_operand, number_operand, add_operands, required_type, required_type_of_both, fault_at_operand, signed_operand, complement_operand, element_type_in_form, element_operand, operand_in_parentheses, field_type_in_form, field_operand, fits, joint_operand, multiply_operands, name_operand, extended_operand, relate_operands, sign_operand, comparison_type, add_operand_type, equality_operand_type, multiply_operand_type, relation_operand_type, value_type};
 ghost use Rattle.ob0_types_check.specs.TypeFaults.{operand_value, reported_constant};
 ghost use Rattle.ob0_types_check.specs.KnownDeclarations.{same_type};
-ghost use Rattle.ob0_types_check.specs.CheckerFacts.{facts_in, form_in, operand_of, known_types};
+ghost use Rattle.ob0_types_check.specs.CheckerViews.{facts_in, form_in, operand_of, known_types};
 
 use crate::reporting::checker_state::{CheckerState, Meaning};
 use ob0_language_values::Scalar;
@@ -164,8 +164,8 @@ impl Operand {
 
     /// Returns the operand of a designator that extends this one up to the token `last`. The result
     /// has the type `of` and no value.
-    fn designator_part(self, of: TypeId, last: usize) -> Operand
-        ensures { operand_of result ≡ part_of (operand_of self) of last }
+    fn extend_designator(self, of: TypeId, last: usize) -> Operand
+        ensures { operand_of result ≡ extended_operand (operand_of self) of last }
     {
         Operand {
             of,
@@ -484,7 +484,7 @@ impl<'t> CheckerState<'t> {
                         self.report_at(faults, FaultCode::NotConstant, token)?;
                         return Ok(unknown);
                     }
-                    Ok(unknown.designator_part(*of, token))
+                    Ok(unknown.extend_designator(*of, token))
                 }
                 Meaning::Named(_) => {
                     self.report_at(faults, FaultCode::WrongKind, token)?;
@@ -555,7 +555,7 @@ impl<'t> CheckerState<'t> {
     {
         let index_type = self.require_type(faults, TypeId::Integer, index)?;
         let of = self.array_element_type(faults, base.of, index, index_type)?;
-        Ok(base.designator_part(of, self.token_after(index.last)))
+        Ok(base.extend_designator(of, self.token_after(index.last)))
     }
 
     /// Returns the type of an element of the type `base`, and reports `NotArray` if `base` is known
@@ -609,7 +609,7 @@ impl<'t> CheckerState<'t> {
             (field_operand (facts_in self.now false) (operand_of base) name)) }
     {
         let of = self.field_type(faults, base.of, name)?;
-        Ok(base.designator_part(of, name))
+        Ok(base.extend_designator(of, name))
     }
 
     /// Returns the type of the field of the type `base` whose name is at the token `name`. Reports

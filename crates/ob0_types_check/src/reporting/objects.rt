@@ -2,7 +2,7 @@
 
 ghost use Rattle.std.specs.Prelude.{◌≡◌, IfOk, Some, map, option_map, slice_set};
 ghost use Rattle.ob0_types_table.specs.declared.known.Object.TheVariants as kind;
-ghost use Rattle.ob0_types_check.specs.CheckerFacts.{table_object, with_standard_procedures};
+ghost use Rattle.ob0_types_check.specs.CheckerViews.{table_object, with_standard_procedures};
 
 use crate::reporting::checker_state::Meaning;
 use ob0_scope_table::{READ_ORDINAL, WRITE_LN_ORDINAL, WRITE_ORDINAL};

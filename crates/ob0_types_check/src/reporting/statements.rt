@@ -6,7 +6,7 @@ ghost use Rattle.ob0_tree.specs.View.{assignment_of, call_of, elsifs_of_vec, exp
 ghost use Rattle.ob0_types_check.specs.Known.{a_procedure};
 ghost use Rattle.ob0_types_check.specs.Operations.{ReportsAfter, fault_at_token};
 ghost use Rattle.ob0_types_check.specs.StatementFaults.{target_name_type, reported_call_by_meaning, required_of_argument, reported_argument, reported_required, reported_call, reported_condition, reported_elsifs, reported_untyped_arguments, reported_sequence, reported_statement};
-ghost use Rattle.ob0_types_check.specs.CheckerFacts.{facts_in, formal_of, operand_of};
+ghost use Rattle.ob0_types_check.specs.CheckerViews.{facts_in, formal_of, operand_of};
 
 use crate::reporting::checker_state::{CheckerState, Meaning};
 use crate::reporting::expressions::Operand;

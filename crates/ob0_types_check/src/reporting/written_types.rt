@@ -9,7 +9,7 @@ ghost use Rattle.ob0_language_values.specs.Scalars.{scalar_value};
 ghost use Rattle.ob0_types_check.specs.Known.{a_variable};
 ghost use Rattle.ob0_types_check.specs.Operations.{ReportsAfter};
 ghost use Rattle.ob0_types_check.specs.KnownDeclarations.{empty_size};
-ghost use Rattle.ob0_types_check.specs.CheckerFacts.{AddsKnownFields, HasKnownFields, facts_in, fields_in, operand_of, size_of, declarations_in_state};
+ghost use Rattle.ob0_types_check.specs.CheckerViews.{AddsKnownFields, HasKnownFields, facts_in, fields_in, operand_of, size_of, declarations_in_state};
 ghost use Rattle.ob0_types_check.specs.TypeFaults.{length_of, type_by_meaning, type_named_at};
 ghost use Rattle.ob0_types_check.specs.WrittenTypeFaults.{made_array_type, no_known_fields, made_record_type, record_keyword, reported_fields, reported_groups, reported_type, with_known_field, with_known_fields};
 ghost use Rattle.ob0_types_check.specs.WrittenTypeFaults as spec;

@@ -1,7 +1,7 @@
 use Rattle.std.proofs.Common.{Result, Vec, Global, refl, sym, subst, arith, rules}
 use Rattle.ob0_text.specs.declared.edits.Edit.{Edit}
 use Rattle.ob0_text.specs.declared.refusals.EditRefusal.{EditRefusal}
-use Rattle.ob0_commands.specs.StderrLines.{PrintsLine}
+use Rattle.ob0_commands.specs.IsPrintedOnStderr.{PrintsLine}
 use Rattle.ob0_commands.specs.Renamed.{PrintsRefusal}
 use Rattle.ob0_commands.proofs.renaming.print_rename_outcome.Goals as goal
 

@@ -2,7 +2,7 @@ use Rattle.std.proofs.Common.{◌∙◌, ℕ, List, Option, inl, refl, ap, subst
 use Rattle.std.proofs.lemmas.Result.{IfOk-weaker}
 use Rattle.ob0_commands.specs.Outputs.{IsFlushedOrUnchanged}
 use Rattle.ob0_commands.specs.Renamed.{PrintsErrorsOrRefusal, PrintsRenamed}
-use Rattle.ob0_commands.specs.StderrLines.{PrintsLine}
+use Rattle.ob0_commands.specs.IsPrintedOnStderr.{PrintsLine}
 use Rattle.ob0_commands.proofs.renaming.rename_file.Goals as goal
 
 pub returns-in_default-clause-ends : goal.returns-in_default-clause-ends

@@ -1,6 +1,6 @@
 use Rattle.std.proofs.Common.{Some, inl, inr, subst}
 use Rattle.ob0_commands.specs.Printed.{fault_line}
-use Rattle.ob0_commands.specs.StderrLines.{PrintsLine}
+use Rattle.ob0_commands.specs.IsPrintedOnStderr.{PrintsLine}
 use Rattle.ob0_commands.proofs.renaming.rename_text.Goals as goal
 
 pub returns-in-Ok : goal.returns-in-Ok

@@ -1,7 +1,7 @@
 use Rattle.std.proofs.Common.{◌∙◌, ℕ, List, ap, inl, inr, map, refl, subst, arith}
 use Rattle.std.proofs.lemmas.Result.{IfOk-weaker}
 use Rattle.ob0_analysis.specs.Diagnosed.{Reports, complaint_of_diagnosis}
-use Rattle.ob0_commands.specs.StderrLines.{PrintsLine}
+use Rattle.ob0_commands.specs.IsPrintedOnStderr.{PrintsLine}
 use Rattle.ob0_commands.proofs.RenameEndsWithoutFault.{edited_in_text, found_in_text, prints_renamed, refuses_name}
 use Rattle.ob0_commands.proofs.Wrong.{ill_typed}
 use Rattle.ob0_commands.proofs.renaming.rename_utf8_text.Goals as goal

@@ -1,6 +1,6 @@
 use Rattle.std.proofs.Common.{◌∙◌, ap, refl, inl, arith}
 use Rattle.std.proofs.lemmas.Result.{err_from_is_err_and}
-use Rattle.ob0_commands.specs.StderrLines.{PrintsLine}
+use Rattle.ob0_commands.specs.IsPrintedOnStderr.{PrintsLine}
 use Rattle.ob0_commands.proofs.RunsPrinted.{from_all, prints_done, prints_other, prints_run, prints_wrong, stops_reading}
 use Rattle.ob0_commands.proofs.running.run_file.Goals as goal
 

@@ -4,7 +4,7 @@ use Rattle.std.proofs.lemmas.Bool.{lt-ltb}
 use Rattle.ob0_scan.specs.TextWithTokens.{max_text}
 use Rattle.ob0_scan.specs.declared.lexeme.Token.{Token}
 use Rattle.ob0_edits_tokens.specs.Replaced.{span_at, cut_of}
-use Rattle.ob0_text.specs.Patches.{pieced}
+use Rattle.ob0_text.specs.Patches.{text_with_cuts}
 use Rattle.ob0_edits_tokens.proofs.Lengths.{Counted, counted_start, ends_following, ends_inside, counted_next, counted_all, too_long}
 use Rattle.ob0_edits_tokens.proofs.token_edits.is_too_long.Goals as goal
 
@@ -16,8 +16,8 @@ overflow_add-length c =
     let s = c.args.tokens.now in
     let p = get_or c.args.places.now c.loop-place.place-index 0 in
     let same = ap (λ (ts : List Token). (span_at ts p).start) c.tokens.ensures in
-    let before = ends_following s c.args.new.now c.args.places.now (c.args.counted + length (pieced c.args.tokens.now.text c.args.end (map (cut_of c.args.tokens.now.tokens c.args.new.now) c.args.places.now))) c.loop-place.length c.loop-place.end c.loop-place.place-index c.loop-place.invariant c.loop-place-test.true in
-    let inside = ends_inside s c.args.new.now c.args.places.now (c.args.counted + length (pieced c.args.tokens.now.text c.args.end (map (cut_of c.args.tokens.now.tokens c.args.new.now) c.args.places.now))) c.loop-place.length c.loop-place.end c.loop-place.place-index c.loop-place.invariant c.loop-place-test.true in
+    let before = ends_following s c.args.new.now c.args.places.now (c.args.counted + length (text_with_cuts c.args.tokens.now.text c.args.end (map (cut_of c.args.tokens.now.tokens c.args.new.now) c.args.places.now))) c.loop-place.length c.loop-place.end c.loop-place.place-index c.loop-place.invariant c.loop-place-test.true in
+    let inside = ends_inside s c.args.new.now c.args.places.now (c.args.counted + length (text_with_cuts c.args.tokens.now.text c.args.end (map (cut_of c.args.tokens.now.tokens c.args.new.now) c.args.places.now))) c.loop-place.length c.loop-place.end c.loop-place.place-index c.loop-place.invariant c.loop-place-test.true in
     omega (arith, same, before, inside, c.loop-place.invariant.scan.short, c.well_formed)
 
 pub overflow_add-length-in-loop-place : goal.overflow_add-length-in-loop-place
@@ -25,8 +25,8 @@ overflow_add-length-in-loop-place c =
     let s = c.args.tokens.now in
     let p = get_or c.args.places.now c.loop-place.place-index 0 in
     let same = ap (λ (ts : List Token). (span_at ts p).start) c.tokens.ensures in
-    let before = ends_following s c.args.new.now c.args.places.now (c.args.counted + length (pieced c.args.tokens.now.text c.args.end (map (cut_of c.args.tokens.now.tokens c.args.new.now) c.args.places.now))) c.loop-place.length c.loop-place.end c.loop-place.place-index c.loop-place.invariant c.loop-place-test.true in
-    let inside = ends_inside s c.args.new.now c.args.places.now (c.args.counted + length (pieced c.args.tokens.now.text c.args.end (map (cut_of c.args.tokens.now.tokens c.args.new.now) c.args.places.now))) c.loop-place.length c.loop-place.end c.loop-place.place-index c.loop-place.invariant c.loop-place-test.true in
+    let before = ends_following s c.args.new.now c.args.places.now (c.args.counted + length (text_with_cuts c.args.tokens.now.text c.args.end (map (cut_of c.args.tokens.now.tokens c.args.new.now) c.args.places.now))) c.loop-place.length c.loop-place.end c.loop-place.place-index c.loop-place.invariant c.loop-place-test.true in
+    let inside = ends_inside s c.args.new.now c.args.places.now (c.args.counted + length (text_with_cuts c.args.tokens.now.text c.args.end (map (cut_of c.args.tokens.now.tokens c.args.new.now) c.args.places.now))) c.loop-place.length c.loop-place.end c.loop-place.place-index c.loop-place.invariant c.loop-place-test.true in
     omega (arith, same, before, inside, c.loop-place.invariant.scan.short, c.loop-place.invariant.short, c.well_formed)
 
 pub returns-then-length-gt-MAX_TEXT : goal.returns-then-length-gt-MAX_TEXT
@@ -34,8 +34,8 @@ returns-then-length-gt-MAX_TEXT c =
     let s = c.args.tokens.now in
     let p = get_or c.args.places.now c.loop-place.place-index 0 in
     let same = ap (λ (ts : List Token). (span_at ts p).start) c.tokens.ensures in
-    let long = too_long s c.args.new.now c.args.places.now (c.args.counted + length (pieced c.args.tokens.now.text c.args.end (map (cut_of c.args.tokens.now.tokens c.args.new.now) c.args.places.now))) c.loop-place.length c.loop-place.end c.loop-place.place-index c.loop-place.invariant c.loop-place-test.true in
-    sym (lt-ltb max_text (c.args.counted + length (pieced c.args.tokens.now.text c.args.end (map (cut_of c.args.tokens.now.tokens c.args.new.now) c.args.places.now))) (omega (arith, same, long, c.if-length-gt-MAX_TEXT.true)))
+    let long = too_long s c.args.new.now c.args.places.now (c.args.counted + length (text_with_cuts c.args.tokens.now.text c.args.end (map (cut_of c.args.tokens.now.tokens c.args.new.now) c.args.places.now))) c.loop-place.length c.loop-place.end c.loop-place.place-index c.loop-place.invariant c.loop-place-test.true in
+    sym (lt-ltb max_text (c.args.counted + length (text_with_cuts c.args.tokens.now.text c.args.end (map (cut_of c.args.tokens.now.tokens c.args.new.now) c.args.places.now))) (omega (arith, same, long, c.if-length-gt-MAX_TEXT.true)))
 
 pub loop-place-preserved : goal.loop-place-preserved
 loop-place-preserved c =
@@ -45,12 +45,12 @@ loop-place-preserved c =
     let start = ap (λ (ts : List Token). (span_at ts p).start) c.tokens.ensures in
     let end = ap (λ (ts : List Token). (span_at ts p).end) c.tokens.ensures in
     let count = c.loop-place.length + ((span_at c.tokens.result.now p).start - c.loop-place.end + length c.args.new.now) in
-    subst (λ n. Counted s c.args.new.now c.args.places.now (c.args.counted + length (pieced c.args.tokens.now.text c.args.end (map (cut_of c.args.tokens.now.tokens c.args.new.now) c.args.places.now))) count n (i + 1)) (sym end)
-    (counted_next s c.args.new.now c.args.places.now (c.args.counted + length (pieced c.args.tokens.now.text c.args.end (map (cut_of c.args.tokens.now.tokens c.args.new.now) c.args.places.now))) c.loop-place.length c.loop-place.end i c.loop-place.invariant c.loop-place-test.true count
+    subst (λ n. Counted s c.args.new.now c.args.places.now (c.args.counted + length (text_with_cuts c.args.tokens.now.text c.args.end (map (cut_of c.args.tokens.now.tokens c.args.new.now) c.args.places.now))) count n (i + 1)) (sym end)
+    (counted_next s c.args.new.now c.args.places.now (c.args.counted + length (text_with_cuts c.args.tokens.now.text c.args.end (map (cut_of c.args.tokens.now.tokens c.args.new.now) c.args.places.now))) c.loop-place.length c.loop-place.end i c.loop-place.invariant c.loop-place-test.true count
     (ap (λ n. c.loop-place.length + (n - c.loop-place.end + length c.args.new.now)) start) (omega (arith, c.if-length-gt-MAX_TEXT.false)))
 
 pub returns : goal.returns
 returns c =
     let same : length c.text-text.result.now ≡ length c.args.tokens.now.text = ap length c.text-text.ensures.value in
     ap (nat_lt max_text) (ap (λ n. c.loop-place.length + (n - c.loop-place.end)) same
-    ∙ counted_all c.args.tokens.now c.args.new.now c.args.places.now (c.args.counted + length (pieced c.args.tokens.now.text c.args.end (map (cut_of c.args.tokens.now.tokens c.args.new.now) c.args.places.now))) c.loop-place.length c.loop-place.end c.loop-place.place-index c.loop-place.invariant c.loop-place-test.false)
+    ∙ counted_all c.args.tokens.now c.args.new.now c.args.places.now (c.args.counted + length (text_with_cuts c.args.tokens.now.text c.args.end (map (cut_of c.args.tokens.now.tokens c.args.new.now) c.args.places.now))) c.loop-place.length c.loop-place.end c.loop-place.place-index c.loop-place.invariant c.loop-place-test.false)

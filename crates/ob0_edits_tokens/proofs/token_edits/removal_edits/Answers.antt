@@ -2,7 +2,7 @@ use Rattle.std.proofs.Common.{◌≡◌, ◌+◌, ◌++◌, ◌∷◌, [], suc, 
 use Rattle.std.proofs.lemmas.Bool.{ltb-false, ltb-true}
 use Rattle.ob0_scan.specs.TextWithTokens.{max_text}
 use Rattle.ob0_scan.specs.declared.lexeme.Token.{Token}
-use Rattle.ob0_text.specs.Patches.{pieced}
+use Rattle.ob0_text.specs.Patches.{text_with_cuts}
 use Rattle.ob0_edits_tokens.specs.Changed.{words_of, changed_words, changes_at}
 use Rattle.ob0_edits_tokens.specs.Replaced.{span_at, cut_of, AreInOrder, parts, edit_at, LeavesWords}
 use Rattle.ob0_text.specs.Units.{width_of}
@@ -36,7 +36,7 @@ returns-then-is_too_long-clause-too_long g c =
     let s = c.args.tokens.now in
     let start = ap (λ (ts : List Token). (span_at ts c.args.first).start) c.tokens.ensures in
     let end = ap (λ (ts : List Token). (span_at ts c.args.last).end) c.tokens-2.ensures in
-    let all = (λ i. start i + length (pieced s.text (end i) (map (cut_of s.tokens c.args.new.now) c.args.places.now)))
+    let all = (λ i. start i + length (text_with_cuts s.text (end i) (map (cut_of s.tokens c.args.new.now) c.args.places.now)))
     ∙ length_without s c.text-text.ensures.scan c.args.new.now c.args.places.now c.args.first c.args.last c.requires.declaration c.requires.names in
     λ _. subst (λ n. max_text < n) all (ltb-true max_text _ (sym c.is_too_long.ensures ∙ c.if-is_too_long.true))
 
@@ -45,7 +45,7 @@ returns-clause-short g c =
     let s = c.args.tokens.now in
     let start = ap (λ (ts : List Token). (span_at ts c.args.first).start) c.tokens.ensures in
     let end = ap (λ (ts : List Token). (span_at ts c.args.last).end) c.tokens-2.ensures in
-    let all = (λ i. start i + length (pieced s.text (end i) (map (cut_of s.tokens c.args.new.now) c.args.places.now)))
+    let all = (λ i. start i + length (text_with_cuts s.text (end i) (map (cut_of s.tokens c.args.new.now) c.args.places.now)))
     ∙ length_without s c.text-text.ensures.scan c.args.new.now c.args.places.now c.args.first c.args.last c.requires.declaration c.requires.names in
     subst (λ n. n ≤ max_text) all (ltb-false max_text _ (sym c.is_too_long.ensures ∙ c.if-is_too_long.false))
 
@@ -63,7 +63,7 @@ returns-clause-words g c =
     ∙ (λ i. (range i, c.new.ensures.bytes i) ∷ []) in
     let all : map parts c.add_edits.new.edits.items ≡ (range_of (width_of unit) content (span_of_tokens s.tokens c.args.first c.args.last), []) ∷ map (edit_at unit content s.tokens c.args.new.now) c.args.places.now =
     c.in_ok-add_edits.ensures.added ∙ ap (λ xs. xs ++ map (edit_at unit content s.tokens c.args.new.now) c.args.places.now) first in
-    let sum = (λ i. start i + length (pieced s.text (end i) (map (cut_of s.tokens c.args.new.now) c.args.places.now)))
+    let sum = (λ i. start i + length (text_with_cuts s.text (end i) (map (cut_of s.tokens c.args.new.now) c.args.places.now)))
     ∙ length_without s c.text-text.ensures.scan c.args.new.now c.args.places.now c.args.first c.args.last c.requires.declaration c.requires.names in
     let short : length (text_after_removal s c.args.first c.args.last c.args.places.now c.args.new.now) ≤ max_text =
     subst (λ n. n ≤ max_text) sum (ltb-false max_text _ (sym c.is_too_long.ensures ∙ c.if-is_too_long.false)) in

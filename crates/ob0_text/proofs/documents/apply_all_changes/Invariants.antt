@@ -11,5 +11,5 @@ invariant-loop-change g l = record {
   counted : IsCountedIn g.T.TextStore.unit_of l.unit l.text;
   made : option_map g.T.TextStore.content l.text ≡ fold (changed_text l.unit) (option_map g.T.TextStore.content l.initial.text) (map text_change_of (take l.change-index l.changes));
   known : l.known ≡ is_some (option_map g.T.TextStore.content l.initial.text);
-  covered : CoversAllChanges (option_map g.T.TextStore.content l.initial.text) (option_map g.T.TextStore.content l.text) l.hull;
+  covered : CoversAllChanges (option_map g.T.TextStore.content l.initial.text) (option_map g.T.TextStore.content l.text) l.covering_change;
 }

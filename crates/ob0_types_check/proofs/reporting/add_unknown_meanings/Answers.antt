@@ -1,6 +1,6 @@
 use Rattle.std.proofs.Common.{◌∷◌, [], map, option_map, None, ap, ◌∙◌}
 use Rattle.std.proofs.lemmas.List.{map-append}
-use Rattle.ob0_types_check.specs.CheckerFacts.{known_meaning}
+use Rattle.ob0_types_check.specs.CheckerViews.{known_meaning}
 use Rattle.ob0_types_check.proofs.Listed.{repeated_ends, repeated_on}
 use Rattle.ob0_types_check.proofs.reporting.add_unknown_meanings.Goals as goal
 

@@ -1,5 +1,5 @@
 use Rattle.std.proofs.Common.{map, option_map, None}
-use Rattle.ob0_types_check.specs.CheckerFacts.{known_meaning}
+use Rattle.ob0_types_check.specs.CheckerViews.{known_meaning}
 use Rattle.ob0_types_check.proofs.Listed.{RepeatedSoFar}
 use Rattle.ob0_types_check.proofs.reporting.add_unknown_meanings.Given as goal
 

@@ -1,7 +1,7 @@
 use Rattle.std.proofs.Common.{sym, ap, ◌∙◌}
 use Rattle.ob0_tree.specs.View.{block_of}
 use Rattle.ob0_types_check.specs.SomeBodies.{reported_block_with, includes_body}
-use Rattle.ob0_types_check.specs.CheckerFacts.{declarations_in_state}
+use Rattle.ob0_types_check.specs.CheckerViews.{declarations_in_state}
 use Rattle.ob0_types_check.proofs.Reported.{walked}
 use Rattle.ob0_types_check.proofs.reporting.report_wanted_bodies.Goals as goal
 

@@ -1,5 +1,5 @@
 use Rattle.std.proofs.Common.{◌≡◌, if◌then◌else◌, Some, refl, ap, arith, ◌∙◌}
-use Rattle.ob0_scope_numbering.specs.declared.newest.BoundName.{BoundName}
+use Rattle.ob0_scope_numbering.specs.declared.newest.NameEntry.{NameEntry}
 use Rattle.ob0_language_names.specs.Names.{same_name}
 use Rattle.ob0_scope_numbering.specs.NewestNames.{newest_binding_in, place_of}
 use Rattle.ob0_scope_numbering.proofs.NewestNames.{place_renewed, places_renewed, renewed, place_holds}
@@ -8,25 +8,25 @@ use Rattle.ob0_scope_numbering.proofs.newest.NewestBindings.set_newest.Goals as 
 pub index_mut-requires : goal.index_mut-requires
 index_mut-requires c =
     let at : place_of c.self.inside.entries.items c.args.name.now ≡ Some c.args.place = ap (λ es. place_of es c.args.name.now) c.self.view_is ∙ c.requires in
-    let d : BoundName = record { name = c.args.name; newest = c.args.newest } in
+    let d : NameEntry = record { name = c.args.name; newest = c.args.newest } in
     let below = (place_holds c.self.inside.entries.items c.args.name.now c.args.place d at).below in
     omega (arith, below, c.self.inside.entries.ok)
 
 pub invariant_of-self : goal.invariant_of-self
 invariant_of-self c =
     let at : place_of c.self.inside.entries.items c.args.name.now ≡ Some c.args.place = ap (λ es. place_of es c.args.name.now) c.self.view_is ∙ c.requires in
-    let r : BoundName = record { name = c.args.name; newest = c.args.newest } in
+    let r : NameEntry = record { name = c.args.name; newest = c.args.newest } in
     places_renewed c.self.inside.places c.self.inside.entries.items c.args.name.now c.args.place r refl at c.self.invariant
 
 pub returns-clause-renewed : goal.returns-clause-renewed
 returns-clause-renewed c =
     let at : place_of c.self.inside.entries.items c.args.name.now ≡ Some c.args.place = ap (λ es. place_of es c.args.name.now) c.self.view_is ∙ c.requires in
-    let r : BoundName = record { name = c.args.name; newest = c.args.newest } in
+    let r : NameEntry = record { name = c.args.name; newest = c.args.newest } in
     λ y. renewed c.self.inside.entries.items c.args.name.now c.args.place r refl at y
     ∙ ap (λ es. if same_name c.args.name.now y then c.args.newest else newest_binding_in es y) c.self.view_is
 
 pub returns-clause-places : goal.returns-clause-places
 returns-clause-places c =
     let at : place_of c.self.inside.entries.items c.args.name.now ≡ Some c.args.place = ap (λ es. place_of es c.args.name.now) c.self.view_is ∙ c.requires in
-    let r : BoundName = record { name = c.args.name; newest = c.args.newest } in
+    let r : NameEntry = record { name = c.args.name; newest = c.args.newest } in
     λ y i there. place_renewed c.self.inside.entries.items c.args.name.now c.args.place r refl at y ∙ (ap (λ es. place_of es y) c.self.view_is ∙ there)

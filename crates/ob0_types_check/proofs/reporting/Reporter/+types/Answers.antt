@@ -5,7 +5,7 @@ use Rattle.ob0_tree.specs.View.{expression_of, fields_of, further_fields_of_grou
 use Rattle.ob0_types_check.specs.ExpressionFaults.{reported_expression}
 use Rattle.ob0_types_check.specs.Operations.{ReportsAfter, without_fault, ◌>>=◌}
 use Rattle.ob0_types_check.specs.KnownDeclarations.{TypeWithState, facts_at}
-use Rattle.ob0_types_check.specs.CheckerFacts.{operand_of, declarations_in_state}
+use Rattle.ob0_types_check.specs.CheckerViews.{operand_of, declarations_in_state}
 use Rattle.ob0_types_check.specs.TypeFaults.{length_of, type_named_at}
 use Rattle.ob0_types_check.specs.WrittenTypeFaults.{KnownFields, made_array_type, with_field_group, no_known_fields, next_type_ordinal, record_keyword, reported_fields, reported_groups, reported_type}
 use Rattle.ob0_types_check.specs.WrittenTypeFaults as spec

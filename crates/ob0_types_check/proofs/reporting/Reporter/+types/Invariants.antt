@@ -1,4 +1,4 @@
-use Rattle.ob0_types_check.specs.CheckerFacts.{declarations_in_state}
+use Rattle.ob0_types_check.specs.CheckerViews.{declarations_in_state}
 use Rattle.ob0_types_check.specs.WrittenTypeFaults.{no_known_fields}
 use Rattle.ob0_types_check.proofs.GatheredFields.{GroupsGathered}
 use Rattle.ob0_types_check.proofs.reporting.Reporter.+types.Given as goal

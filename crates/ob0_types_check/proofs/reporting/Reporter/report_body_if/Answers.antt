@@ -1,7 +1,7 @@
 use Rattle.std.proofs.Common.{arith}
 use Rattle.ob0_tree.specs.View.{body_of}
 use Rattle.ob0_types_check.specs.SomeBodies.{walked_in}
-use Rattle.ob0_types_check.specs.CheckerFacts.{declarations_in_state}
+use Rattle.ob0_types_check.specs.CheckerViews.{declarations_in_state}
 use Rattle.ob0_types_check.proofs.ReportedWith.{body_faulty, body_faultless}
 use Rattle.ob0_types_check.proofs.reporting.Reporter.report_body_if.Goals as goal
 

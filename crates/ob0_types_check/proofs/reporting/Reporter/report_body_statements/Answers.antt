@@ -3,7 +3,7 @@ use Rattle.std.proofs.lemmas.Result.{on_ok_weaker}
 use Rattle.ob0_tree.specs.View.{body_of, sequence_of_list}
 use Rattle.ob0_types_check.specs.DeclarationFaults.{reported_body}
 use Rattle.ob0_types_check.specs.StatementFaults.{reported_sequence}
-use Rattle.ob0_types_check.specs.CheckerFacts.{declarations_in_state}
+use Rattle.ob0_types_check.specs.CheckerViews.{declarations_in_state}
 use Rattle.ob0_types_check.proofs.Chains.{reports_nothing, reports_same}
 use Rattle.ob0_types_check.proofs.SameFacts.{facts_same}
 use Rattle.ob0_types_check.proofs.ReportedDeclarations.{body_reported, no_body_reported}

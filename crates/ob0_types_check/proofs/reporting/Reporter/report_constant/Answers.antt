@@ -3,7 +3,7 @@ use Rattle.ob0_tree.specs.View.{expression_of}
 use Rattle.ob0_types_check.specs.Known.{a_constant}
 use Rattle.ob0_types_check.specs.Operations.{without_fault}
 use Rattle.ob0_types_check.specs.KnownDeclarations.{define}
-use Rattle.ob0_types_check.specs.CheckerFacts.{declarations_in_state}
+use Rattle.ob0_types_check.specs.CheckerViews.{declarations_in_state}
 use Rattle.ob0_types_check.specs.TypeFaults.{reported_constant}
 use Rattle.ob0_types_check.proofs.Chains.{steps, reports_known, reports_same}
 use Rattle.ob0_types_check.proofs.SameFacts.{facts_same}

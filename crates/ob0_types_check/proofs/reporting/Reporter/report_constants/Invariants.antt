@@ -1,6 +1,6 @@
 use Rattle.ob0_tree.specs.View.{constant_of}
 use Rattle.ob0_types_check.specs.DeclarationFaults.{reported_constants}
-use Rattle.ob0_types_check.specs.CheckerFacts.{declarations_in_state}
+use Rattle.ob0_types_check.specs.CheckerViews.{declarations_in_state}
 use Rattle.ob0_types_check.proofs.Chains.{Chained}
 use Rattle.ob0_types_check.proofs.reporting.Reporter.report_constants.Given as goal
 

@@ -1,6 +1,6 @@
 use Rattle.ob0_tree.specs.View.{further_section_of}
 use Rattle.ob0_types_check.specs.DeclarationFaults.{reported_sections}
-use Rattle.ob0_types_check.specs.CheckerFacts.{heading_in}
+use Rattle.ob0_types_check.specs.CheckerViews.{heading_in}
 use Rattle.ob0_types_check.proofs.Chains.{Chained}
 use Rattle.ob0_types_check.proofs.reporting.Reporter.report_sections.Given as goal
 

@@ -3,7 +3,7 @@ use Rattle.std.proofs.lemmas.Result.{on_ok_weaker}
 use Rattle.ob0_language_names.specs.Parts.{formal_sections}
 use Rattle.ob0_tree.specs.View.{formals_of, further_section_of, items_of}
 use Rattle.ob0_types_check.specs.DeclarationFaults.{reported_sections}
-use Rattle.ob0_types_check.specs.CheckerFacts.{heading_in}
+use Rattle.ob0_types_check.specs.CheckerViews.{heading_in}
 use Rattle.ob0_types_check.proofs.Chains.{reports_nothing, reports_same}
 use Rattle.ob0_types_check.proofs.ReportedDeclarations.{sections_ended, sections_listed}
 use Rattle.ob0_types_check.proofs.reporting.Reporter.report_sections_if_any.Goals as goal

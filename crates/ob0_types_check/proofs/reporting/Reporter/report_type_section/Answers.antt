@@ -2,7 +2,7 @@ use Rattle.std.proofs.Common.{sym, ap, ◌∙◌}
 use Rattle.ob0_language_names.specs.Parts.{section_types}
 use Rattle.ob0_tree.specs.View.{types_of}
 use Rattle.ob0_types_check.specs.DeclarationFaults.{reported_types}
-use Rattle.ob0_types_check.specs.CheckerFacts.{declarations_in_state}
+use Rattle.ob0_types_check.specs.CheckerViews.{declarations_in_state}
 use Rattle.ob0_types_check.proofs.Chains.{reports_nothing, reports_same}
 use Rattle.ob0_types_check.proofs.ReportedDeclarations.{types_ended}
 use Rattle.ob0_types_check.proofs.reporting.Reporter.report_type_section.Goals as goal

@@ -3,7 +3,7 @@ use Rattle.ob0_tree.specs.View.{type_of}
 use Rattle.ob0_types_check.specs.Known.{a_variable}
 use Rattle.ob0_types_check.specs.Operations.{without_fault}
 use Rattle.ob0_types_check.specs.KnownDeclarations.{TypeWithState, define_all}
-use Rattle.ob0_types_check.specs.CheckerFacts.{declarations_in_state}
+use Rattle.ob0_types_check.specs.CheckerViews.{declarations_in_state}
 use Rattle.ob0_types_check.proofs.Chains.{steps, reports_known, reports_same}
 use Rattle.ob0_types_check.proofs.ReportedDeclarations.{variables_reported}
 use Rattle.ob0_types_check.proofs.reporting.Reporter.report_variable_group.Goals as goal

@@ -2,7 +2,7 @@ use Rattle.std.proofs.Common.{◌≡◌, ◌++◌, ◌∷◌, [], List, Option, 
 use Rattle.std.specs.Vec.Iter.{into_iter_items}
 use Rattle.ob0_types_table.specs.declared.known.Object.{Object}
 use Rattle.ob0_types_check.specs.declared.reporting.checker_state.Meaning.{Meaning}
-use Rattle.ob0_types_check.specs.CheckerFacts.{table_object}
+use Rattle.ob0_types_check.specs.CheckerViews.{table_object}
 use Rattle.ob0_types_check.proofs.Listed.{nothing_left}
 use Rattle.ob0_types_check.proofs.reporting.objects.objects_of.Goals as goal
 

@@ -1,6 +1,6 @@
 use Rattle.std.proofs.Common.{◌≡◌, ◌++◌, length, map, option_map}
 use Rattle.std.specs.Vec.Iter.{into_iter_items, into_iter_len}
-use Rattle.ob0_types_check.specs.CheckerFacts.{table_object}
+use Rattle.ob0_types_check.specs.CheckerViews.{table_object}
 use Rattle.ob0_types_check.proofs.reporting.objects.objects_of.Given as goal
 
 -- The objects so far, followed by the objects of the remaining meanings, are the objects of all meanings.

@@ -12,7 +12,7 @@ use Rattle.ob0_tree.specs.View.{addend_of, compound_of, expression_of, factor_of
 use Rattle.ob0_language_types.proofs.TreeParts.{addend_parts, compound_alone, compound_related}
 use Rattle.ob0_types_check.specs.ExpressionFaults.{reported_addends, reported_expression, reported_factor, reported_multipliers, reported_selector, reported_selectors, reported_simple, reported_term}
 use Rattle.ob0_types_check.specs.Operations.{add_operands, complement_operand, element_operand, operand_in_parentheses, multiply_operands, relate_operands, without_fault, sign_operand, ◌>>=◌}
-use Rattle.ob0_types_check.specs.CheckerFacts.{facts_in, operand_of}
+use Rattle.ob0_types_check.specs.CheckerViews.{facts_in, operand_of}
 use Rattle.ob0_types_check.proofs.Chains.{chain_ends, chain_goes_on, steps, reports_nothing, reports_same}
 use Rattle.ob0_types_check.proofs.ReportedParts.{added_chain, alone_reported, designator_reported, factor_reported, field_reported, index_reported, integer_reported, multiplied_chain, negation_reported, nothing_selected, parentheses_reported, related_reported, selected_chain, simple_reported, term_reported, reported_added}
 use Rattle.ob0_types_check.proofs.reporting.checker_state.CheckerState.+expressions.Goals as goal

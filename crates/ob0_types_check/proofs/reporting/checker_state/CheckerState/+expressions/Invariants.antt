@@ -1,6 +1,6 @@
 use Rattle.ob0_tree.specs.View.{addend_of, multiplier_of, selector_of}
 use Rattle.ob0_types_check.specs.ExpressionFaults.{reported_addends, reported_multipliers, reported_selectors}
-use Rattle.ob0_types_check.specs.CheckerFacts.{facts_in, operand_of}
+use Rattle.ob0_types_check.specs.CheckerViews.{facts_in, operand_of}
 use Rattle.ob0_types_check.proofs.Chains.{Chained}
 use Rattle.ob0_types_check.proofs.reporting.checker_state.CheckerState.+expressions.Given as goal
 

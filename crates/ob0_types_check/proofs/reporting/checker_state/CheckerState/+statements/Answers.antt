@@ -4,7 +4,7 @@ use Rattle.ob0_tree.proofs.Viewed.{if_parts, repeat_read, while_read}
 use Rattle.ob0_tree.specs.declared.tree.If.{out-If}
 use Rattle.ob0_tree.specs.View.{else_part_of, elsif_of, expression_of, items_of, sequence_of_list, statement_of}
 use Rattle.ob0_types_check.specs.StatementFaults.{reported_condition, reported_else, reported_elsifs, reported_sequence, reported_statement}
-use Rattle.ob0_types_check.specs.CheckerFacts.{facts_in}
+use Rattle.ob0_types_check.specs.CheckerViews.{facts_in}
 use Rattle.ob0_types_check.proofs.Listed.{each_ends, each_goes_on, nothing_reported, reported_both}
 use Rattle.ob0_types_check.proofs.ReportedStatements.{branches_reported, else_reported, elsifs_each, empty_reported, no_else_reported, repeat_reported, sequence_each, while_reported}
 use Rattle.ob0_types_check.proofs.reporting.checker_state.CheckerState.+statements.Goals as goal

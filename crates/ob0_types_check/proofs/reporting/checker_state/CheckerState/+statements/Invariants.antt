@@ -1,7 +1,7 @@
 use Rattle.std.proofs.Common.{false}
 use Rattle.ob0_tree.specs.View.{elsif_of, items_of, sequence_of_list}
 use Rattle.ob0_types_check.specs.StatementFaults.{reported_elsifs, reported_sequence}
-use Rattle.ob0_types_check.specs.CheckerFacts.{facts_in}
+use Rattle.ob0_types_check.specs.CheckerViews.{facts_in}
 use Rattle.ob0_types_check.proofs.Listed.{EachSoFar}
 use Rattle.ob0_types_check.proofs.reporting.checker_state.CheckerState.+statements.Given as goal
 

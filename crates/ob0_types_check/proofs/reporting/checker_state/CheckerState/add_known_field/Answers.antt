@@ -1,5 +1,5 @@
 use Rattle.std.proofs.Common.{◌++◌, ◌∷◌, [], ap, ◌∙◌}
-use Rattle.ob0_types_check.specs.CheckerFacts.{capped_size, fields_in, size_of}
+use Rattle.ob0_types_check.specs.CheckerViews.{capped_size, fields_in, size_of}
 use Rattle.ob0_types_check.specs.WrittenTypeFaults.{sum_of_sizes}
 use Rattle.ob0_types_check.specs.declared.reporting.written_types.KnownFields as gathering
 use Rattle.ob0_types_check.proofs.GatheredFields.{one_more}

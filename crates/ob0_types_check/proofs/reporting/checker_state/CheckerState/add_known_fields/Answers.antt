@@ -1,5 +1,5 @@
 use Rattle.std.proofs.Common.{get_or, refl, subst}
-use Rattle.ob0_types_check.specs.CheckerFacts.{HasKnownFields}
+use Rattle.ob0_types_check.specs.CheckerViews.{HasKnownFields}
 use Rattle.ob0_types_check.specs.WrittenTypeFaults.{with_known_field, with_known_fields}
 use Rattle.ob0_types_check.proofs.GatheredFields.{names_begin, names_end, names_go_on}
 use Rattle.ob0_types_check.proofs.reporting.checker_state.CheckerState.add_known_fields.Goals as goal

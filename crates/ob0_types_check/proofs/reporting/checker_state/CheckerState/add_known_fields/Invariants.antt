@@ -1,4 +1,4 @@
-use Rattle.ob0_types_check.specs.CheckerFacts.{HasKnownFields}
+use Rattle.ob0_types_check.specs.CheckerViews.{HasKnownFields}
 use Rattle.ob0_types_check.specs.WrittenTypeFaults.{KnownFields}
 use Rattle.ob0_types_check.proofs.GatheredFields.{NamesGathered}
 use Rattle.ob0_types_check.proofs.reporting.checker_state.CheckerState.add_known_fields.Given as goal

@@ -1,7 +1,7 @@
 use Rattle.std.proofs.Common.{◌++◌, false, sym, ap, ◌∙◌}
 use Rattle.ob0_tree.specs.View.{expression_of}
 use Rattle.ob0_types_check.specs.Operations.{required_type}
-use Rattle.ob0_types_check.specs.CheckerFacts.{facts_in}
+use Rattle.ob0_types_check.specs.CheckerViews.{facts_in}
 use Rattle.ob0_types_check.proofs.Chains.{steps}
 use Rattle.ob0_types_check.proofs.ReportedStatements.{requested_reported}
 use Rattle.ob0_types_check.proofs.reporting.checker_state.CheckerState.check_typed_expression.Goals as goal

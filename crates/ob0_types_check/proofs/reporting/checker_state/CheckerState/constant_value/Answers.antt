@@ -1,7 +1,7 @@
 use Rattle.std.proofs.Common.{true, sym}
 use Rattle.std.proofs.lemmas.Result.{IfOk-weaker}
 use Rattle.ob0_tree.specs.View.{expression_of}
-use Rattle.ob0_types_check.specs.CheckerFacts.{facts_in}
+use Rattle.ob0_types_check.specs.CheckerViews.{facts_in}
 use Rattle.ob0_types_check.specs.TypeFaults.{operand_value}
 use Rattle.ob0_types_check.proofs.Chains.{steps, reports_same}
 use Rattle.ob0_types_check.proofs.ReportedParts.{constant_reported}

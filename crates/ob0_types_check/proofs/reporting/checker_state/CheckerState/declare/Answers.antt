@@ -1,5 +1,5 @@
 use Rattle.std.proofs.Common.{map, ap}
-use Rattle.ob0_types_check.specs.CheckerFacts.{composite_type_of}
+use Rattle.ob0_types_check.specs.CheckerViews.{composite_type_of}
 use Rattle.ob0_types_check.proofs.SameFacts.{declared_within}
 use Rattle.ob0_types_check.proofs.reporting.checker_state.CheckerState.declare.Goals as goal
 

@@ -1,6 +1,6 @@
 use Rattle.std.proofs.Common.{◌++◌, false, sym, ap, ◌∙◌}
 use Rattle.ob0_tree.specs.View.{expression_of}
-use Rattle.ob0_types_check.specs.CheckerFacts.{facts_in, formal_of}
+use Rattle.ob0_types_check.specs.CheckerViews.{facts_in, formal_of}
 use Rattle.ob0_types_check.specs.StatementFaults.{required_of_argument}
 use Rattle.ob0_types_check.proofs.Chains.{steps}
 use Rattle.ob0_types_check.proofs.ReportedStatements.{argument_reported}

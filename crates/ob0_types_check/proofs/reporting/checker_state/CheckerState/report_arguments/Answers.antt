@@ -3,7 +3,7 @@ use Rattle.std.proofs.lemmas.Slice.Zip.{zip_end, zip_turn}
 use Rattle.std.proofs.lemmas.Result.{on_ok_weaker}
 use Rattle.ob0_tree.specs.View.{expression_of}
 use Rattle.ob0_types_check.specs.StatementFaults.{reported_arguments}
-use Rattle.ob0_types_check.specs.CheckerFacts.{facts_in, formal_of}
+use Rattle.ob0_types_check.specs.CheckerViews.{facts_in, formal_of}
 use Rattle.ob0_types_check.proofs.Listed.{PairSoFar, pairs_end, pairs_go_on}
 use Rattle.ob0_types_check.proofs.ReportedStatements.{argument_pairs, count_differs, count_is_right}
 use Rattle.ob0_types_check.proofs.reporting.checker_state.CheckerState.report_arguments.Goals as goal

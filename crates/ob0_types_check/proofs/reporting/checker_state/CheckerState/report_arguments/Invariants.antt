@@ -1,7 +1,7 @@
 use Rattle.std.proofs.Common.{false, length, map}
 use Rattle.ob0_tree.specs.View.{expression_of}
 use Rattle.ob0_types_check.specs.StatementFaults.{reported_arguments}
-use Rattle.ob0_types_check.specs.CheckerFacts.{facts_in, formal_of}
+use Rattle.ob0_types_check.specs.CheckerViews.{facts_in, formal_of}
 use Rattle.ob0_types_check.proofs.Listed.{PairSoFar}
 use Rattle.ob0_types_check.proofs.reporting.checker_state.CheckerState.report_arguments.Given as goal
 

@@ -4,7 +4,7 @@ use Rattle.ob0_tree.specs.View.{expression_of, items_of, selector_of}
 use Rattle.ob0_types_check.specs.Operations.{typed_name_operand}
 use Rattle.ob0_types_check.specs.ExpressionFaults.{reported_selectors}
 use Rattle.ob0_types_check.specs.StatementFaults.{reported_required}
-use Rattle.ob0_types_check.specs.CheckerFacts.{facts_in}
+use Rattle.ob0_types_check.specs.CheckerViews.{facts_in}
 use Rattle.ob0_types_check.proofs.Chains.{steps, reports_same}
 use Rattle.ob0_types_check.proofs.Listed.{reported_following}
 use Rattle.ob0_types_check.proofs.ReportedStatements.{assigned_reported, target_reported}

@@ -3,7 +3,7 @@ use Rattle.std.proofs.lemmas.Result.{on_ok_weaker}
 use Rattle.ob0_tree.specs.View.{arguments_of, expression_of}
 use Rattle.ob0_language_types.specs.Arguments.{arguments_listed}
 use Rattle.ob0_types_check.specs.StatementFaults.{reported_call}
-use Rattle.ob0_types_check.specs.CheckerFacts.{facts_in}
+use Rattle.ob0_types_check.specs.CheckerViews.{facts_in}
 use Rattle.ob0_types_check.proofs.ReportedStatements.{all_listed, called_reported}
 use Rattle.ob0_types_check.proofs.reporting.checker_state.CheckerState.report_call_statement.Goals as goal
 

@@ -1,5 +1,5 @@
 use Rattle.std.proofs.Common.{false}
-use Rattle.ob0_types_check.specs.CheckerFacts.{facts_in}
+use Rattle.ob0_types_check.specs.CheckerViews.{facts_in}
 use Rattle.ob0_types_check.proofs.Listed.{each_ends, each_goes_on}
 use Rattle.ob0_types_check.proofs.ReportedStatements.{parts_each}
 use Rattle.ob0_types_check.proofs.reporting.checker_state.CheckerState.report_untyped_arguments.Goals as goal

@@ -1,7 +1,7 @@
 use Rattle.std.proofs.Common.{false, map}
 use Rattle.ob0_tree.specs.View.{expression_of}
 use Rattle.ob0_types_check.specs.StatementFaults.{reported_untyped_arguments}
-use Rattle.ob0_types_check.specs.CheckerFacts.{facts_in}
+use Rattle.ob0_types_check.specs.CheckerViews.{facts_in}
 use Rattle.ob0_types_check.proofs.Listed.{EachSoFar}
 use Rattle.ob0_types_check.proofs.reporting.checker_state.CheckerState.report_untyped_arguments.Given as goal
 

@@ -1,5 +1,5 @@
 -- Defines the lines that the commands print on standard error, in bytes of UTF-8. `EndsByFault`,
--- `PrintsStoppedRun` and `RefusesName` have a parameter `StderrLines`: the fact that a line is
+-- `PrintsStoppedRun` and `RefusesName` have a parameter `IsPrintedOnStderr`: the fact that a line is
 -- printed (`PrintsLine`). So the printed line belongs to the same fault, run or refusal as the
 -- status and the output.
 -- Rule: docs/PROTOCOL.md, The program 2, 3, 5, 6 and 7.
