@@ -8,7 +8,7 @@
 //! (`reuse_last_module`).
 //!
 //! The tree is dropped when the parser refuses the first of these texts, so the body can't be found
-//! again later. From then on, the whole body counts as different (`widen_to_body`), and any further
+//! again later. After that, the whole body counts as different (`widen_to_body`), and any further
 //! change must lie in the same body (`after`).
 
 ghost use Rattle.std.specs.Prelude.{◌≡◌, ◌≤◌, IfSome, Some};

@@ -133,7 +133,7 @@ fn position_at<T: TextStore>(
     }
 }
 
-/// Turns a diagnosis into a diagnostic with this start and end. The message is moved, not copied.
+/// Converts a diagnosis to a diagnostic with this start and end. The message is moved, not copied.
 fn diagnostic(diagnosis: Diagnosis, start: Position, end: Position) -> Diagnostic
     ensures { diagnostic_view result ≡ record {
       code = (complaint_of_diagnosis diagnosis).code;

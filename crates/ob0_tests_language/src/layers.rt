@@ -19,7 +19,7 @@ const TEXT: &str =
 /// The ordinals of the declarations to which the occurrences of the text are bound: INTEGER, x, c, x, c, Write and x.
 static BOUND: &[usize] = &[0, 8, 7, 8, 7, 5, 8];
 
-/// Returns whether the names of the module are bound to their declarations, without faults.
+/// Returns whether the names of the module are bound to their declarations and no fault is reported.
 fn is_bound(names: &Resolved<'_>) -> bool {
     for occurrence in 0..BOUND.len() {
         if names.declaration_of(occurrence) != Some(BOUND[occurrence]) {

@@ -131,8 +131,9 @@ fn agree(
     Ok(is_as_new(alloc, &stores.lines, unit)? && stores.have_same_places(10, 8))
 }
 
-/// Returns whether the stores agree after each of two separate changes. One ends `further` lines
-/// later and counts in UTF-16 units. The other stays in the line and counts in bytes.
+/// Returns whether the stores agree after each of two separate changes. One change ends `further`
+/// lines later and counts in UTF-16 units. The other one begins and ends in the same line, and
+/// counts in bytes.
 fn agree_from(
     alloc: Global,
     text: &str,

@@ -52,7 +52,7 @@ static ENDS: &[ServeEnd] = ends![
     BAD_HEAD to 118, 40, u32::MAX; 512, 3 => Err(ServeFault::BadHead);
 ];
 
-/// The end of a conversation, with each device's failure as it was recorded, and whether everything
+/// The end of a conversation, with each device's recorded failure, and whether everything
 /// was flushed.
 #[derive(Clone, Copy)]
 struct Found {

@@ -130,12 +130,12 @@ relation_operand_type types relation.GreaterEqual left = types.integer
 abbrev pub comparison_type : {T : Type 0} → Types T → T → T
 comparison_type types t = if types.same t types.unknown then types.unknown else types.boolean
 
--- returns the operand that results from an operation on the operands `a` and `b`, with the type `of` and this value
+-- returns the result, as an operand, of an operation on the operands `a` and `b`, with the type `of` and this value
 abbrev pub joint_operand : {T : Type 0} → T → Option Value → Operand T → Operand T → Operand T
 joint_operand of value a b =
     record { of = of; value = value; is_place = false; first = a.first; last = b.last }
 
--- returns the operand that results from a sign or `~` before the operand `o`, with the type `of` and this value
+-- returns the result, as an operand, of a sign or `~` before the operand `o`, with the type `of` and this value
 abbrev pub signed_operand : {T : Type 0} → T → Option Value → Operand T → Operand T
 signed_operand of value o =
     record { of = of; value = value; is_place = false; first = token_before o.first; last = o.last }

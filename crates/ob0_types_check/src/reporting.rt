@@ -20,8 +20,8 @@
 //!
 //! The definitions work over any representation of types that has an unknown type (`Types`). One
 //! such representation is the code's `TypeId`, which refers to arrays and records by their indexes
-//! in a list (`known_types`). Another is `Option Shape`, which needs no list and in which None is
-//! the unknown type.
+//! in a list (`known_types`). Another is `Option Shape`, without a list; None represents the
+//! unknown type.
 //!
 //! The faults of written types, declarations and blocks depend on a state, `KnownDeclarations`.
 //! This state has the meanings of the declarations, by ordinal, and a list of the arrays and

@@ -53,8 +53,8 @@ abbrev pub search_view : List Shape → Search → SearchState
 search_view shapes (search.Found of) = is_found (option_map (type_shape shapes) of)
 search_view shapes (search.Before n) = is_after n
 
--- converts a state of the code's search to a state of the definitions; the shapes of arrays and records are taken from
--- the walk's table of declarations
+-- converts a state of the code's search to a state of the definitions; the walk's table of declarations
+-- gives the shapes of arrays and records
 abbrev pub search_view_in_walk : ConstructorWalk → Search → SearchState
 search_view_in_walk w s = search_view (shapes_of w.known.now) s
 

@@ -82,8 +82,8 @@ MentionsDocumentOfAsk requested content =
     → (a : SentAsk) × (request_numbered requested k ≡ Some a) × MentionsAskedDocument a answer
 
 -- States that `MentionsDocumentOfAsk` holds for each content that waits for the editor, after any
--- list of events. Each content that the editor takes has waited before, so the fact holds for these
--- contents too.
+-- list of events. Each content that the editor takes has waited before, so the fact also holds for
+-- these contents.
 abbrev pub AnswersMentionVersions : Type 0
 AnswersMentionVersions =
     (unit : Unit) (begin : Connection) (events : List Event) (now : Connection)

@@ -33,8 +33,7 @@ abbrev pub whole_text_change : List ℕ → TextChange
 whole_text_change text = record { range = None; text = text }
 
 -- Returns the text after these changes, each made in the text that the previous change has left.
--- None is an unknown text: a change of a range leaves it unknown, and a change of the whole text
--- makes it known.
+-- If the text is unknown (None), only a change of the whole text makes it known.
 abbrev pub text_after_changes : Unit → Option (List ℕ) → List TextChange → Option (List ℕ)
 text_after_changes unit text changes = fold (changed_text unit) text changes
 

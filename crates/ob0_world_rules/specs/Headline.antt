@@ -11,7 +11,7 @@ use Rattle.ob0_world_rules.specs.PublicationsInOrder.{AreMadeInOrder}
 
 -- ---- an applied edit
 
--- states that the edit turns a well-typed module into a well-typed module with the same run: the
+-- states that the texts before and after the edit are well-typed modules with the same run: the
 -- same output and the same end
 pub record KeepsTheRun (a : Applied) : Type 0 where
   pub before_fits : WellTypedText a.before
