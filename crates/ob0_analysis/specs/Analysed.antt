@@ -1,4 +1,4 @@
--- Defines the right answers to questions about a text.
+-- Defines when an answer of `ask` about the module of a text is right.
 -- Rule: none; for contracts of `ask`.
 use Rattle.std.specs.Prelude.{ℕ, List, None, Option, Some}
 use Rattle.ob0_scan.specs.TextWithTokens.{IsScanOf}
@@ -19,8 +19,9 @@ pub record IsReadAs (text : List ℕ) (m : ParsedModule) : Type 0 where
   pub parsed : IsParsed m
   pub well_typed : WellTyped (named_tree_of m)
 
--- States that the text is a well-typed module, and `answers` relates this module to the answer. For
--- None, states that the text isn't a well-typed module.
+-- States that an optional answer about a text is right. For Some, the text must be a well-typed
+-- module, and `answers` must relate this module to the answer. For None, the text must not be a
+-- well-typed module.
 abbrev pub AnswersIfWellTyped : {A : Type 0} → List ℕ → (Resolution → A → Type 0) → Option A → Type 0
 AnswersIfWellTyped text answers (Some answer) =
     (names : Resolution) × IsModuleIn text names × answers names answer

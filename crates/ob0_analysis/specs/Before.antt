@@ -48,7 +48,7 @@ pub record AreFaultPlacesOf
   pub front : places.front ≡ (first_token_start source == 0)
 
 -- States that the bindings `c` equal `b`, except for their faults. The faults of `c` have the codes
--- and tokens in `places`, and their spans are computed from these tokens of the text.
+-- and tokens in `places`, and their spans are computed from these tokens of the text `source`.
 pub record HasFaultsAt
     (source : TextWithTokens) (b : Bindings) (places : List FaultByTokens) (c : Bindings) : Type 0 where
   pub ordinals : c.ordinals.items ≡ b.ordinals.items
@@ -57,7 +57,7 @@ pub record HasFaultsAt
   pub faults : c.faults.items ≡ map (fault_at source) places
 
 -- States that `moved` equals `types`, except for the faults. The faults of `moved` have the codes
--- and tokens in `places`, and their spans are computed from these tokens of the text.
+-- and tokens in `places`, and their spans are computed from these tokens of the text `source`.
 pub record HasTypesAt
     (source : TextWithTokens) (types : ModuleTypes) (places : List FaultByTokens) (moved : ModuleTypes)
     : Type 0 where
@@ -66,8 +66,8 @@ pub record HasTypesAt
   pub faulty : moved.faulty ≡ types.faulty
   pub faults : moved.faults.items ≡ map (fault_at source) places
 
--- States that this tree, these bindings and this result of checking types belong to the text.
--- `places` must have the tokens of the text's faults.
+-- States that this tree, these bindings and this result of checking types belong to the text
+-- `source`. `places` must have the tokens of the module's faults of names and types.
 pub record IsModuleWithFaultPlaces
     (source : TextWithTokens) (tree : ModuleTree) (b : Bindings) (types : ModuleTypes)
     (places : FaultPlaces) : Type 0 where
@@ -97,7 +97,8 @@ pub record IsModuleBefore
 
 -- States that a previous text was a module with this tree, these bindings, this result of checking
 -- its types, and faults at these places. The tokens of the previous text must have the same
--- spelling as the tokens of `new`.
+-- spelling as the tokens of `new`, and the two texts must begin alike (`AreWrittenAlike`). The tree
+-- must also be the tree of `new`.
 pub record IsModuleWithSameSpelling
     (new : TextWithTokens) (tree : ModuleTree) (b : Bindings) (types : ModuleTypes) (places : FaultPlaces)
     : Type 0 where

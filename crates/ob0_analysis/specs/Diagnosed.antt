@@ -46,7 +46,7 @@ pub record IsWellTypedModule (text : List ℕ) : Type 0 where
   pub text_of : IsTextOf tree text
   pub well_typed : WellTyped tree
 
--- ---- a text without lexemes
+-- ---- the errors of a text with lexical faults
 
 -- returns the complaint about one fault of lexemes, names or types
 abbrev pub complaint_of_fault : Fault → Complaint
@@ -61,7 +61,7 @@ pub record ReportsLexemes (text : List ℕ) (reported : List Complaint) : Type 0
   pub of_text : AreFaults text faults
   pub all : reported ≡ map complaint_of_fault faults
 
--- ---- a text with lexemes and without a tree
+-- ---- the error of a text that scans and that the parser refuses
 
 -- returns the span of a token, or an empty span at the end of the text if there is no token
 abbrev pub span_or_end : List ℕ → Option Token → Span
@@ -101,7 +101,7 @@ pub record ReportsParser (text : List ℕ) (reported : List Complaint) : Type 0 
   pub says : ReportsRefusal scanned refusal complaint
   pub alone : reported ≡ complaint ∷ []
 
--- ---- a text with a tree that isn't well-typed
+-- ---- the errors of a text with a tree that isn't well-typed
 
 -- States that the text has a tree that isn't well-typed. The list must report the first faults of
 -- the text's names and types: at least one, and at most a hundred.
@@ -116,7 +116,7 @@ pub record ReportsTypes (text : List ℕ) (reported : List Complaint) : Type 0 w
   pub few : length faults ≤ max_faults
   pub all : reported ≡ map complaint_of_fault faults
 
--- ---- every text
+-- ---- the errors of any text
 
 -- States that the list reports the errors of a text that isn't a well-typed module. These are the
 -- text's lexical faults, or the parser's refusal, or the faults of names and types.
@@ -131,9 +131,9 @@ Reports text reported =
     (IsWellTypedModule text × (reported ≡ []))
     ⊎ (¬ IsWellTypedModule text × ReportsFaults text reported)
 
--- ---- laws
+-- ---- a law about the parser's refusal
 
--- States that two reports of the parser's refusal for the same text are equal.
+-- States that two reports of the parser's refusal are equal if they are about the same text.
 abbrev pub RefusalIsUnique : Type 0
 RefusalIsUnique =
     (text : List ℕ) (a b : List Complaint) → ReportsParser text a → ReportsParser text b → a ≡ b

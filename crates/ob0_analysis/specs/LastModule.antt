@@ -47,8 +47,9 @@ pub record WidensDifference (same wider : SameTokens) : Type 0 where
   pub as_far : wider.new_suffix + same.old_suffix ≡ same.new_suffix + wider.old_suffix
 
 -- States that a change from an old text to a new text keeps the last module right: if `before`
--- belongs to the old text, then `after` belongs to the new text. This must hold for any two texts
--- that share the tokens described by `change`. Always holds if `after` is None.
+-- belongs to the old text, then `after` belongs to the new text. This must hold for any old text
+-- and any scanned new text (`IsScan`) that share the tokens described by `change`. Always holds if
+-- `after` is None.
 abbrev pub KeepsLastModule : Option LastModule → SameTokens → Option LastModule → Type 0
 KeepsLastModule before change after =
     (old new : TextWithTokens)

@@ -1,4 +1,5 @@
--- Defines a text in which the statements of one body were replaced.
+-- States that a body of the earlier module and a body of the current module are the same body, in
+-- which statements were replaced.
 -- Rule: none; for private contracts: the results that an analysis reuses.
 use Rattle.std.specs.Prelude.{◌≡◌, ◌<◌, ◌+◌, Option, Some}
 use Rattle.ob0_scan.specs.declared.tokens.SameTokens.{SameTokens}

@@ -1,4 +1,5 @@
--- Defines a text with the same tree as the previous text.
+-- Defines an earlier module whose tokens have the same kinds as the current text's tokens. So the
+-- earlier module's tree is also the current text's tree.
 -- Rule: none; for private contracts: the results that an analysis reuses.
 use Rattle.std.specs.Prelude.{◌≡◌}
 use Rattle.ob0_scan.specs.Reused.{kinds}
@@ -11,7 +12,7 @@ use Rattle.ob0_analysis.specs.LastModule.{IsEarlierModule}
 
 -- States that an earlier text was a module with this tree, these bindings and this result of
 -- checking its types. The tokens of the earlier text must have the same kinds as the tokens of
--- `new`. The tokens that `s` describes must also have the same spellings.
+-- `new`, one by one. The tokens that `s` describes must also have the same spellings.
 pub record IsEarlierModuleWithSameKinds
     (new : TextWithTokens) (tree : ModuleTree) (b : Bindings) (types : ModuleTypes) (s : SameTokens)
     : Type 0 where

@@ -1,4 +1,4 @@
--- Defines two texts whose modules have the same runs.
+-- States that two texts are well-typed modules with the same runs.
 -- Rule: docs/PROTOCOL.md, Requests on documents 10.
 use Rattle.std.specs.Prelude.{ℕ, List}
 use Rattle.ob0_language_runs.specs.EditLaws.{HaveSameRuns}

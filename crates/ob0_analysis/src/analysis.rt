@@ -1,19 +1,19 @@
 //! Keeps the analysis of a text as one value, and updates it when the text changes.
 //!
 //! An `Analysis` owns one of two things:
-//! - For a text that has lexemes, a `ScannedText`: the parts of its module, or the parser's refusal
-//!   and the tokens.
+//! - For a text without lexical faults (a text that *has lexemes*), a `ScannedText`: the parts of
+//!   its module, or the parser's refusal and the tokens.
 //! - For a text with lexical faults, an `UnscannableText`: the text, its faults, and the last
 //!   `ScannedText` before it.
 //!
 //! In contracts, the value of an `Analysis` is only the text. Its invariant says that the analysis
-//! is right for that text (`IsValidAnalysisResult`, `IsValidOutcome`). So `of` and `after` have the
-//! same clause, and contracts don't mention which results are reused. The crates above don't depend
-//! on how much is reused.
+//! is right for that text (`IsValidAnalysisResult`, `IsValidOutcome`). So `of` and
+//! `after` have the same clause, and contracts don't mention which results are reused. The
+//! crates above don't depend on how much is reused.
 //!
-//! `after` finds the common beginning and end of the old and the new text (`Difference::between`).
-//! It scans only the rest, and replaces the old tokens there (`rescan_in_place`). The next step
-//! depends on the tokens:
+//! `after` finds the common beginning and end of the old and the new text
+//! (`Difference::between`). It scans only the rest, and replaces the old tokens there
+//! (`rescan_in_place`). The next step depends on the tokens:
 //! - All tokens have the same kinds as before, and the old text has a tree: the tree is kept. It
 //!   has token indexes instead of names and numbers, and is also the tree of the new text
 //!   (`tree_stays` of `ob0_parse`). Bindings are kept if the identifiers have the same spelling and
@@ -134,8 +134,8 @@ impl Analysis {
     }
 
     /// Analyses a changed text, and reuses results for the parts that the old and the new text have
-    /// in common (`ScannedText::after`). If the new text has lexical faults, the results for the
-    /// last text that had lexemes are kept.
+    /// in common (`ScannedText::after`). If the new text has lexical faults, the results for
+    /// the last text that had lexemes are kept.
     pub fn after(self, alloc: Global, text: &str) -> Result<Analysis, AllocError>
         ensures { IfOk result (λ a. a ≡ text.now) }
     {
@@ -232,9 +232,9 @@ impl Analysis {
         }
     }
 
-    /// Returns a measure of the memory that the analysis uses, in bytes of text. This is the length
-    /// of the text, or `room` if that is greater. If the text has lexical faults, it is the sum of
-    /// both.
+    /// Returns a measure of the memory that the analysis uses, in bytes of text. The measure is the
+    /// text's length, or `room` if `room` is greater. If the text has lexical faults, the measure
+    /// is the text's length plus `room`.
     pub fn size_in_bytes(&self) -> usize
         ensures { length self.now ≤ result }
     {

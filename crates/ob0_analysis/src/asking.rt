@@ -1,4 +1,4 @@
-//! Answers questions about the module of a text.
+//! Answers questions about the module of a text, for example hover, definition and references.
 //!
 //! `ask` builds views of the module from the kept tokens, tree, bindings and types. If the module
 //! is well-typed, `ask` passes the view of the well-typed module to the question. If the text isn't

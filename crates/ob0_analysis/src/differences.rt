@@ -4,7 +4,7 @@ ghost use Rattle.std.specs.Prelude.{◌≡◌, ◌+◌, ◌-◌, ◌<◌, ◌≤
 ghost use Rattle.ob0_scan.specs.Reused.{ReplacesRange};
 ghost use Rattle.ob0_analysis.specs.Pieces.{IsCommonPiece};
 
-/// A difference between two texts: the `removed` bytes of the first text that start at byte `from`
+/// A difference between two texts: the `removed` bytes at the byte offset `from` of the first text
 /// are replaced by `added` bytes in the second text.
 #[derive(Clone, Copy, Debug, Drop, PartialEq, Eq)]
 pub(crate) struct Difference {

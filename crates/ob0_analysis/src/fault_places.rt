@@ -10,8 +10,8 @@ use ob0_scope_table::{Bindings, FaultByTokens, faults_at_tokens, faults_by_token
 use ob0_types::ModuleTypes;
 use std::alloc::{AllocError, Global};
 
-/// The tokens at which a module has faults of names and of types. `front` is true if the text
-/// begins with a token or has no tokens.
+/// The tokens at which a module has faults of names and of types. `front` is true if
+/// the text begins with a token or has no tokens.
 #[derive(Drop)]
 pub(crate) struct FaultPlaces {
     pub(crate) names: Vec<FaultByTokens>,

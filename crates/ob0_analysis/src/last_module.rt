@@ -31,8 +31,9 @@ pub(crate) struct LastModule {
 }
 
 impl LastModule {
-    /// Keeps the names and types of the previous module if all tokens that may differ lie in one
-    /// body, after its first identifier. Otherwise returns None.
+    /// Keeps the names and types of the previous module (`tree`, `bindings`, `types`) for a changed
+    /// text with these tokens. Returns None unless all tokens that may differ (outside `same`) lie
+    /// in one body, after its first identifier.
     pub(crate) fn of(
         tokens: &Tokens,
         tree: &ModuleTree,
@@ -54,8 +55,9 @@ impl LastModule {
         })
     }
 
-    /// Keeps the names and types of the last module across a further change. Returns None if `last`
-    /// is None, or if the change doesn't lie in the body that contains all earlier differences.
+    /// Keeps the names and types of the last module when the text changes again. `change` describes
+    /// the tokens that this change keeps. Returns None if `last` is None, or if the change doesn't
+    /// lie in the body that contains all earlier differences.
     pub(crate) fn after(last: Option<LastModule>, change: SameTokens) -> Option<LastModule>
         ensures { KeepsLastModule last change result }
     {
@@ -65,8 +67,9 @@ impl LastModule {
         }
     }
 
-    /// Keeps the names and types of the last module across a further change. Returns None if the
-    /// change doesn't lie in the body that contains all earlier differences.
+    /// Keeps the names and types of the last module when the text changes again. `change` describes
+    /// the tokens that this change keeps. Returns None if the change doesn't lie in the body that
+    /// contains all earlier differences.
     fn keep_after(self, change: SameTokens) -> Option<LastModule>
         ensures { KeepsLastModule (Some self) change result }
     {

@@ -1,5 +1,5 @@
--- Defines the effect of a command line on a file: its output, its exit status, and how much of the
--- input is read.
+-- Defines the effect of each command on a file: its output, its exit status, and how much of the
+-- input is read. In each definition, `before` and `after` are the output before and after the call.
 -- Rule: docs/PROTOCOL.md, The program 1 to 8.
 use Rattle.std.specs.Prelude.{◌≡◌, ◌⊎◌, ℕ, List, [], Option, None, Bool, true, suc}
 use Rattle.ob0_text.specs.declared.position_types.Position.{Position}
@@ -77,9 +77,9 @@ RenamesInFile contents is_flushed has_failed before after IsPrintedOnStderr file
     ⊎ EndsByFault has_failed before after file (StopsPrintingFaults file) IsPrintedOnStderr status
 
 -- States that the command of this command line ends with this status, as `ChecksFile`, `RunsFile`
--- or `RenamesInFile` says. Only `run` reads from the input: at most one byte over the limit
--- `max_input`, and nothing if the file isn't a well-typed module. Never holds for `serve`, which
--- isn't a command on a file.
+-- or `RenamesInFile` says. `input` and `left` are the input before and after the call. Only `run`
+-- reads from the input: at most one byte over the limit `max_input`, and nothing if the file isn't a
+-- well-typed module. Never holds for `serve`, which isn't a command on a file.
 abbrev pub PerformsOnFile : {O I : Type 0}
     → (contents : O → Option (List ℕ))
     → (is_flushed has_failed : O → Bool)

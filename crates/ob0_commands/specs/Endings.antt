@@ -1,11 +1,11 @@
 -- Defines how a command on a file ends: its status, its output and its lines on standard error. If
--- the status is 0 or 1, the file is UTF-8 or too long. In that case, neither the output nor the
--- input has failed in the call. Any other status is the status of a fault. `StopsPrintingFaults`
--- and `StopsRunning` state the reason for the fault. A run is printed only if its input is a list
--- of numbers (`IsInputOf`). Status 5 may occur with any input. `decode_text` allocates nothing, so
--- status 5 occurs only for a file that isn't too long (`AllocatesOnlyIfShort`). Each command prints
--- after its last allocation. So a fault other than `Write` leaves the output unchanged
--- (`PrintsNothingUnlessWrite`).
+-- the status is 0 or 1, the file is UTF-8 or too long. In that case, the call hasn't changed whether
+-- the output or the input has failed. Any other status is the status of a fault.
+-- `StopsPrintingFaults` and `StopsRunning` state the reason for the fault. A run is printed only if
+-- the bytes of its input are a list of numbers (`IsInputOf`) or aren't known. Status 5 may occur
+-- with any input. `decode_text` allocates nothing, so status 5 occurs only for a file that isn't too
+-- long (`AllocatesOnlyIfShort`). Each command prints after its last allocation. So a fault other
+-- than `Write` leaves the output unchanged (`PrintsNothingUnlessWrite`).
 -- Rule: docs/PROTOCOL.md, The program 5 to 8.
 use Rattle.std.specs.Prelude.{◌≡◌, ◌≤◌, ℕ, List, Option, Some, Bool}
 use Rattle.ob0_commands.specs.Printed.{fault_line}
@@ -22,7 +22,7 @@ pub record EndsWithoutFault (Good Other Both : Type 0) (status : ℕ) : Type 0 w
 
 -- States that a fault ends the command. `Stops` holds for the fault, the command's status is the
 -- fault's status, and the fault's line is printed on standard error (`IsPrintedOnStderr`). The output is
--- unchanged, unless the fault is `Write`.
+-- unchanged, unless the fault is `Write`. The fault is `Memory` only if the file isn't too long.
 pub record EndsByFault {O : Type 0} (has_failed : O → Bool) (before after : O) (file : List ℕ)
     (Stops : FileFault → Type 0) (IsPrintedOnStderr : Option (List ℕ) → Type 0) (status : ℕ) : Type 0 where
   pub why : FileFault

@@ -8,14 +8,15 @@ use Rattle.ob0_commands.specs.declared.tracked_output.TrackedWriter.{TrackedWrit
 abbrev pub wrapped_writer : {W : Type 0} → TrackedWriter W → W
 wrapped_writer output = output.device
 
--- Returns whether a flush has succeeded since the last write of at least one byte.
+-- Returns whether a call of `flush_tracked` has succeeded since the last write. A call of
+-- `write_tracked` without any bytes doesn't count as a write.
 abbrev pub has_flushed : {W : Type 0} → TrackedWriter W → Bool
 has_flushed output = output.has_flushed
 
--- Returns whether a call that writes or flushes has failed.
+-- Returns whether a call of `write_tracked` or `flush_tracked` has failed.
 abbrev pub output_failed : {W : Type 0} → TrackedWriter W → Bool
 output_failed output = output.has_failed
 
--- States that everything written is flushed, or that the writer is unchanged.
+-- States that the writer is flushed (`is_flushed`), or that it is unchanged.
 abbrev pub IsFlushedOrUnchanged : {O : Type 0} → (is_flushed : Bool) (before after : O) → Type 0
 IsFlushedOrUnchanged is_flushed before after = (is_flushed ≡ true) ⊎ (after ≡ before)

@@ -17,7 +17,7 @@ use Rattle.ob0_text.specs.declared.position_types.Unit.TheVariants.{Utf16}
 use Rattle.ob0_commands.specs.declared.faults.FileFault.{FileFault}
 use Rattle.ob0_commands.specs.declared.faults.FileFault.TheVariants as fault
 
--- ---- faults
+-- ---- the lines that report faults
 
 -- Returns the line on standard error that reports a fault.
 abbrev pub fault_line : FileFault → List ℕ
@@ -27,7 +27,7 @@ fault_line fault.Input = codes "fault: Input\n"
 fault_line fault.Write = codes "fault: Write\n"
 fault_line fault.Memory = codes "fault: Memory\n"
 
--- ---- the errors of a file
+-- ---- the errors of a file: one line for each diagnostic (a `Complaint`)
 
 -- Returns the line `L:C: FaultCode: message` that reports a diagnostic at this position.
 abbrev pub complaint_line_at : Position → Complaint → List ℕ
@@ -62,9 +62,9 @@ abbrev pub too_long_line : List ℕ
 too_long_line = complaint_line_at (record { line = 0; character = 0 }) too_long_complaint
 
 -- States that the file has errors, and that their lines are appended to the output. If the file has
--- more bytes than a text may have, there is only one line. Otherwise the text isn't a well-typed
--- module, and each diagnostic has a line. If the output's bytes aren't known, only the errors are
--- stated.
+-- more bytes than a text may have, only `too_long_line` is appended. Otherwise the text isn't a
+-- well-typed module, and each diagnostic has a line. If the output's bytes aren't known, nothing is
+-- stated about them.
 abbrev pub PrintsDiagnostics : List ℕ → Option (List ℕ) → Option (List ℕ) → Type 0
 PrintsDiagnostics file before after =
     ((max_text < length file) × Appends before after too_long_line)
@@ -73,7 +73,7 @@ PrintsDiagnostics file before after =
     × ReportsFaults file reported
     × Appends before after (complaint_lines file reported))
 
--- ---- runs
+-- ---- the output of a run, and the line that reports its end
 
 -- Returns the text of an output item: a space and the digits of a number, or a line feed.
 abbrev pub output_item_text : PrintedItem → List ℕ
@@ -85,8 +85,8 @@ abbrev pub output_text : List PrintedItem → List ℕ
 output_text [] = []
 output_text (w ∷ ws) = output_item_text w ++ output_text ws
 
--- States that the output grows by the text except its last part `left`, which is written later. If
--- the output's bytes aren't known, nothing is stated about them.
+-- States that `text`, except its last part `left`, is appended to the output. If the output's bytes
+-- aren't known, nothing is stated about them.
 pub record IsWrittenExcept (before after : Option (List ℕ)) (text left : List ℕ) : Type 0 where
   pub written : List ℕ
   pub grew : Appends before after written

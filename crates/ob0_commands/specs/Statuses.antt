@@ -41,7 +41,8 @@ StopsPrintingFaults file f =
 abbrev pub AllocatesOnlyIfShort : List ℕ → FileFault → Type 0
 AllocatesOnlyIfShort file f = f ≡ fault.Memory → length file ≤ max_text
 
--- States that the output is unchanged, unless the fault is `Write`.
+-- States that the output is unchanged, unless the fault is `Write`. `before` and `after` are the
+-- output before and after the call.
 abbrev pub PrintsNothingUnlessWrite : {O : Type 0} → (before after : O) → FileFault → Type 0
 PrintsNothingUnlessWrite before after f = f ≢ fault.Write → after ≡ before
 
@@ -68,7 +69,7 @@ abbrev pub OutputFailureMatches : (before after : Bool) → FileFault → Type 0
 OutputFailureMatches before after f =
     (f ≡ fault.Write → after ≡ true) × (f ≢ fault.Write → after ≡ before)
 
--- ---- runs
+-- ---- the faults that stop `run`
 
 -- States that the file is a well-typed module, but that there are no numbers to run it on. The
 -- input has failed, is too long, or isn't a list of numbers.
@@ -76,6 +77,7 @@ abbrev pub ModuleLacksInput : List ℕ → Option (List ℕ) → (input_failed :
 ModuleLacksInput file given input_failed = IsWellTypedModule file × IsUnusableInput given input_failed
 
 -- States that the call didn't change whether the input has failed, unless the fault is `Input`.
+-- `before` and `after` say whether the input has failed, before and after the call.
 abbrev pub KeepsInputFailureUnlessInput : (before after : Bool) → FileFault → Type 0
 KeepsInputFailureUnlessInput before after f = f ≢ fault.Input → after ≡ before
 

@@ -24,7 +24,8 @@ pub record TextRunsAs (text : List ℕ) (input : List ℤ) (c t : ℕ) (r : Run)
   pub well_typed : WellTyped tree
   pub is : r ≡ run tree input c t
 
--- States that the text is a well-typed module, and that this program runs like the module.
+-- States that the text is a well-typed module, and that this program, to which the module is
+-- lowered, runs like the module (`RunsAs`).
 pub record IsLoweredTo (text : List ℕ) (program : Program) : Type 0 where
   pub tree : Tree Name module_text
   pub text_of : IsTextOf tree text

@@ -1,7 +1,7 @@
 //! Reads all bytes of a file, and all bytes of the input of a run.
 //!
 //! The commands read from an `Input`: a reader that remembers whether a read has failed. So the
-//! contracts can state the reason for the faults `File` and `Input` (`IsFaultOrMemory`).
+//! contracts can state (by `IsFaultOrMemory`) why the fault is `File` or `Input`.
 //! `TrackedReader` makes an `Input` of any reader. If the remaining bytes of a reader aren't known
 //! (`Read::remaining`), the contracts don't say which bytes are read.
 

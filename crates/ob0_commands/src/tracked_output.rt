@@ -4,7 +4,7 @@
 //! last write, and whether it has failed. std's contracts of `Write` mention neither fact, but the
 //! contract of `print` needs both. `TrackedWriter` makes an `Output` of any writer, including
 //! standard error. The bytes that a writer has written are its `contents`, or None if they aren't
-//! known. If they aren't known, the clauses say nothing about them.
+//! known. If they aren't known, the contracts say nothing about them.
 //!
 //! Each command flushes its output after it has printed. If a name is refused, the output is
 //! unchanged, and whether the output is flushed isn't known (`IsFlushedOrUnchanged`). `check` and
@@ -26,10 +26,11 @@ use std::io::{self, Write};
 /// collects output before it is written.
 pub(crate) const PIECE_SIZE: usize = 8192;
 
-/// A writer that remembers whether it has been flushed since the last write, and whether one of its
-/// calls has failed.
+/// A writer that remembers whether it has been flushed since the last write, and whether a call of
+/// `write_tracked` or `flush_tracked` has failed.
 pub trait Output: Write {
-    // Returns whether a flush has succeeded since the last write of at least one byte.
+    // Returns whether a call of `flush_tracked` has succeeded since the last write. A call of
+    // `write_tracked` without any bytes doesn't count as a write.
     ghost is_flushed: { Self → Bool };
 
     // Returns whether a call of `write_tracked` or `flush_tracked` has failed.
@@ -51,7 +52,8 @@ pub trait Output: Write {
         ensures failed { has_failed self.new ≡ (has_failed self.old || is_err result) };
 }
 
-/// A wrapper that makes any writer an `Output`: it remembers flushes and failures.
+/// A wrapper that makes any writer an `Output`. It remembers whether `flush_tracked` has succeeded
+/// since the last write, and whether `write_tracked` or `flush_tracked` has failed.
 #[derive(Drop)]
 pub struct TrackedWriter<W> {
     device: W,

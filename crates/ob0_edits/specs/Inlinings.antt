@@ -19,8 +19,8 @@ use Rattle.ob0_edits.specs.declared.inlinings.Inlining.{Inlining}
 use Rattle.ob0_edits.specs.declared.inlinings.Inlining.TheVariants.{Here, Everywhere}
 use Rattle.ob0_edits.specs.declared.inlinings.Inlinings as found_inlinings
 
--- States that this is the answer, edits or a refusal, to inlining at a byte offset of a module. The
--- definitions of `ob0_inline` say which answer is right.
+-- States that this is the right answer to inlining at a byte offset of a module, edits or a refusal,
+-- by the definitions of `ob0_inline`.
 abbrev pub AnswersInlining : Inlining
     → Unit
     → List ℕ
@@ -57,7 +57,7 @@ pub record IsNotInlinedIn (how : Inlining) (unit : Unit) (text : List ℕ) (offs
   pub read : IsReadAs (utf8 text) module_read
   pub refused : IsInlineResult how unit text module_read offset None
 
--- ---- the result for a text
+-- ---- answers to inlinings at a byte offset of a text: edits or None
 
 -- States that these are the edits in the answer to an inlining. None means that the answer is a
 -- refusal other than a failed allocation.

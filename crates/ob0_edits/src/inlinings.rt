@@ -1,9 +1,10 @@
 //! Inlines a constant in a text, using the text's analysis.
 //!
-//! One question (`InliningsQuestion`) finds the edits of both kinds of inlining.
-//! `edits_unless_refused` separates a failed allocation from the refusals. A new kind of inlining
-//! needs a variant of `Inlining`, a line in `AnswersInlining`, a field in `Inlinings`, and a case
-//! in `inlines_in` of `proofs/Inlined`.
+//! `InliningsQuestion` finds the edits of both kinds of inlining. It is a `Question` of
+//! `ob0_analysis`, which is answered only for a well-typed text. `edits_unless_refused` separates a
+//! failed allocation from the refusals. A new kind of inlining needs a variant of `Inlining`, a
+//! line in `AnswersInlining`, a field in `Inlinings`, and a case in `inlines_in` of
+//! `proofs/Inlined`.
 
 ghost use Rattle.std.specs.Prelude.{◌≡◌, IfOk};
 ghost use Rattle.std.specs.Str.{chars};

@@ -30,14 +30,14 @@ text_of_word ws k = (word_at ws k).text
 abbrev pub number_at : List Word → ℕ → ℕ
 number_at ws k = kind_value_or_zero (word_at ws k).kind
 
--- Returns the new name if the index `k` is one of the places, otherwise the text of the word with
+-- Returns the name `new` if the word index `k` is in `places`, otherwise the text of the word with
 -- this index.
 abbrev pub renamed_word_text : List Word → List ℕ → List ℕ → ℕ → List ℕ
 renamed_word_text ws places new k = if is_among k places then new else text_of_word ws k
 
 -- States that renaming keeps the spelling of trees. Let a tree over word indexes spell the words of
--- a text. If the tree and the words both get a new name at the same places, the tree still spells
--- the words.
+-- a text. If the identifiers with the same indexes get a new name in the tree and in the words, the
+-- renamed tree spells the renamed words.
 abbrev pub RenamingKeepsSpelling : Type 0
 RenamingKeepsSpelling =
     (s : TextWithTokens) (sort : Sort) (t : Tree ℕ sort) (places new : List ℕ)

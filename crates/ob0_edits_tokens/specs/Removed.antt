@@ -42,9 +42,8 @@ abbrev pub removal_cut : List Token → ℕ → ℕ → Cut
 removal_cut tokens first last =
     record { from = (span_at tokens first).start; to = (span_at tokens last).end; new = [] }
 
--- Returns the text that two changes leave. The part from the token `first` to the token `last` is
--- removed, and the token at each of the places is replaced by `new`. Tokens are given by their
--- indexes.
+-- Returns the text without the part from the token with the index `first` to the token with the
+-- index `last`, in which each token whose index is in `places` is replaced by `new`.
 abbrev pub text_after_removal : TextWithTokens → ℕ → ℕ → List ℕ → List ℕ → List ℕ
 text_after_removal s first last places new =
     text_with_cuts s.text 0 (removal_cut s.tokens first last ∷ map (cut_of s.tokens new) places)

@@ -31,8 +31,8 @@ token_or_empty tokens p =
 abbrev pub span_at : List Token → ℕ → Span
 span_at tokens p = (token_or_empty tokens p).span
 
--- States that the places are token indexes of identifiers, in ascending order, and that each is at
--- least `least`.
+-- States that the numbers in the list are token indexes of identifiers, in ascending order, and that
+-- each is at least `least`.
 abbrev pub AreIdentifierIndexes : List Token → ℕ → List ℕ → Type 0
 AreIdentifierIndexes tokens least [] = Unit {0}
 AreIdentifierIndexes tokens least (p ∷ ps) =
@@ -46,7 +46,7 @@ abbrev pub cut_of : List Token → List ℕ → ℕ → Cut
 cut_of tokens new p =
     record { from = (span_at tokens p).start; to = (span_at tokens p).end; new = new }
 
--- Returns the text in which the token at each of the places is replaced by `new`.
+-- Returns the text in which each token whose index is in `places` is replaced by `new`.
 abbrev pub text_after_replacement : TextWithTokens → List ℕ → List ℕ → List ℕ
 text_after_replacement s places new = text_with_cuts s.text 0 (map (cut_of s.tokens new) places)
 

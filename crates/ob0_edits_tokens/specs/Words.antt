@@ -4,7 +4,7 @@ use Rattle.std.specs.Prelude.{List, ℕ}
 use Rattle.ob0_scan.specs.TextWithTokens.{Word}
 use Rattle.ob0_tree.specs.Lexeme.{Terminal, terminal_of_kind}
 
--- Returns the token of a tree for a word. The token of an identifier has the identifier's text, and
--- the token of an integer has the integer's value.
+-- Returns the token (`Terminal`) that a tree spells for a word. The token of an identifier has the
+-- identifier's text, and the token of an integer has the integer's value.
 abbrev pub word_lexeme : Word → Terminal (List ℕ)
 word_lexeme w = terminal_of_kind w.text w.kind

@@ -12,7 +12,8 @@ pub fn names_replace_names()
 {}
 
 /// Proves that renaming keeps the spelling of trees. Let a tree spell the words of a text. If the
-/// tree and the words both get a new name at the same places, the tree still spells the words.
+/// identifiers with the same indexes get a new name in the tree and in the words, the renamed tree
+/// spells the renamed words.
 pub fn renaming_keeps_spelling()
     ensures { RenamingKeepsSpelling }
 {}

@@ -1,4 +1,4 @@
-//! Finds the places of tokens, as spans and as ranges of positions.
+//! Finds the spans of tokens, and the ranges of positions that spans have in a text.
 
 ghost use Rattle.std.specs.Prelude.{◌≡◌, ◌++◌, IfOk, OnOk, map};
 ghost use Rattle.ob0_edits_tokens.specs.Replaced.{span_at};
@@ -65,7 +65,7 @@ fn bounds(alloc: Global, spans: &[Span]) -> Result<Vec<usize>, AllocError>
     Ok(offsets)
 }
 
-/// Returns the span of the token with each of the indexes `places`, in the same order.
+/// Returns the spans of the tokens with the indexes `places`, in the same order.
 pub(crate) fn spans_of(
     alloc: Global,
     tokens: &[Token],

@@ -17,9 +17,10 @@ use ob0_scan::{MAX_TEXT, Span, Tokens};
 use ob0_text::{Edit, EditRefusal, Range, TextStore};
 use std::alloc::Global;
 
-/// Returns one edit for each place, in text order. Each edit replaces the token at its place by
-/// `new`. `places` are token indexes of identifiers, in text order. Fails with `TooLong` if the
-/// resulting text is longer than a text may be. Fails with `Memory` if an allocation fails.
+/// Returns the edits that replace identifiers by `new`: one edit for each index in
+/// `places`, in text order. The indexes are token indexes of identifiers and ascend. Fails
+/// with `TooLong` if the resulting text is longer than a text may be. Fails with `Memory` if an
+/// allocation fails.
 pub fn replacement_edits<T: TextStore>(
     alloc: Global,
     store: &T,
@@ -52,10 +53,11 @@ pub fn replacement_edits<T: TextStore>(
 }
 
 /// Returns the edits that remove a declaration and replace identifiers behind it, in text order.
-/// The first edit removes the text from the start of the token `first` to the end of the token
-/// `last`. Then comes one edit for each place, which replaces the token there by `new`. `places`
-/// are token indexes of identifiers, all greater than `last`, in text order. Fails with `TooLong`
-/// if the resulting text is longer than a text may be. Fails with `Memory` if an allocation fails.
+/// The first edit removes the text from the start of the token with the index `first` to the end of
+/// the token with the index `last`. The other edits replace the tokens with the indexes
+/// `places` by `new`, one edit for each. These are token indexes of identifiers, all
+/// greater than `last`, and ascend. Fails with `TooLong` if the resulting text is longer than a
+/// text may be. Fails with `Memory` if an allocation fails.
 pub fn removal_edits<T: TextStore>(
     alloc: Global,
     store: &T,
@@ -102,7 +104,7 @@ pub fn removal_edits<T: TextStore>(
     Ok(edits)
 }
 
-/// Appends one edit to `edits` for each of the token indexes `places`. The edit replaces the token
+/// Appends one edit to `edits` for each of the indexes `places`. The edit replaces the token
 /// with this index by `new`. Fails only with `Memory`.
 fn add_edits<T: TextStore>(
     alloc: Global,
@@ -143,7 +145,7 @@ pub fn range_of<T: TextStore>(store: &T, span: Span) -> Range
 
 /// Returns whether an edited text is longer than a text may be. The edited text consists of
 /// `counted` bytes, followed by the old text starting at the byte offset `end`. In this second
-/// part, `new` replaces the token at each place.
+/// part, `new` replaces each token whose index is in `places`.
 fn is_too_long(tokens: &Tokens, counted: usize, end: usize, places: &[usize], new: &str) -> bool
     requires names { AreIdentifierIndexes tokens.now.tokens 0 places.now }
     requires order { AreInOrder end (map (cut_of tokens.now.tokens new.now) places.now) }

@@ -14,9 +14,10 @@ use ob0_scope::name_at;
 use ob0_scope_table::Resolved;
 use ob0_types::WellTyped;
 
-/// A constant of a CONST section, with its value. `ordinal` is the number of its declaration in
-/// text order, in which the predeclared names come first. `first` is the index of the token that
-/// declares its name, and `last` is the index of the declaration's `;`.
+/// A constant of a CONST section, with its value. `ordinal` is the number of its declaration,
+/// counted from 0: first the predeclared names, then all declarations of the module in text order.
+/// `first` is the index of the token that declares the name, and `last` is the index of the
+/// declaration's `;`.
 #[derive(Clone, Copy)]
 pub struct NamedConstant {
     pub ordinal: usize,

@@ -1,4 +1,5 @@
-//! Tests whether TRUE and FALSE, written at a place in the text, would mean the predeclared names.
+//! Tests whether TRUE or FALSE, written in place of an occurrence, would mean the predeclared name.
+//! An occurrence is a name in the text that refers to a declaration.
 
 ghost use Rattle.std.specs.Prelude.{◌≡◌, IfOk, ◌==◌, ◌&&◌, not, length, option_and_then, slice_get};
 ghost use Rattle.std.specs.List.{list_any, range_with_len};
@@ -50,8 +51,9 @@ fn would_bind_to(
     Ok(has_ordinal_at(&bound, occurrence, ordinal))
 }
 
-/// Returns whether the item of `bound` for this occurrence is `ordinal`. If the item is None, or
-/// `bound` has no such item, the result is false.
+/// Returns whether the item of `bound` for this occurrence is `ordinal`. `bound` has an item for
+/// each occurrence: the ordinal of a declaration, or None. If the item is None, or `bound` has no
+/// item for this occurrence, the result is false.
 fn has_ordinal_at(bound: &[Option<usize>], occurrence: usize, ordinal: usize) -> bool
     ensures { result
         ≡ same_ordinal (option_and_then (λ found. found) (slice_get bound.now occurrence)) ordinal }
@@ -114,7 +116,8 @@ fn any_use_rebound(
 }
 
 /// Returns whether the constant with the ordinal `constant` has a use whose item in `bound` isn't
-/// `ordinal`. `bound` has an item for each occurrence, in text order.
+/// `ordinal`. `bound` has an item for each occurrence, in text order: the ordinal of a declaration,
+/// or None.
 fn any_use_differs(
     names: &Resolved,
     bound: &[Option<usize>],
@@ -134,8 +137,9 @@ fn any_use_differs(
     false
 }
 
-/// Returns whether this occurrence is a use of the constant with the ordinal `constant`, and its
-/// item in `bound` isn't `ordinal`. `bound` has an item for each occurrence, in text order.
+/// Returns whether this occurrence is a use of the constant with the ordinal `constant` and its
+/// item in `bound` isn't `ordinal`. `bound` has an item for each occurrence, in text order: the
+/// ordinal of a declaration, or None.
 fn is_differing_use(
     names: &Resolved,
     bound: &[Option<usize>],

@@ -9,18 +9,18 @@ use Rattle.ob0_world_rules.specs.Asks.{inline_here, inline_all}
 use Rattle.ob0_world_rules.specs.Language.{WellTypedText}
 use Rattle.ob0_world_rules.specs.Laws.{HasAnswers}
 
--- States that each well-typed text is read as some parsed module.
+-- States that the parser accepts each well-typed text: the text is read as some parsed module.
 abbrev pub EachIsRead : Type 0
 EachIsRead = (text : List ℕ) → WellTypedText text → (m : ParsedModule) × IsReadAs (utf8 text) m
 
--- States that a request to inline a constant at a use has an answer for each text and each
--- position, under one condition. The condition is that each well-typed text is read as some parsed
--- module. `HasAnswers` is a double negation: it says that an answer can't be missing.
+-- States that a request to inline a constant at a use has an answer for each text, unit and
+-- position, on the assumption (`EachIsRead`) that the parser accepts each well-typed text.
+-- `HasAnswers` is a double negation: it says that an answer can't be missing.
 abbrev pub InliningHereHasAnswers : Type 0
 InliningHereHasAnswers = EachIsRead → (position : Position) → HasAnswers (inline_here position)
 
--- States that a request to inline a constant everywhere has an answer for each text and each
--- position, under one condition. The condition is that each well-typed text is read as some parsed
--- module. `HasAnswers` is a double negation: it says that an answer can't be missing.
+-- States that a request to inline a constant everywhere has an answer for each text, unit and
+-- position, on the assumption (`EachIsRead`) that the parser accepts each well-typed text.
+-- `HasAnswers` is a double negation: it says that an answer can't be missing.
 abbrev pub InliningEverywhereHasAnswers : Type 0
 InliningEverywhereHasAnswers = EachIsRead → (position : Position) → HasAnswers (inline_all position)

@@ -7,8 +7,8 @@ use ob0_language_runs::laws::{
 };
 use ob0_language_types::laws::constant_uses_are_factors;
 
-/// Proves that each request to inline a constant at a use has an answer, if each well-typed text is
-/// read as a module.
+/// Proves that each request to inline a constant at a use has an answer. The proof assumes that the
+/// parser accepts each well-typed text (`EachIsRead`).
 pub fn inlining_here_has_answers()
     ensures { InliningHereHasAnswers }
 {
@@ -16,8 +16,8 @@ pub fn inlining_here_has_answers()
     inlining_keeps_typing_and_runs();
 }
 
-/// Proves that each request to inline a constant everywhere has an answer, if each well-typed text
-/// is read as a module.
+/// Proves that each request to inline a constant everywhere has an answer. The proof assumes that
+/// the parser accepts each well-typed text (`EachIsRead`).
 pub fn inlining_everywhere_has_answers()
     ensures { InliningEverywhereHasAnswers }
 {

@@ -11,8 +11,9 @@ use Rattle.ob0_language_runs.specs.Runs.{Activation, Argument, ProcedureText, st
 
 -- States that a value has a type, including the types of the value's parts.
 abbrev mutual
-  -- States that a value has this type. The value of an array has the type's length, and the value of a record comes
-  -- from the type's RECORD. The parts of the value have the types of the type's parts.
+  -- States that a value has this type. The value of an array has the type's length. The value of a record has the same
+  -- ordinal `k` as the type: the number of words ARRAY and RECORD before the RECORD that constructs the type. The parts
+  -- of the value have the types of the type's parts.
   pub HasShape : Value → Shape → Type 0
   HasShape (number n) integer_shape = Unit {0}
   HasShape (truth b) boolean_shape = Unit {0}

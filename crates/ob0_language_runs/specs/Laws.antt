@@ -1,4 +1,5 @@
--- Laws of runs.
+-- Laws of runs: which changes keep the result of a run, and that no run of a well-typed module gets stuck. A module's
+-- numbered tree has the ordinal of its declaration in place of each bound name (`numbered`).
 -- Rule: none; laws of runs.
 use Rattle.std.specs.Prelude.{◌≡◌, ℕ, ◌≢◌, List, ℤ, Some}
 use Rattle.ob0_tree.specs.Tree.{Tree, factor, module_text, occurrences, statement}
@@ -13,13 +14,15 @@ use Rattle.ob0_language_types.specs.WellTyped.{Mode, WellTyped}
 use Rattle.ob0_language_runs.specs.Freed.{run_freeing}
 use Rattle.ob0_language_runs.specs.Runs.{CallFunction, State, execute, run, run_numbered, run_over}
 
--- States that a module and its numbered tree have the same run for every input and all bounds.
+-- States that a module and its numbered tree have the same run for every input and all bounds on calls and loop
+-- iterations.
 abbrev pub NumberingKeepsRuns : Type 0
 NumberingKeepsRuns =
     (m : Tree Name module_text) (input : List ℤ) (c t : ℕ)
     → run m input c t ≡ run_numbered (numbered m) input c t
 
--- States that two modules with the same numbered tree have the same run for every input and all bounds.
+-- States that two modules with the same numbered tree have the same run for every input and all bounds on calls and
+-- loop iterations.
 abbrev pub NumberedTreeDecidesRuns : Type 0
 NumberedTreeDecidesRuns =
     (a b : Tree Name module_text)

@@ -1,10 +1,11 @@
-//! The laws of runs and edits. Each function does nothing; its contract is the law.
+//! The laws of runs and edits. Each function does nothing; its contract is the law. A module's
+//! numbered tree (`numbered`) has the ordinal of its declaration in place of each bound name.
 //!
-//! In the definition `run`, the store keeps every variable until the run ends. In `run_freeing`
-//! (`specs/Freed`), a call's variables are dropped when the call returns. `freeing_keeps_runs`
-//! states that both runs have the same result. `specs/Fitting` defines when a value, a store, a
-//! place or an environment fits the types of a checked module. Throughout a run all of them fit, so
-//! no run of a well-typed module gets stuck.
+//! In the definition `run`, the store keeps every variable until the run ends. In
+//! `run_freeing` (`specs/Freed`), a call's variables are dropped when the call returns.
+//! `freeing_keeps_runs` states that both runs have the same result. `specs/Fitting`
+//! defines when a value, a store, a place or an environment agrees with the types of a checked
+//! module. Throughout a run of a well-typed module all of them agree, so the run doesn't get stuck.
 
 ghost use Rattle.ob0_language_runs.specs.Laws.{NumberingKeepsRuns, NumberedTreeDecidesRuns, FreeRenamingKeepsRuns, FreeingKeepsRuns, NeverStuck, InliningKeepsExecution};
 ghost use Rattle.ob0_language_runs.specs.EditLaws.{FreeRenamingKeepsTypingAndRuns, InliningKeepsTypingAndRuns, RemovingUnusedKeepsTypingAndRuns, InliningEverywhereKeepsTypingAndRuns};

@@ -70,8 +70,9 @@ unfoldable mutual
 abbrev pub module_bodies : {N : Type 0} → Naming N → Tree N module_text → List (BodyAt N)
 module_bodies naming m = block_bodies naming (outermost naming) 0 (module_block m)
 
--- States that `Q` holds for these environments of a block: after its variables, at the start of
--- each procedure's block, and after its procedures. The same must hold within each procedure.
+-- States that the property `Q` holds for each of these environments of a block: after its
+-- variables, at the start of each procedure's block, and after its procedures. The same must hold
+-- within each procedure.
 abbrev mutual
   -- States that `Q` holds for the environment after a block's constants, types and variables, and
   -- that `ProceduresHave` holds for the block's procedures in this environment. States nothing if a

@@ -18,7 +18,7 @@ use Rattle.ob0_language_types.specs.WellTyped.{bind_names}
 abbrev pub ConstantEnvironment : Type 0
 ConstantEnvironment = Environment Name (Unit {0}) (Unit {0})
 
--- an object in place of any object that isn't a constant
+-- the object that replaces every object other than a constant in such an environment
 abbrev pub non_constant : Object (Unit {0}) (Unit {0})
 non_constant = a_variable tt
 

@@ -19,8 +19,8 @@ pub data Object (V P : Type 0) : Type 0 where
   a_procedure : P → Object V P
   a_standard : StandardProcedure → Object V P
 
--- the meanings of names at a place in the text: the object that each name means, None for an unbound name, and the
--- spelling of each name, which is used to look up fields
+-- The meanings of names at a place in the text. `object_for` returns the object that a name means, or None if the name
+-- is unbound. `written` returns a name's spelling, which is used to look up fields.
 pub record Meanings (N V P : Type 0) : Type 0 where
   pub object_for : N → Option (Object V P)
   pub written : N → Name

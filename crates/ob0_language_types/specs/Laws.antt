@@ -1,4 +1,5 @@
--- Laws of types, constants and evaluation.
+-- Laws of types, constants and evaluation: what numbering a module and inlining a constant leave unchanged. A module's
+-- numbered tree has the ordinal of its declaration in place of each bound name (`numbered`).
 -- Rule: none; laws of types.
 use Rattle.std.specs.Prelude.{◌≡◌, ℕ, suc, true, ◌↔◌, List, [], ◌∷◌, IsTrue, Some}
 use Rattle.ob0_tree.specs.Tree.{Tree, expression, factor, module_text, occurrences}
@@ -28,7 +29,7 @@ NumberedTreeDecidesTyping =
     → WellTyped a ↔ WellTyped b
 
 -- States that a constant expression has the same value in a run as in the checker. Each name that means a constant in
--- the checker must mean the same constant in the run.
+-- the checker must mean the same constant in the run. Each name must also have the same spelling in both.
 abbrev pub ConstantValuesAgree : Type 0
 ConstantValuesAgree =
     (checked : TypeMeanings Name) (active : Meanings Name Place (List Mode)) (store : Store)

@@ -18,7 +18,8 @@ pub fn numbered_tree_decides_typing()
 {}
 
 /// Proves that a constant expression has the same value in a run as in the checker. Each name that
-/// means a constant in the checker must mean the same constant in the run.
+/// means a constant in the checker must mean the same constant in the run. Each name must also have
+/// the same spelling in both.
 pub fn constant_values_agree()
     ensures { ConstantValuesAgree }
 {}

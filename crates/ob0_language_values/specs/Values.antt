@@ -13,8 +13,8 @@ use Rattle.ob0_language_names.specs.Names.{Name, same_name}
 pub use Rattle.ob0_language_values.specs.Division.{checked_division, quotient, remainder}
 
 infixl 20 ◌>>=◌
--- The type of a variable or value. `k` is the number of words ARRAY and RECORD in the module before the word that made
--- the type. So two types are the same exactly if their shapes are equal.
+-- The type of a variable or value. `k` is the number of words ARRAY and RECORD in the module before the word that
+-- constructs the type. So two types are the same exactly if their shapes are equal.
 mutual
   -- a type: INTEGER, BOOLEAN, an array with its length, or a record
   pub data Shape : Type 0 where
@@ -29,7 +29,7 @@ mutual
     next_field_shape : Name → Shape → FieldShapes → FieldShapes
 
 -- A value: a number, a truth value, an array's elements, or a record's members. `k` is the number
--- of words ARRAY and RECORD before the RECORD that made the record's type.
+-- of words ARRAY and RECORD before the RECORD that constructs the record's type.
 mutual
   -- a value, which is a scalar, an array or a record
   pub data Value : Type 0 where
@@ -48,7 +48,7 @@ mutual
     no_member : Members
     next_member : Name → Value → Members → Members
 
--- the ways in which a run ends; Stuck is the end of a step that has no meaning
+-- the ways in which a run ends; a run ends with Stuck at a step that has no meaning
 pub data End : Type 0 where
   Done Overflow Divisor Index InputEnd CallBound TurnBound Stuck : End
 

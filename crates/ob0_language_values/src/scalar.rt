@@ -27,8 +27,8 @@ pub enum OperatorFault {
     Operand,
 }
 
-/// Returns the number as a scalar. None means that the result of an operation doesn't fit in 32
-/// bits. For None, returns the error `Overflow`.
+/// Returns the result of an operation as a scalar. Returns the error `Overflow` if `number` is
+/// None, which means that the result doesn't fit in 32 bits.
 fn checked_number(number: Option<i32>) -> Result<Scalar, OperatorFault>
     ensures { scalar_outcome result ≡ number_outcome number }
 {
@@ -38,8 +38,8 @@ fn checked_number(number: Option<i32>) -> Result<Scalar, OperatorFault>
     }
 }
 
-/// Returns the result of a DIV or MOD as a scalar. None means that the divisor is below 1. For
-/// None, returns the error `Divisor`.
+/// Returns the result of a DIV or MOD as a scalar. Returns the error `Divisor` if `number` is None,
+/// which means that the divisor is below 1.
 fn division_result(number: Option<i32>) -> Result<Scalar, OperatorFault>
     ensures { scalar_outcome result ≡ division_outcome number }
 {

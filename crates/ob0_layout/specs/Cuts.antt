@@ -1,4 +1,5 @@
--- Defines the values that the code computes while it visits the gaps of a text.
+-- Defines the gaps that the code finds while it visits the tokens and comments of a text, and each gap
+-- as a cut of bytes.
 -- Rule: none; for private contracts: gaps as cuts of bytes, and runs of a byte.
 use Rattle.std.specs.Prelude.{◌≤◌, ℕ, Bool, true, ◌&&◌, ◌==◌, if◌then◌else◌, nat_lt, Option, Some, None, List, [], ◌∷◌, filter}
 use Rattle.ob0_scan.specs.declared.lexeme.LexemeKind.{LexemeKind}

@@ -61,8 +61,9 @@ edit_of width content c = record {
 abbrev pub edit_content : Edit → EditContent
 edit_content e = record { range = e.range; text = string_bytes e.text }
 
--- Returns the number of bytes after the offset `at` once these cuts are made in the text. `at` is a
--- byte offset in the text before the cuts, and `len` is the length of that text in bytes.
+-- Returns the length in bytes that the rest of a text, starting at the offset `at`, has after these
+-- cuts are made. `at` is a byte offset in the text before the cuts, and `len` is the length of that
+-- text in bytes.
 abbrev pub formatted_len_from : ℕ → ℕ → List Cut → ℕ
 formatted_len_from len at [] = len - at
 formatted_len_from len at (c ∷ cs) = (c.from - at) + (length c.new + formatted_len_from len c.to cs)

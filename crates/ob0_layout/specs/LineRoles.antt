@@ -20,8 +20,8 @@ abbrev pub sign_role : Option Sign → List LineRole
 sign_role None = []
 sign_role (Some s) = Joining ∷ []
 
--- Returns a list with the role of the separator before an item of a list. If the item is the first
--- one (true), the result is empty, because no separator comes before that item.
+-- Returns a list with the role of the separator before an item of a list. If the Bool is true, the
+-- item is the first one, and the result is empty, because no separator comes before that item.
 abbrev pub separator_role : Bool → List LineRole
 separator_role true = []
 separator_role false = Plain ∷ []

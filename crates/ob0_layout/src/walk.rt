@@ -37,7 +37,7 @@ fn deeper(level: u32) -> u32
     level.saturating_add(1)
 }
 
-/// Appends the role `Plain`, for one token.
+/// Appends the role `Plain` of one token.
 fn add_plain_role(out: &mut Vec<LineRole>) -> Result<(), AllocError>
     ensures { IfOk result (λ _. out.new.items ≡ out.old.items ++ (Plain ∷ [])) }
 {
@@ -215,7 +215,7 @@ fn add_statement_roles(out: &mut Vec<LineRole>, level: u32, s: &Statement) -> Re
     }
 }
 
-/// Appends the role `Begins(level)`, for a token that begins a line of this level.
+/// Appends the role `Begins(level)` of a token that begins a line of this level.
 fn add_line_start_role(out: &mut Vec<LineRole>, level: u32) -> Result<(), AllocError>
     ensures { IfOk result (λ _. out.new.items ≡ out.old.items ++ (Begins level ∷ [])) }
 {

@@ -1,3 +1,3 @@
-//! Contains only proofs: for the text of each module, there are a parsed module and a resolved
-//! module of the code.
+//! Contains only proofs: for each text that is a module, there are a parsed module (`ParsedModule`)
+//! and a resolved module (`Resolution`).
 #![tactic(auto)]

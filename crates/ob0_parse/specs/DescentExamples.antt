@@ -1,5 +1,5 @@
--- States at which token the descent stops in example texts. Each text is given by the kinds of its
--- tokens.
+-- States at which token the descent (`Descends`) stops in example texts. Each text is given by the
+-- kinds of its tokens.
 -- Rule: docs/LANGUAGE.md, Syntax faults (its examples).
 use Rattle.std.specs.Prelude.{ℕ, zero, suc, ◌+◌, List, [], ◌∷◌, ◌++◌}
 use Rattle.ob0_scan.specs.declared.lexeme.TokenKind.{TokenKind}
@@ -94,8 +94,8 @@ pub record ExpectedStops : Type 0 where
   -- MODULE M; BEGIN WriteLn END M.
   pub whole : DescendsKinds (module_head ++ (reserved_kind reserved.Begin ∷ identifier_kind ∷ module_end)) Done
 
--- States that the descent stops at the 101st of 101 constructs that are nested in each other,
--- because it is nested too deep.
+-- States that the descent stops at the 101st of 101 nested constructs, in three example texts: with
+-- IF statements, with procedures and with array types.
 pub record DeepStops : Type 0 where
   -- MODULE M; BEGIN, 101 times IF TRUE THEN, 101 times END, END M.
   pub ifs : DescendsKinds (module_head

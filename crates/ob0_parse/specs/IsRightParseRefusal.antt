@@ -10,16 +10,16 @@ use Rattle.ob0_parse_descent.specs.Descent.{Expects, Deep, DescendsText}
 use Rattle.ob0_parse_descent.specs.declared.refusal.ParseRefusal.{ParseRefusal}
 use Rattle.ob0_parse_descent.specs.declared.refusal.ParseRefusal.TheVariants.{Syntax, TooDeep, Memory}
 
--- States that no module begins with the first `i + 1` tokens of the text. The end of the text
--- counts as a token.
+-- States that no module with at most `max_nesting` levels of nesting begins with the first `i + 1`
+-- tokens of the text. The end of the text counts as a token.
 abbrev pub NoModuleBegins : TextWithTokens → ℕ → Type 0
 NoModuleBegins s i = (t : Tree (List ℕ) module_text) (more : List (Terminal (List ℕ)))
     → nesting t ≤ max_nesting
     → spell t ++ (EndOfText ∷ []) ≡ take (i + 1) (terminals_of_text s ++ (EndOfText ∷ [])) ++ more → ⊥
 
--- States that the parser's refusal is right. A syntax error or too deep nesting at the token `i` is
+-- States that the parser's refusal is right. The refusal `Syntax` or `TooDeep` at the token `i` is
 -- right under two conditions. No module begins with the tokens up to and including `i`, and the
--- descent stops at `i` for the given reason. A failed allocation is always right.
+-- descent stops at `i` for the refusal's reason. The refusal `Memory` is always right.
 abbrev pub IsRightParseRefusal : TextWithTokens → ParseRefusal → Type 0
 IsRightParseRefusal s (Syntax i expected) =
     (i ≤ length s.tokens) × NoModuleBegins s i × DescendsText (index_terminals s.tokens) (Expects i expected)

@@ -95,7 +95,7 @@ pub record IsLocatedBody
   pub at : k.at ≡ k.from
   pub next : k.next + 1 ≡ closing
 
--- ---- another text
+-- ---- kept trees in a changed text
 
 -- States that each tree with the tokens `at..next` in the old text has the tokens
 -- `place.0..place.1` in the new text. This holds for every two texts that share the tokens
@@ -193,7 +193,7 @@ IsLocatedProcedure p k =
     × (k.at ≡ first_token_index (procedure_of p))
     × (k.next ≡ end_token_index (procedure_of p))
 
--- ---- reusing
+-- ---- kept trees that a parse reuses
 
 -- States that the procedure `x.0` has the tokens `at..x.1` of this text, and that its leaves are
 -- the indexes of these tokens.

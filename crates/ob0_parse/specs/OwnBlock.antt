@@ -12,7 +12,7 @@ use Rattle.ob0_parse_descent.specs.Reading.{node, finish, IsReadTree, FailsToRea
 use Rattle.ob0_parse.specs.declared.parse_own_block.OwnBlockParts.{OwnBlockParts}
 use Rattle.ob0_parse_descent.specs.declared.refusal.ParseRefusal.{ParseRefusal}
 
--- Returns the tree of a block with these procedures and the other parts.
+-- Returns the tree of a block with the procedures `ps` and the other parts `parts`.
 abbrev pub block_with_procedures : List Procedure → OwnBlockParts → Tree ℕ block
 block_with_procedures ps parts =
     has_body

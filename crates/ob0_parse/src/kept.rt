@@ -5,16 +5,16 @@
 //! `KeptTrees` holds three groups of trees. They are the procedures that the last parse made or
 //! reused, the procedures that the last parse didn't reach, and the body of the module.
 //! `HasTokensAt` states that the tokens in a tree's range have the kinds that the tree spells, and
-//! that the tree's leaves count from its first token. So only the kinds of these tokens decide
-//! whether a tree can be used in another text (`KeptTrees::relocate`). If a text has a syntax
-//! error, the trees that the parser made before the error are kept. The older trees after the error
-//! are also kept.
+//! that the tree's leaves are the indexes of these tokens in the present or an earlier text. So
+//! only the kinds of these tokens decide whether a tree can be used in another text
+//! (`KeptTrees::relocate`). If a text has a syntax error, the trees that the parser made before the
+//! error are kept. The older trees after the error are also kept.
 //!
 //! A kept tree can be reused, whichever parse made it, if the token after the tree can't continue
-//! it. No token can continue a procedure, because a procedure ends with a semicolon (`stops_zero`).
-//! END can't continue a body. So no other tree has the same tokens (`same`). The descent reads
-//! every tree that the tokens spell (`finishes`), so `IsReadTree` follows from the spelling
-//! (`taken_there`).
+//! the tree. No token can continue a procedure, because a procedure ends with a semicolon
+//! (`stops_zero`). END can't continue a body. So no other tree has the same tokens (`same`). The
+//! descent reads every tree that the tokens spell (`finishes`), so `IsReadTree` follows from the
+//! spelling (`taken_there`).
 //!
 //! The leaves of a procedure determine the range of its tokens. Its name is its second token, and
 //! its closing name is its last token but one. The leaves of a body don't determine the range of
@@ -24,8 +24,9 @@
 //! The leaves of a kept tree stay unchanged until a parser reaches the tree's tokens. Then
 //! `move_leaves` adds to each leaf the distance that the tokens have moved, by a walk in
 //! `leaf_moves.rt`. So procedures and the body can be reused on both sides of a change in the text.
-//! The moved tree is `mapped` from the old tree, so it spells the current tokens (`moved_there`).
-//! No moved leaf exceeds the largest `usize`, because it is less than `next`, which is a `usize`.
+//! The moved tree is the old tree with each leaf changed, so it spells the current tokens
+//! (`moved_there`). No moved leaf exceeds the largest `usize`, because the leaf is less than
+//! `next`, a `usize`.
 
 ghost use Rattle.std.specs.Prelude.{◌≡◌, ◌+◌, ◌≤◌, ◌++◌, [], List, IfOk, OnOk, IfSome};
 ghost use Rattle.std.specs.Option.{option_to_list};
@@ -106,8 +107,8 @@ impl KeptTrees {
     }
 
     /// Returns the kept trees whose tokens are also in the changed text, with the ranges of these
-    /// tokens in that text. `same` says which tokens the two texts share. The other trees are
-    /// dropped.
+    /// tokens in the changed text. `same` says which tokens the old text and the changed text
+    /// share. The trees whose tokens have changed are dropped.
     pub fn relocate(self, alloc: Global, same: SameTokens) -> Result<KeptTrees, AllocError>
         ensures { IfOk result (λ kept. (old new : List Token)
             → HasSameTokens same old new
@@ -318,9 +319,9 @@ fn relocated_index(index: usize, same: SameTokens) -> Option<usize>
     following.checked_add(same.new_suffix)
 }
 
-/// Removes the procedure that begins at the token `at` from `waiting`, and returns the procedure
-/// and the index of the token after it. Returns None if no waiting procedure begins at that token.
-/// Procedures that begin before that token are dropped.
+/// Removes from `waiting` the procedure that begins at the token `at`. Returns that procedure and
+/// the index of the token after the procedure, or None if no waiting procedure begins at the token
+/// `at`. Procedures that begin before that token are dropped.
 pub(crate) fn take_procedure_at(
     waiting: &mut Vec<KeptProcedure>,
     at: usize,
@@ -353,7 +354,7 @@ fn pop_up_to(waiting: &mut Vec<KeptProcedure>, at: usize) -> Option<KeptProcedur
 }
 
 /// Changes each leaf of the procedure to the index of its token in the present text. Returns the
-/// procedure and the index of the token after it.
+/// procedure and the index of the token after the procedure.
 fn move_leaves(kept: KeptProcedure) -> (Procedure, usize)
     ensures { (ts : List Token) → IsWaiting ts kept → IsReusedProcedure ts kept.at result }
 {

@@ -1,4 +1,5 @@
-//! Proves laws about the definitions that the parser's contracts use.
+//! Proves laws about the descent (`Descends`), by which contracts define where the parser stops: it
+//! reads the tokens from left to right by the productions of the grammar.
 
 ghost use Rattle.std.specs.Prelude.{ℕ, List};
 ghost use Rattle.ob0_scan.specs.TextWithTokens.{TextWithTokens};
@@ -9,8 +10,7 @@ ghost use Rattle.ob0_parse_descent.specs.Descent.{DescendsText, Done, StopIsUniq
 ghost use Rattle.ob0_parse.specs.DescentExamples.{DeepStops, ExpectedStops};
 
 /// Proves that the tokens determine at which token the descent stops, and which token or construct
-/// is expected there. The descent reads the tokens from left to right by the productions of the
-/// grammar.
+/// is expected there.
 pub fn stop_is_unique()
     ensures { StopIsUnique }
 {}
@@ -23,8 +23,8 @@ pub fn descent_reads_modules()
         → DescendsText (index_terminals text.tokens) Done }
 {}
 
-/// Proves that the descent stops at the stated tokens in the examples of docs/LANGUAGE.md. If 101
-/// constructs are nested in each other, the descent stops at the 101st.
+/// Proves that the descent stops at the stated tokens in the examples of docs/LANGUAGE.md. With 101
+/// nested IF statements, procedures or array types, it stops at the 101st (`DeepStops`).
 pub fn examples_stop_as_stated()
     ensures expected { ExpectedStops }
     ensures deep { DeepStops }

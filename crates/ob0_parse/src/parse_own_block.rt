@@ -111,10 +111,10 @@ fn parse_own_body(
     }
 }
 
-/// Removes the body from `kept` and returns it, if its BEGIN is the token `at` and END follows its
-/// statements. The returned index is the index of that END. Otherwise returns None and leaves the
-/// body in `kept`. The text may then have a syntax error before BEGIN or END, and the body can be
-/// reused when the error is fixed.
+/// Removes the body from `kept` and returns its statements and the index of the END after them. The
+/// body's BEGIN must be the token `at`, and END must follow its statements. Otherwise returns None
+/// and leaves the body in `kept`: the text may have a syntax error before BEGIN or END, and the
+/// body can be reused when the error is fixed.
 fn take_kept_body(
     parser: &Parser<'_>,
     at: usize,

@@ -129,7 +129,7 @@ taken_formals {room = room} {ts = ts} {at = at} {n = n} xs here p close =
       forward = omega (arith, p.head.forward, p.tail.forward, close.2);
     }
 
--- Lemmas on declarations of constants: `expect_identifier "=" expression ";"`.
+-- Lemmas on declarations of constants: `ident "=" expression ";"`.
 
 pub taken_constant : {room : ℕ} {ts : List Token} {at m n k : ℕ} (a : Tree ℕ expression) → rest ts at ≡ Name at ∷ rest ts (at + 1) → (rest ts (at + 1) ≡ Mark (kind.Symbol symbol.Equal) ∷ rest ts m) × (at + 1 < length ts) × (m ≡ at + 1 + 1) → IsReadTree a room ts m n → (rest ts n ≡ Mark (kind.Symbol symbol.Semicolon) ∷ rest ts k) × (n < length ts) × (k ≡ n + 1) → IsReadTree (declares_constant at a) room ts at k
 taken_constant {at = at} a here equal p close = record {
@@ -150,7 +150,7 @@ constant_parts room w (declares_constant k a, z, e, n, s, b) = (k, _, e, (_, ref
 pub constant_fails : {room : ℕ} {ts : List Token} {at : ℕ} {e : ParseRefusal} → rest ts at ≡ Name at ∷ rest ts (at + 1) → FailsToRead (constant_following room) ts at e → ItemFails constant room ts at e
 constant_fails {room = room} here q = record { is_here = subst (λ y. NextHasRank 7 y) (sym here) refl; fails = fails_weaken {qs = constant_following room} (read_made refl) (λ w h b. constant_parts room w b) q }
 
--- Lemmas on declarations of types: `expect_identifier "=" type ";"`.
+-- Lemmas on declarations of types: `ident "=" type ";"`.
 
 pub taken_type_name : {room : ℕ} {ts : List Token} {at m n k : ℕ} (a : Tree ℕ written_type) → rest ts at ≡ Name at ∷ rest ts (at + 1) → (rest ts (at + 1) ≡ Mark (kind.Symbol symbol.Equal) ∷ rest ts m) × (at + 1 < length ts) × (m ≡ at + 1 + 1) → IsReadTree a room ts m n → (rest ts n ≡ Mark (kind.Symbol symbol.Semicolon) ∷ rest ts k) × (n < length ts) × (k ≡ n + 1) → IsReadTree (declares_type at a) room ts at k
 taken_type_name {at = at} a here equal p close = record {
@@ -254,7 +254,7 @@ block_begins room w (has_body (declares cs ds vs ps) b, z, e, n, s, x) =
 pub block_fails : {room : ℕ} {ts : List Token} {at : ℕ} {e : ParseRefusal} → FailsToRead (block_parts room) ts at e → FailsToRead (node block room ∷ []) ts at e
 block_fails {room = room} q = fails_weaken {qs = block_parts room} block_read (λ w h b. block_begins room w b) q
 
--- Lemmas on procedures: `PROCEDURE expect_identifier [formals] ";" block END expect_identifier ";"`.
+-- Lemmas on procedures: `PROCEDURE ident [formals] ";" block END ident ";"`.
 
 abbrev pub procedure_following : ℕ → List ProductionPart
 procedure_following inner = name ∷ node (maybe formals) inner ∷ token (kind.Symbol symbol.Semicolon) ∷ node block inner ∷ token (kind.ReservedWord reserved.End) ∷ name ∷ token (kind.Symbol symbol.Semicolon) ∷ []
@@ -285,7 +285,7 @@ procedure_too_deep {ts = ts} {at = at} {e = e} l o here = record {
   fails = subst (λ r. FailsToRead (node (item procedure) r ∷ []) ts at e) (sym o.0) (too_deep_at_once l o.1 here (λ more. deep (ap (λ w. chosen_production (item procedure) 0 w) here)) no_procedure);
 }
 
--- Lemmas on modules: `MODULE expect_identifier ";" block END expect_identifier "."`.
+-- Lemmas on modules: `MODULE ident ";" block END ident "."`.
 
 pub taken_module : {room : ℕ} {ts : List Token} {m n p : ℕ} (i a j k : ℕ) (b : Tree ℕ block) (x y : ℕ) → (rest ts 0 ≡ Mark (kind.ReservedWord reserved.Module) ∷ rest ts i) × (0 < length ts) × (i ≡ 0 + 1) → (rest ts i ≡ Name x ∷ rest ts a) × (a ≡ i + 1) → (rest ts a ≡ Mark (kind.Symbol symbol.Semicolon) ∷ rest ts m) × (a < length ts) × (m ≡ a + 1) → IsReadTree b room ts m n → (rest ts n ≡ Mark (kind.ReservedWord reserved.End) ∷ rest ts j) × (n < length ts) × (j ≡ n + 1) → (rest ts j ≡ Name y ∷ rest ts k) × (k ≡ j + 1) → (rest ts k ≡ Mark (kind.Symbol symbol.Dot) ∷ rest ts p) × (k < length ts) × (p ≡ k + 1) → IsReadTree (is_module x b y) room ts 0 p
 taken_module i a j k b x y here named semi qb last closing close = record {

@@ -243,7 +243,7 @@ taken_multiplies {ts = ts} {at = at} {n = n} k o a is here p = record {
   forward = omega (arith, p.forward);
 }
 
--- Lemmas on factors: `expect_identifier selector | integer | "(" expression ")" | "~" factor`.
+-- Lemmas on factors: `ident selector | integer | "(" expression ")" | "~" factor`.
 
 integer_only : (i : ℕ) (u : Tree ℕ factor) (z w : List (Terminal ℕ)) → spell u ++ z ≡ Number i ∷ w → (u ≡ integer i) × (z ≡ w)
 integer_only i (designator n ss) z w e = absurd (name_not_number e)
@@ -386,7 +386,7 @@ factor_fails_designator {room = room} {ts = ts} {at = at} here q =
 pub designator_fails_selector : {room : ℕ} {ts : List Token} {at m n : ℕ} {e : ParseRefusal} (ss : Tree ℕ (items selector)) → rest ts at ≡ Name at ∷ rest ts m → m ≡ at + 1 → Taking ss room ts m n → ItemFails selector room ts n e → FailsToRead (name ∷ node (items selector) room ∷ []) ts at e
 designator_fails_selector ss here l p q = fails_pass_name here l (taking_fails ss p q)
 
--- Lemmas on selectors: `"." expect_identifier | "[" expression "]"`.
+-- Lemmas on selectors: `"." ident | "[" expression "]"`.
 
 selector_head : (x : Terminal ℕ) → (x ≡ Mark (kind.Symbol symbol.Dot) → ⊥) → (x ≡ Mark (kind.Symbol symbol.LeftBracket) → ⊥) → rank x ≡ 1 → ⊥
 selector_head (Name n) p q e = omega arith

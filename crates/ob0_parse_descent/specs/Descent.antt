@@ -26,7 +26,7 @@ pub data ProductionPart : Type 0 where
   node : Sort → (room : ℕ) → ProductionPart
   finish : ProductionPart
 
--- ---- the choice of a production
+-- ---- the production that the next tokens determine
 
 -- The choice that the next tokens determine for a construct: the parts of a production, or an
 -- error. If the construct is omitted, the list of parts is empty. The error says that another token
@@ -89,13 +89,13 @@ chosen_item_production selector room (Mark (kind.Symbol symbol.LeftBracket) ∷ 
     nested_choice room
     (λ inner. symbol_part symbol.LeftBracket ∷ node expression inner ∷ symbol_part symbol.RightBracket ∷ [])
 chosen_item_production selector room tokens = parts (symbol_part symbol.Dot ∷ name ∷ [])
--- one item of {("*" | DIV | MOD | "&") factor}: the operator and its factor
+-- multiplier = ("*" | DIV | MOD | "&") factor
 chosen_item_production multiplier room tokens = operation_choice factor room tokens
--- one item of {("+" | "-" | OR) term}: the operator and its term
+-- addend = ("+" | "-" | OR) term
 chosen_item_production addend room tokens = operation_choice term room tokens
--- the item of [("=" | "#" | "<" | "<=" | ">" | ">=") simple]
+-- comparison = ("=" | "#" | "<" | "<=" | ">" | ">=") simple
 chosen_item_production comparison room tokens = operation_choice simple room tokens
--- arguments = "(" [expression {"," expression}] ")"
+-- arguments = "(" [expression {further_argument}] ")"
 chosen_item_production arguments room tokens =
     if is_expression_next (drop 1 tokens)
     then parts (symbol_part symbol.LeftParen
@@ -104,21 +104,21 @@ chosen_item_production arguments room tokens =
     ∷ symbol_part symbol.RightParen
     ∷ [])
     else parts (symbol_part symbol.LeftParen ∷ symbol_part symbol.RightParen ∷ [])
--- one item of {"," expression}
+-- further_argument = "," expression
 chosen_item_production further_argument room tokens = parts (symbol_part symbol.Comma ∷ node expression room ∷ [])
--- one item of {";" statement}
+-- further_statement = ";" statement
 chosen_item_production further_statement room tokens = parts (symbol_part symbol.Semicolon ∷ node statement room ∷ [])
--- one item of {ELSIF expression THEN sequence}
+-- elsif_part = ELSIF expression THEN sequence
 chosen_item_production elsif_part room tokens =
     parts
     (reserved_part reserved.Elsif ∷ node expression room ∷ reserved_part reserved.Then ∷ node sequence room ∷ [])
--- the item of [ELSE sequence]
+-- else_part = ELSE sequence
 chosen_item_production else_part room tokens = parts (reserved_part reserved.Else ∷ node sequence room ∷ [])
--- one item of {"," ident}
+-- further_name = "," ident
 chosen_item_production further_name room tokens = parts (symbol_part symbol.Comma ∷ name ∷ [])
--- one item of {";" fields}
+-- further_fields = ";" fields
 chosen_item_production further_fields room tokens = parts (symbol_part symbol.Semicolon ∷ node fields room ∷ [])
--- formals = "(" [section {";" section}] ")"
+-- formals = "(" [section {further_section}] ")"
 chosen_item_production formals room tokens =
     if is_section_next (drop 1 tokens)
     then parts (symbol_part symbol.LeftParen
@@ -127,25 +127,24 @@ chosen_item_production formals room tokens =
     ∷ symbol_part symbol.RightParen
     ∷ [])
     else parts (symbol_part symbol.LeftParen ∷ symbol_part symbol.RightParen ∷ [])
--- one item of {";" section}
+-- further_section = ";" section
 chosen_item_production further_section room tokens = parts (symbol_part symbol.Semicolon ∷ node section room ∷ [])
--- one item of {ident "=" expression ";"}
+-- constant = ident "=" expression ";"
 chosen_item_production constant room tokens =
     parts (name ∷ symbol_part symbol.Equal ∷ node expression room ∷ symbol_part symbol.Semicolon ∷ [])
--- the item of [CONST {ident "=" expression ";"}]
+-- constants = CONST {constant}
 chosen_item_production constants room tokens = parts (reserved_part reserved.Const ∷ node (items constant) room ∷ [])
--- one item of {ident "=" type ";"}
+-- type_name = ident "=" type ";"
 chosen_item_production type_name room tokens =
     parts (name ∷ symbol_part symbol.Equal ∷ node written_type room ∷ symbol_part symbol.Semicolon ∷ [])
--- the item of [TYPE {ident "=" type ";"}]
+-- type_names = TYPE {type_name}
 chosen_item_production type_names room tokens = parts (reserved_part reserved.Type ∷ node (items type_name) room ∷ [])
--- one item of {identList ":" type ";"}
+-- variable = identList ":" type ";"
 chosen_item_production variable room tokens =
     parts (node names 0 ∷ symbol_part symbol.Colon ∷ node written_type room ∷ symbol_part symbol.Semicolon ∷ [])
--- the item of [VAR {identList ":" type ";"}]
+-- variables = VAR {variable}
 chosen_item_production variables room tokens = parts (reserved_part reserved.Var ∷ node (items variable) room ∷ [])
--- one item of {procedure ";"}, procedure = PROCEDURE ident [formals] ";" declarations [BEGIN
--- sequence] END ident
+-- procedure = PROCEDURE ident [formals] ";" block END ident ";"
 chosen_item_production procedure room tokens =
     nested_choice room (λ inner. reserved_part reserved.Procedure
     ∷ name
@@ -156,28 +155,29 @@ chosen_item_production procedure room tokens =
     ∷ name
     ∷ symbol_part symbol.Semicolon
     ∷ [])
--- the item of [BEGIN sequence]
+-- body = BEGIN sequence
 chosen_item_production body room tokens = parts (reserved_part reserved.Begin ∷ node sequence room ∷ [])
 
 -- Returns the production that the next tokens determine for a construct, with `room` levels of
--- nesting left. No part of a list of names counts for nesting, so such a list needs no level.
+-- nesting left. A list of names needs no level (`node names 0`), because its parts don't count for
+-- nesting.
 abbrev pub chosen_production : Sort → (room : ℕ) → List (Terminal ℕ) → ProductionChoice
 chosen_production (item i) room tokens = chosen_item_production i room tokens
 chosen_production (items i) room tokens =
     if is_item_next i tokens then parts (node (item i) room ∷ node (items i) room ∷ []) else parts []
 chosen_production (maybe i) room tokens =
     if is_item_next i tokens then parts (node (item i) room ∷ []) else parts []
--- expression = simple [relation simple]
+-- expression = simple [comparison]
 chosen_production expression room tokens = parts (node simple room ∷ node (maybe comparison) room ∷ [])
--- simple = ["+" | "-"] term {operator term}
+-- simple = ["+" | "-"] term {addend}
 chosen_production simple room (Mark (kind.Symbol symbol.Plus) ∷ tokens) =
     parts (symbol_part symbol.Plus ∷ node term room ∷ node (items addend) room ∷ [])
 chosen_production simple room (Mark (kind.Symbol symbol.Minus) ∷ tokens) =
     parts (symbol_part symbol.Minus ∷ node term room ∷ node (items addend) room ∷ [])
 chosen_production simple room tokens = parts (node term room ∷ node (items addend) room ∷ [])
--- term = factor {operator factor}
+-- term = factor {multiplier}
 chosen_production term room tokens = parts (node factor room ∷ node (items multiplier) room ∷ [])
--- factor = ident selector | integer | "(" expression ")" | "~" factor
+-- factor = ident {selector} | integer | "(" expression ")" | "~" factor
 chosen_production factor room (Name n ∷ tokens) = parts (name ∷ node (items selector) room ∷ [])
 chosen_production factor room (Number n ∷ tokens) = parts (number ∷ [])
 chosen_production factor room (Mark (kind.Symbol symbol.LeftParen) ∷ tokens) =
@@ -187,13 +187,13 @@ chosen_production factor room (Mark (kind.Symbol symbol.Not) ∷ tokens) =
     nested_choice room (λ inner. symbol_part symbol.Not ∷ node factor inner ∷ [])
 chosen_production factor room tokens = missing expected.Expression
 -- statement = [assignment | call | if | while | repeat]
--- assignment = ident selector ":=" expression, call = ident [arguments]: a selector that isn't
--- empty requires `:=`
+-- assignment = ident {selector} ":=" expression, call = ident [arguments]: if a selector follows the
+-- identifier, the statement is an assignment
 chosen_production statement room (Name n ∷ tokens) =
     if is_assignment_next tokens
     then parts (name ∷ node (items selector) room ∷ symbol_part symbol.Becomes ∷ node expression room ∷ [])
     else parts (name ∷ node (maybe arguments) room ∷ [])
--- if = IF expression THEN sequence {ELSIF expression THEN sequence} [ELSE sequence] END
+-- if = IF expression THEN sequence {elsif_part} [else_part] END
 chosen_production statement room (Mark (kind.ReservedWord reserved.If) ∷ tokens) =
     nested_choice room (λ inner. reserved_part reserved.If
     ∷ node expression inner
@@ -219,11 +219,11 @@ chosen_production statement room (Mark (kind.ReservedWord reserved.Repeat) ∷ t
     ∷ node expression inner
     ∷ [])
 chosen_production statement room tokens = parts []
--- sequence = statement {";" statement}
+-- sequence = statement {further_statement}
 chosen_production sequence room tokens = parts (node statement room ∷ node (items further_statement) room ∷ [])
--- identList = ident {"," ident}
+-- identList = ident {further_name}
 chosen_production names room tokens = parts (name ∷ node (items further_name) room ∷ [])
--- type = ident | ARRAY expression OF type | RECORD fields {";" fields} END
+-- type = ident | ARRAY expression OF type | RECORD fields {further_fields} END
 chosen_production written_type room (Name n ∷ tokens) = parts (name ∷ [])
 chosen_production written_type room (Mark (kind.ReservedWord reserved.Array) ∷ tokens) =
     nested_choice room (λ inner. reserved_part reserved.Array
@@ -246,16 +246,16 @@ chosen_production fields room tokens = parts []
 chosen_production section room (Mark (kind.ReservedWord reserved.Var) ∷ tokens) =
     parts (reserved_part reserved.Var ∷ node names 0 ∷ symbol_part symbol.Colon ∷ node written_type room ∷ [])
 chosen_production section room tokens = parts (node names 0 ∷ symbol_part symbol.Colon ∷ node written_type room ∷ [])
--- declarations = [CONST ..] [TYPE ..] [VAR ..] {procedure ";"}
+-- declarations = [constants] [type_names] [variables] {procedure}
 chosen_production declarations room tokens =
     parts (node (maybe constants) room
     ∷ node (maybe type_names) room
     ∷ node (maybe variables) room
     ∷ node (items procedure) room
     ∷ [])
--- block = declarations [BEGIN sequence]
+-- block = declarations [body]
 chosen_production block room tokens = parts (node declarations room ∷ node (maybe body) room ∷ [])
--- module = MODULE ident ";" declarations [BEGIN sequence] END ident "."
+-- module = MODULE ident ";" block END ident "."
 chosen_production module_text room tokens =
     parts (reserved_part reserved.Module
     ∷ name
@@ -266,7 +266,7 @@ chosen_production module_text room tokens =
     ∷ symbol_part symbol.Dot
     ∷ [])
 
--- ---- the stop
+-- ---- the stop: where and why the descent ends
 
 -- States that this token matches this part of a production. No token matches a part that is a
 -- construct.

@@ -1,5 +1,5 @@
--- Defines the promises of the parser's functions: which tokens a function has read, or why no tree
--- begins with these tokens.
+-- Defines the promises of the parser's functions: which tokens a function has read as a tree, or why
+-- no such tree begins at the given token.
 -- Rule: none; for contracts of the parser.
 use Rattle.std.specs.declared.vec.Vec.{Vec}
 use Rattle.std.specs.declared.alloc.Global.{Global}
@@ -51,8 +51,8 @@ BeginsWithParts (node s room ∷ ps) w =
     × BeginsWithParts ps z
 BeginsWithParts (finish ∷ ps) w = (z : List (Terminal ℕ)) × (w ≡ EndOfText ∷ z) × BeginsWithParts ps z
 
--- States that the list `tokens` ends with `after`, and that the tokens before `after` can't be the
--- beginning of these parts, whatever tokens follow them.
+-- States that the list `tokens` ends with `after`. The tokens before `after` can't be the beginning of
+-- these parts, whatever tokens follow.
 pub record Refused (parts : List ProductionPart) (tokens after : List (Terminal ℕ)) : Type 0 where
   pub passed : List (Terminal ℕ)
   pub fault : Terminal ℕ
@@ -67,17 +67,18 @@ pub record SameHead (xs w : List (Terminal ℕ)) : Type 0 where
   pub is : xs ≡ head ∷ following
   pub alike : w ≡ head ∷ other
 
--- States that the descents over two lists of parts end with the same stop. One descent is over
--- `ps`, starting at the token `at`. The other is over `following`, starting at the token `next`.
--- This holds whatever parts `more` follow both lists.
+-- States that the descent over the parts `ps`, starting at the token `at`, ends with the same stop as
+-- the descent over the parts `following`, starting at the token `next`. This holds whatever parts
+-- `more` follow both lists.
 pub record ReadAs (ps following : List ProductionPart) (ts : List Token) (at next : ℕ) : Type 0 where
   pub on : (o : Stop) (more : List ProductionPart)
       → Descends (following ++ more) next (rest ts next) o
       → Descends (ps ++ more) at (rest ts at) o
 
 -- States that the tree `t` spells the tokens `at..next`, that the descent reads `t` there, and that
--- `t` has at most `room` levels of nesting. Given these tokens and the token at `next`, no other
--- tree of the same sort can begin at `at`.
+-- `t` has at most `room` levels of nesting. Also states that `t` is the only such tree (`only`). If a
+-- list begins with these tokens and the token at `next`, then `t` is the only tree of its sort at the
+-- beginning of the list that is followed by a token that can't continue it (`EndsConstruct`).
 pub record IsReadTree {s : Sort} (t : Tree ℕ s) (room : ℕ) (ts : List Token) (at next : ℕ) : Type 0 where
   pub spelled : rest ts at ≡ spell t ++ rest ts next
   pub shallow : nesting t ≤ room
@@ -111,7 +112,7 @@ DescentStopsByRefusal parts ts at (TooDeep i) = DescentStopsWith parts ts at (De
 DescentStopsByRefusal parts ts at Memory = Unit {0}
 
 -- States that the refusal `e` is right. These parts can't be read starting at the token `at`, and
--- the descent over the parts stops as `e` says. A failed allocation is always right.
+-- the descent over the parts stops as `e` says. The refusal `Memory` is always right.
 pub record FailsToRead
     (parts : List ProductionPart) (ts : List Token) (at : ℕ) (e : ParseRefusal) : Type 0 where
   pub why : IsRightRefusalOfParts parts ts at e
@@ -232,14 +233,15 @@ ReadsDesignator room ts at (Ok x) =
 ReadsDesignator room ts at (Err e) = FailsToRead (name ∷ node (items selector) room ∷ []) ts at e
 
 -- States that the operator found for a token of the kind `k` is right. If an operator was found,
--- `k` spells it. If none was found (None), `k` doesn't have the rank `r`, which all tokens of these
--- operators have.
+-- `k` spells it. If no operator was found (None), the rank of `k` isn't `r`, the rank of these
+-- operators.
 abbrev pub IsOperatorOf : {A : Type 0} → (A → TokenKind) → ℕ → TokenKind → Option A → Type 0
 IsOperatorOf mark r k (Some a) = k ≡ mark a
 IsOperatorOf mark r k None = kind_rank k ≢ r
 
 -- States that the tokens `at..next` are the list `xs`: its first element, then the further
--- elements, each with the separator before it.
+-- elements, each with the separator before it. `view` returns the tree of the first element, and
+-- `further` returns the tree of a further element.
 pub record ListRead
     {A : Type 0} {s : Sort} {i : Item} (view : A → Tree ℕ s) (further : A → Tree ℕ (item i))
     (xs : List A) (room : ℕ) (ts : List Token) (at next : ℕ) : Type 0 where

@@ -13,7 +13,7 @@ use ob0_tree::{
 };
 
 impl<'t> Parser<'t> {
-    /// Parses `names ":" type`.
+    /// Parses names and their type, `names ":" type`.
     fn parse_typed_names(&self, at: usize, room: u32) -> ConstructResult<(Names, WrittenType)>
         requires { at ≤ length self.now.tokens.now }
         ensures { ReadsTypedNames room self.now.tokens.now at result }
@@ -64,7 +64,8 @@ impl<'t> Parser<'t> {
         self.has_word_at(at, ReservedWord::Var)
     }
 
-    /// Parses an optional `";" section`. Returns None if no `;` comes next.
+    /// Parses a further section of formal parameters, `";" section`. Returns None if the token `at`
+    /// isn't `;`.
     fn parse_further_section(&self, at: usize, room: u32) -> ItemResult<ParameterSection>
         requires { at ≤ length self.now.tokens.now }
         ensures { ReadsItem further_section_of room self.now.tokens.now at result }
@@ -76,7 +77,7 @@ impl<'t> Parser<'t> {
         Ok(Some((section, next)))
     }
 
-    /// Parses `section {";" section}`.
+    /// Parses the sections of formal parameters, `section {";" section}`.
     fn parse_section_list(&self, at: usize, room: u32) -> ConstructResult<Vec<ParameterSection>>
         requires { at ≤ length self.now.tokens.now }
         ensures { ReadsList section_of further_section_of room self.now.tokens.now at result }
@@ -91,7 +92,8 @@ impl<'t> Parser<'t> {
         Ok((sections, next))
     }
 
-    /// Parses `["(" [section {";" section}] ")"]`. The sections are None if no `(` comes next.
+    /// Parses optional formal parameters, `["(" [section {";" section}] ")"]`. The sections are
+    /// None if the token `at` isn't `(`.
     fn parse_formals(&self, at: usize, room: u32) -> ConstructResult<Option<Vec<ParameterSection>>>
         requires { at ≤ length self.now.tokens.now }
         ensures { Reads formals_of room self.now.tokens.now at result }
@@ -108,7 +110,8 @@ impl<'t> Parser<'t> {
         Ok((Some(sections), end))
     }
 
-    /// Parses `[CONST {constant}]`. The list is None if CONST doesn't come next.
+    /// Parses an optional CONST section, `[CONST {ident "=" expression ";"}]`. The list is None if
+    /// the token `at` isn't CONST.
     pub fn parse_constants(&self, at: usize, room: u32) -> ConstructResult<Option<Vec<Constant>>>
         requires { at ≤ length self.now.tokens.now }
         ensures { Reads constants_of room self.now.tokens.now at result }
@@ -120,7 +123,7 @@ impl<'t> Parser<'t> {
         Ok((Some(constants), next))
     }
 
-    /// Parses `{ident "=" expression ";"}`.
+    /// Parses the declarations of a CONST section, `{ident "=" expression ";"}`.
     fn parse_constant_list(&self, at: usize, room: u32) -> ConstructResult<Vec<Constant>>
         requires { at ≤ length self.now.tokens.now }
         ensures { Reads constants_of_vec room self.now.tokens.now at result }
@@ -134,7 +137,8 @@ impl<'t> Parser<'t> {
         Ok((constants, next))
     }
 
-    /// Parses an optional `ident "=" expression ";"`. Returns None if no identifier comes next.
+    /// Parses the declaration of a constant, `ident "=" expression ";"`. Returns None if the token
+    /// `at` isn't an identifier.
     fn parse_constant(&self, at: usize, room: u32) -> ItemResult<Constant>
         requires { at ≤ length self.now.tokens.now }
         ensures { ReadsItem constant_of room self.now.tokens.now at result }
@@ -148,7 +152,8 @@ impl<'t> Parser<'t> {
         Ok(Some((Constant { name: at, value }, end)))
     }
 
-    /// Parses `[TYPE {type declaration}]`. The list is None if TYPE doesn't come next.
+    /// Parses an optional TYPE section, `[TYPE {ident "=" type ";"}]`. The list is None if the
+    /// token `at` isn't TYPE.
     pub fn parse_types(&self, at: usize, room: u32) -> ConstructResult<Option<Vec<TypeDeclaration>>>
         requires { at ≤ length self.now.tokens.now }
         ensures { Reads types_of room self.now.tokens.now at result }
@@ -160,7 +165,7 @@ impl<'t> Parser<'t> {
         Ok((Some(types), next))
     }
 
-    /// Parses `{ident "=" type ";"}`.
+    /// Parses the declarations of a TYPE section, `{ident "=" type ";"}`.
     fn parse_type_list(&self, at: usize, room: u32) -> ConstructResult<Vec<TypeDeclaration>>
         requires { at ≤ length self.now.tokens.now }
         ensures { Reads types_of_vec room self.now.tokens.now at result }
@@ -174,7 +179,8 @@ impl<'t> Parser<'t> {
         Ok((types, next))
     }
 
-    /// Parses an optional `ident "=" type ";"`. Returns None if no identifier comes next.
+    /// Parses the declaration of a type, `ident "=" type ";"`. Returns None if the token `at` isn't
+    /// an identifier.
     fn parse_type_declaration(&self, at: usize, room: u32) -> ItemResult<TypeDeclaration>
         requires { at ≤ length self.now.tokens.now }
         ensures { ReadsItem type_declaration_of room self.now.tokens.now at result }
@@ -188,7 +194,8 @@ impl<'t> Parser<'t> {
         Ok(Some((TypeDeclaration { name: at, written }, end)))
     }
 
-    /// Parses `[VAR {variables}]`. The list is None if VAR doesn't come next.
+    /// Parses an optional VAR section, `[VAR {names ":" type ";"}]`. The list is None if the token
+    /// `at` isn't VAR.
     pub fn parse_variables(
         &self,
         at: usize,
@@ -204,7 +211,7 @@ impl<'t> Parser<'t> {
         Ok((Some(variables), next))
     }
 
-    /// Parses `{names ":" type ";"}`.
+    /// Parses the declarations of a VAR section, `{names ":" type ";"}`.
     fn parse_variable_list(&self, at: usize, room: u32) -> ConstructResult<Vec<VariableDeclaration>>
         requires { at ≤ length self.now.tokens.now }
         ensures { Reads variables_of_vec room self.now.tokens.now at result }
@@ -218,7 +225,8 @@ impl<'t> Parser<'t> {
         Ok((variables, next))
     }
 
-    /// Parses an optional `names ":" type ";"`. Returns None if no identifier comes next.
+    /// Parses a declaration of variables, `names ":" type ";"`. Returns None if the token `at`
+    /// isn't an identifier.
     fn parse_variable(&self, at: usize, room: u32) -> ItemResult<VariableDeclaration>
         requires { at ≤ length self.now.tokens.now }
         ensures { ReadsItem variable_of room self.now.tokens.now at result }
@@ -231,7 +239,8 @@ impl<'t> Parser<'t> {
         Ok(Some((VariableDeclaration { names, written }, end)))
     }
 
-    /// Parses `[BEGIN sequence]`. The statements are None if BEGIN doesn't come next.
+    /// Parses the optional body of a block, `[BEGIN sequence]`. The statements are None if the
+    /// token `at` isn't BEGIN.
     pub fn parse_body(&self, at: usize, room: u32) -> ConstructResult<Option<Vec<Statement>>>
         requires { at ≤ length self.now.tokens.now }
         ensures { Reads body_of room self.now.tokens.now at result }
@@ -266,7 +275,7 @@ impl<'t> Parser<'t> {
         ))
     }
 
-    /// Parses `{procedure ";"}`.
+    /// Parses the procedures of a block, `{procedure ";"}`.
     #[cycle(blocks)]
     fn parse_procedures(&self, at: usize, room: u32) -> ConstructResult<Vec<Procedure>>
         requires { at ≤ length self.now.tokens.now }
@@ -281,8 +290,8 @@ impl<'t> Parser<'t> {
         Ok((procedures, next))
     }
 
-    /// Parses an optional `PROCEDURE ident [formals] ";" block END ident ";"`. Returns None if
-    /// PROCEDURE doesn't come next.
+    /// Parses a procedure, `PROCEDURE ident [formals] ";" block END ident ";"`. Returns None if the
+    /// token `at` isn't PROCEDURE.
     #[cycle(blocks)]
     pub fn parse_procedure(&self, at: usize, room: u32) -> ItemResult<Procedure>
         requires { at ≤ length self.now.tokens.now }

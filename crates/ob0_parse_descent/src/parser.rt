@@ -133,7 +133,7 @@ impl<'t> Parser<'t> {
         self.kind(at) == Some(TokenKind::Identifier)
     }
 
-    /// Parses an optional `"," ident`. Returns None if no comma comes next.
+    /// Parses a further name of a list, `"," ident`. Returns None if the token `at` isn't a comma.
     fn parse_further_name(&self, at: usize) -> ItemResult<usize>
         requires { at ≤ length self.now.tokens.now }
         ensures read { ReadsItem then_name 0 self.now.tokens.now at result }
@@ -147,7 +147,7 @@ impl<'t> Parser<'t> {
         }
     }
 
-    /// Parses `ident {"," ident}`.
+    /// Parses a list of names, `ident {"," ident}`.
     pub(crate) fn parse_names(&self, at: usize) -> ConstructResult<Names>
         requires { at ≤ length self.now.tokens.now }
         ensures { Reads names_of 0 self.now.tokens.now at result }
@@ -212,7 +212,8 @@ impl<'t> Parser<'t> {
         Ok(Expression::CompoundExpression(compound))
     }
 
-    /// Parses an optional `relation simple`. Returns None if no relation comes next.
+    /// Parses an optional comparison, `relation simple`. Returns None if the token `at` isn't a
+    /// relation.
     #[cycle(expressions)]
     fn parse_comparison(&self, at: usize, room: u32) -> ItemResult<Comparison>
         requires { at ≤ length self.now.tokens.now }
@@ -312,7 +313,7 @@ impl<'t> Parser<'t> {
         Ok((factor, at + 1))
     }
 
-    /// Parses `[sign] term {operator term}`.
+    /// Parses a simple expression, `[sign] term {operator term}`.
     #[cycle(expressions)]
     #[inline(never)]
     fn parse_simple(&self, at: usize, room: u32) -> ConstructResult<SimpleExpression>
@@ -342,7 +343,8 @@ impl<'t> Parser<'t> {
         }
     }
 
-    /// Parses an optional `("+" | "-" | OR) term`. Returns None if no such operator comes next.
+    /// Parses a further term with the operator before it, `("+" | "-" | OR) term`. Returns None if
+    /// the token `at` is no such operator.
     #[cycle(expressions)]
     fn parse_addend(&self, at: usize, room: u32) -> ItemResult<Addend>
         requires { at ≤ length self.now.tokens.now }
@@ -358,7 +360,7 @@ impl<'t> Parser<'t> {
         Ok(Some((Addend { operator, term }, next)))
     }
 
-    /// Parses `factor {operator factor}`.
+    /// Parses a term, `factor {operator factor}`.
     #[cycle(expressions)]
     #[inline(never)]
     fn parse_term(&self, at: usize, room: u32) -> ConstructResult<Term>
@@ -374,8 +376,8 @@ impl<'t> Parser<'t> {
         Ok((Term { first, more }, next))
     }
 
-    /// Parses an optional `("*" | DIV | MOD | "&") factor`. Returns None if no such operator comes
-    /// next.
+    /// Parses a further factor with the operator before it, `("*" | DIV | MOD | "&") factor`.
+    /// Returns None if the token `at` is no such operator.
     #[cycle(expressions)]
     fn parse_multiplier(&self, at: usize, room: u32) -> ItemResult<Multiplier>
         requires { at ≤ length self.now.tokens.now }
@@ -391,7 +393,7 @@ impl<'t> Parser<'t> {
         Ok(Some((Multiplier { operator, factor }, next)))
     }
 
-    /// Parses `ident selector | integer | "(" expression ")" | "~" factor`.
+    /// Parses a factor: a designator, an integer, `"(" expression ")"` or `"~" factor`.
     #[cycle(expressions)]
     #[inline(never)]
     fn parse_factor(&self, at: usize, room: u32) -> ConstructResult<Factor>
@@ -417,7 +419,7 @@ impl<'t> Parser<'t> {
         }
     }
 
-    /// Parses `"(" expression ")"`.
+    /// Parses a factor in parentheses, `"(" expression ")"`.
     #[cycle(expressions)]
     fn parse_parenthesised_factor(&self, at: usize, room: u32) -> ConstructResult<Factor>
         requires { TellsIfTokenAt (kind.Symbol symbol.LeftParen) self.now.tokens.now at true }
@@ -430,7 +432,7 @@ impl<'t> Parser<'t> {
         Ok((Factor::Parenthesised(boxed), next))
     }
 
-    /// Parses `"~" factor`.
+    /// Parses a negated factor, `"~" factor`.
     #[cycle(expressions)]
     fn parse_negation(&self, at: usize, room: u32) -> ConstructResult<Factor>
         requires { TellsIfTokenAt (kind.Symbol symbol.Not) self.now.tokens.now at true }
@@ -457,8 +459,8 @@ impl<'t> Parser<'t> {
         Ok((Designator { name, selectors }, next))
     }
 
-    /// Parses an optional `"." ident | "[" expression "]"`. Returns None if neither `.` nor `[`
-    /// comes next.
+    /// Parses an optional selector, `"." ident | "[" expression "]"`. Returns None if the token
+    /// `at` is neither `.` nor `[`.
     #[cycle(expressions)]
     fn parse_selector(&self, at: usize, room: u32) -> ItemResult<Selector>
         requires { at ≤ length self.now.tokens.now }

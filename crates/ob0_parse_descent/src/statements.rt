@@ -15,7 +15,7 @@ use ob0_scan::{ReservedWord, Symbol, TokenKind};
 use ob0_tree::{Assignment, Call, Elsif, Expression, If, Repeat, Statement, While};
 
 impl<'t> Parser<'t> {
-    /// Parses `[assignment | call | if | while | repeat]`.
+    /// Parses a statement, `[assignment | call | if | while | repeat]`, which may be empty.
     #[cycle(statements)]
     fn parse_statement(&self, at: usize, room: u32) -> ConstructResult<Statement>
         requires { at ≤ length self.now.tokens.now }
@@ -71,8 +71,8 @@ impl<'t> Parser<'t> {
         ))
     }
 
-    /// Parses an optional `"(" [expression {"," expression}] ")"`. Returns None if no `(` comes
-    /// next.
+    /// Parses the optional arguments of a call, `"(" [expression {"," expression}] ")"`. Returns
+    /// None if the token `at` isn't `(`.
     fn parse_arguments(&self, at: usize, room: u32) -> ItemResult<Vec<Expression>>
         requires { at ≤ length self.now.tokens.now }
         ensures { ReadsItem arguments_of_vec room self.now.tokens.now at result }
@@ -89,7 +89,7 @@ impl<'t> Parser<'t> {
         Ok(Some((arguments, end)))
     }
 
-    /// Parses `expression {"," expression}`.
+    /// Parses a list of one or more arguments, `expression {"," expression}`.
     fn parse_argument_list(&self, at: usize, room: u32) -> ConstructResult<Vec<Expression>>
         requires { at ≤ length self.now.tokens.now }
         ensures { ReadsList expression_of further_argument_of room self.now.tokens.now at result }
@@ -104,7 +104,7 @@ impl<'t> Parser<'t> {
         Ok((arguments, next))
     }
 
-    /// Parses an optional `"," expression`. Returns None if no comma comes next.
+    /// Parses a further argument, `"," expression`. Returns None if the token `at` isn't a comma.
     fn parse_further_argument(&self, at: usize, room: u32) -> ItemResult<Expression>
         requires { at ≤ length self.now.tokens.now }
         ensures { ReadsItem further_argument_of room self.now.tokens.now at result }
@@ -116,7 +116,7 @@ impl<'t> Parser<'t> {
         Ok(Some((argument, next)))
     }
 
-    /// Parses `statement {";" statement}`.
+    /// Parses a sequence of statements, `statement {";" statement}`.
     #[cycle(statements)]
     pub(crate) fn parse_sequence(&self, at: usize, room: u32) -> ConstructResult<Vec<Statement>>
         requires { at ≤ length self.now.tokens.now }
@@ -132,7 +132,7 @@ impl<'t> Parser<'t> {
         Ok((statements, next))
     }
 
-    /// Parses an optional `";" statement`. Returns None if no `;` comes next.
+    /// Parses a further statement, `";" statement`. Returns None if the token `at` isn't `;`.
     #[cycle(statements)]
     fn parse_further_statement(&self, at: usize, room: u32) -> ItemResult<Statement>
         requires { at ≤ length self.now.tokens.now }
@@ -145,7 +145,8 @@ impl<'t> Parser<'t> {
         Ok(Some((statement, next)))
     }
 
-    /// Parses `IF expression THEN sequence {ELSIF expression THEN sequence} [ELSE sequence] END`.
+    /// Parses an IF statement: `IF expression THEN sequence {ELSIF expression THEN sequence} [ELSE
+    /// sequence] END`.
     #[cycle(statements)]
     fn parse_if(&self, at: usize, room: u32) -> ConstructResult<Statement>
         requires { TellsIfTokenAt (kind.ReservedWord reserved.If) self.now.tokens.now at true }
@@ -170,7 +171,7 @@ impl<'t> Parser<'t> {
         Ok((Statement::If(boxed), end))
     }
 
-    /// Parses `{ELSIF expression THEN sequence}`.
+    /// Parses the ELSIF parts of an IF statement, `{ELSIF expression THEN sequence}`.
     #[cycle(statements)]
     fn parse_elsifs(&self, at: usize, room: u32) -> ConstructResult<Vec<Elsif>>
         requires { at ≤ length self.now.tokens.now }
@@ -185,8 +186,8 @@ impl<'t> Parser<'t> {
         Ok((elsifs, next))
     }
 
-    /// Parses an optional `ELSIF expression THEN sequence`. Returns None if ELSIF doesn't come
-    /// next.
+    /// Parses an ELSIF part, `ELSIF expression THEN sequence`. Returns None if the token `at` isn't
+    /// ELSIF.
     #[cycle(statements)]
     fn parse_elsif(&self, at: usize, room: u32) -> ItemResult<Elsif>
         requires { at ≤ length self.now.tokens.now }
@@ -201,7 +202,8 @@ impl<'t> Parser<'t> {
         Ok(Some((Elsif { condition, then }, end)))
     }
 
-    /// Parses `[ELSE sequence]`. The statements are None if ELSE doesn't come next.
+    /// Parses the ELSE part of an IF statement, `[ELSE sequence]`. The statements are None if the
+    /// token `at` isn't ELSE.
     #[cycle(statements)]
     fn parse_else(&self, at: usize, room: u32) -> ConstructResult<Option<Vec<Statement>>>
         requires { at ≤ length self.now.tokens.now }
@@ -214,7 +216,7 @@ impl<'t> Parser<'t> {
         Ok((Some(statements), end))
     }
 
-    /// Parses `WHILE expression DO sequence END`.
+    /// Parses a WHILE statement, `WHILE expression DO sequence END`.
     #[cycle(statements)]
     fn parse_while(&self, at: usize, room: u32) -> ConstructResult<Statement>
         requires { TellsIfTokenAt (kind.ReservedWord reserved.While) self.now.tokens.now at true }
@@ -229,7 +231,7 @@ impl<'t> Parser<'t> {
         Ok((Statement::While(boxed), end))
     }
 
-    /// Parses `REPEAT sequence UNTIL expression`.
+    /// Parses a REPEAT statement, `REPEAT sequence UNTIL expression`.
     #[cycle(statements)]
     fn parse_repeat(&self, at: usize, room: u32) -> ConstructResult<Statement>
         requires { TellsIfTokenAt (kind.ReservedWord reserved.Repeat) self.now.tokens.now at true }

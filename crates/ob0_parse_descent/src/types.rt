@@ -1,4 +1,4 @@
-//! Parses types.
+//! Parses types as they are written in the text: a name, an ARRAY type or a RECORD type.
 
 ghost use Rattle.std.specs.Prelude.{true, ◌≤◌, length};
 ghost use Rattle.ob0_scan.specs.declared.lexeme.TokenKind.TheVariants as kind;
@@ -13,7 +13,7 @@ use ob0_scan::{ReservedWord, Symbol};
 use ob0_tree::{ArrayType, FieldGroup, Fields, RecordType, WrittenType};
 
 impl<'t> Parser<'t> {
-    /// Parses `ident | ARRAY expression OF type | RECORD fields {";" fields} END`.
+    /// Parses a type: `ident | ARRAY expression OF type | RECORD fields {";" fields} END`.
     #[cycle(types)]
     pub(crate) fn parse_type(&self, at: usize, room: u32) -> ConstructResult<WrittenType>
         requires { at ≤ length self.now.tokens.now }
@@ -31,7 +31,7 @@ impl<'t> Parser<'t> {
         syntax_error(at, Expected::Type)
     }
 
-    /// Parses `ARRAY expression OF type`.
+    /// Parses an array type, `ARRAY expression OF type`.
     #[cycle(types)]
     fn parse_array_type(&self, at: usize, room: u32) -> ConstructResult<WrittenType>
         requires { TellsIfTokenAt (kind.ReservedWord reserved.Array) self.now.tokens.now at true }
@@ -45,7 +45,7 @@ impl<'t> Parser<'t> {
         Ok((WrittenType::Array(ArrayType { size, element }), end))
     }
 
-    /// Parses `RECORD fields {";" fields} END`.
+    /// Parses a record type, `RECORD fields {";" fields} END`.
     #[cycle(types)]
     fn parse_record_type(&self, at: usize, room: u32) -> ConstructResult<WrittenType>
         requires { TellsIfTokenAt (kind.ReservedWord reserved.Record) self.now.tokens.now at true }
@@ -63,7 +63,7 @@ impl<'t> Parser<'t> {
         Ok((WrittenType::Record(RecordType { groups }), end))
     }
 
-    /// Parses an optional `";" fields`. Returns None if no `;` comes next.
+    /// Parses a further group of fields, `";" fields`. Returns None if the token `at` isn't `;`.
     #[cycle(types)]
     fn parse_further_fields(&self, at: usize, room: u32) -> ItemResult<Fields>
         requires { at ≤ length self.now.tokens.now }
@@ -76,7 +76,7 @@ impl<'t> Parser<'t> {
         Ok(Some((fields, next)))
     }
 
-    /// Parses `[names ":" type]`.
+    /// Parses a group of fields of a record, `[names ":" type]`.
     #[cycle(types)]
     fn parse_fields(&self, at: usize, room: u32) -> ConstructResult<Fields>
         requires { at ≤ length self.now.tokens.now }

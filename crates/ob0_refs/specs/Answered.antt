@@ -1,5 +1,4 @@
--- Defines the answer to a question about a name: the name's span, and the thing that the name
--- refers to.
+-- Defines the answer of `at` about a name: the name's span, and the thing that the name refers to.
 -- Rule: docs/PROTOCOL.md, Requests on documents 3, 4.
 use Rattle.std.specs.Prelude.{ℕ, nat_lt, if◌then◌else◌}
 use Rattle.ob0_tree.specs.ParsedModule.{ParsedModule}

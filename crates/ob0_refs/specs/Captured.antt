@@ -1,4 +1,4 @@
--- Defines the place at which a new name for a declaration isn't free.
+-- Defines the span of the first conflict of a new name for a declaration.
 -- Rule: docs/PROTOCOL.md, Refusals of edits.
 use Rattle.std.specs.Prelude.{ℕ, Option, Some, None, option_map, slice_get}
 use Rattle.ob0_scan.specs.declared.lexeme.Span.{Span}
@@ -21,7 +21,8 @@ span_or_text_start (Some span) = span
 
 -- Returns the span of the identifier at which a new name for the declaration with the ordinal `d`
 -- has this conflict. This is the identifier that declares `d`, or the looked-up name with the
--- number `k`. If the identifier isn't found, returns an empty span at the text's start.
+-- number `k`, counted from 0 in text order. If the identifier isn't found, returns an empty span at
+-- the text's start.
 abbrev pub conflict_span : ParsedModule → ℕ → NameConflict → Span
 conflict_span m d at_declaration = span_or_text_start (declaring_span m d)
 conflict_span m d (at_occurrence k) = span_or_text_start (occurrence_span m k)
@@ -29,6 +30,6 @@ conflict_span m d (at_occurrence k) = span_or_text_start (occurrence_span m k)
 -- Returns the span of the first conflict of the new name `new` for the declaration with the ordinal
 -- `d`. Returns None if the name is free. If another declaration of the block has the name, returns
 -- the span of the identifier that declares `d`. Otherwise returns the span of the first looked-up
--- name that would be bound to another declaration.
+-- name whose binding the renaming would change.
 abbrev pub first_conflict_span : ParsedModule → ℕ → Name → Option Span
 first_conflict_span m d new = option_map (conflict_span m d) (first_name_conflict (named_tree_of m) d new)

@@ -1,5 +1,5 @@
--- Converts the declarations and parameters of the code to the objects and signatures of the
--- definitions.
+-- Converts an object in the program's table of declarations to the specification's `Object`, and a
+-- procedure's parameters to the specification's `Signature`.
 -- Rule: none; for contracts: what values of the code mean.
 use Rattle.std.specs.Prelude.{List, map, Option}
 use Rattle.ob0_types_table.specs.declared.known.FormalParameter as formal
@@ -10,11 +10,11 @@ use Rattle.ob0_language_types.specs.Expressions.{Object}
 use Rattle.ob0_language_types.specs.WellTyped.{Signature}
 use Rattle.ob0_language_values.specs.Values.{Shape}
 
--- returns a declaration of the code's table as an object of the definitions, or None for a constant
--- with a fault
+-- returns the specification's `Object` for an object in the program's table of declarations, or
+-- None for a constant with a fault
 abbrev pub declared_object_view : Tables → declaration.Object → Option (Object Shape Signature)
 declared_object_view t o = object_view (shapes_of t) o
 
--- returns the parameters of a procedure of the code's table as a signature of the definitions
+-- returns the specification's `Signature` for a procedure's parameters in the program's table
 abbrev pub signature_view : Tables → List formal.FormalParameter → Signature
 signature_view t fs = map (formal_view (shapes_of t)) fs

@@ -10,8 +10,8 @@ use Rattle.ob0_language_names.specs.Parts.{formal_names, formal_sections, module
 use Rattle.ob0_scope_table.specs.Resolution.{declaring_names, declaration_token}
 use Rattle.ob0_refs.specs.Declarations.{names_declared_after}
 
--- Returns the headings of procedures in text order. A heading has the token of the procedure's name
--- and the tokens of its parameters' names.
+-- Returns the headings of procedures in text order. Here a heading is a pair: the token of the
+-- procedure's name, and the tokens of its parameters' names.
 abbrev mutual
   -- returns the headings of all procedures in a block, at any depth
   pub block_headings : Tree ℕ block → List (ℕ × List ℕ)

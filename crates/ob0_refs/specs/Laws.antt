@@ -1,4 +1,4 @@
--- States laws about the answers at a place that is on a field.
+-- States laws about hover, definition and renaming at an identifier that refers to a field.
 -- Rule: none; laws of questions about fields.
 use Rattle.std.specs.Prelude.{◌≡◌, ℕ, true, Some, None, map, is_some}
 use Rattle.std.specs.List.{Contains}
@@ -38,8 +38,8 @@ pub record IsRenamedAtPlace (r : Resolution) (offset : ℕ) (span : Span) (k : �
       ≡ map (span_at r.module_read.source) (field_tokens r k (text_at r.module_read.source token))
   pub itself : Contains (references_at r offset true) span
 
--- States that, at every place that is on a field, renaming finds that field and changes exactly its
--- references.
+-- States that renaming at any identifier that refers to a field finds that field and changes
+-- exactly its references.
 abbrev pub FieldRenamingChangesReferences : Type 0
 FieldRenamingChangesReferences =
     (r : Resolution) (offset k index : ℕ) (span : Span)

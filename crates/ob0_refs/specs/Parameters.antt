@@ -1,9 +1,9 @@
--- Converts the parameters of the code to parameters of the definitions.
+-- Converts the program's `Parameter` to the specification's `HoverParameter`.
 -- Rule: none; for contracts: what values of the code mean.
 use Rattle.std.specs.Prelude.{string_bytes}
 use Rattle.ob0_refs.specs.Hovers as hovers
 use Rattle.ob0_refs.specs.declared.hovers.Parameter.{Parameter}
 
--- returns a parameter of the code as a parameter of the definitions
+-- returns the `HoverParameter` with the name and type text of a `Parameter`
 abbrev pub parameter_view : Parameter → hovers.HoverParameter
 parameter_view p = record { by_place = p.by_place; name = p.name.now; of = string_bytes p.of }

@@ -1,4 +1,5 @@
--- Converts the answers of the code to answers of the definitions.
+-- Converts the program's `Hover` to the specification's `HoverText`, and a `NameConflict` to its
+-- span.
 -- Rule: none; for contracts: what values of the code mean.
 use Rattle.std.specs.Prelude.{string_bytes}
 use Rattle.ob0_scan.specs.declared.lexeme.Span.{Span}
@@ -6,10 +7,10 @@ use Rattle.ob0_refs.specs.declared.answers.NameConflict as capture_answer
 use Rattle.ob0_refs.specs.declared.answers.Hover as answer
 use Rattle.ob0_refs.specs.Shown.{HoverText}
 
--- returns a hover of the code as a hover text of the definitions
+-- returns the `HoverText` with the span and text of a `Hover`
 abbrev pub hover_view : answer.Hover → HoverText
 hover_view h = record { span = h.span; text = string_bytes h.text }
 
--- returns the span of a conflict that the code found
+-- returns the span of a conflict that `captures` found
 abbrev pub span_of_conflict : capture_answer.NameConflict → Span
 span_of_conflict c = c.span

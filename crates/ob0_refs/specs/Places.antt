@@ -1,4 +1,4 @@
--- Defines the spans at which a name is declared and referred to.
+-- Defines the span of the identifier that declares a name, and the spans of the references to it.
 -- Rule: docs/PROTOCOL.md, Requests on documents 4, 5.
 use Rattle.std.specs.Prelude.{ℕ, Bool, List, Option, map, option_map}
 use Rattle.ob0_scan.specs.declared.lexeme.Span.{Span}

@@ -1,5 +1,5 @@
--- Defines the answers to questions about the name or field that the identifier at a place refers
--- to.
+-- Defines the answers to hover, definition, references and prepareRename at a place. They are about
+-- the name or field that the identifier at the place refers to.
 -- Rule: docs/PROTOCOL.md, Requests on documents 3 to 5.
 use Rattle.std.specs.Prelude.{◌≡◌, ◌==◌, ℕ, Bool, true, false, not, nat_lt, List, [], map, if◌then◌else◌, Option, Some, None, option_map, option_and_then, unwrap_or}
 use Rattle.std.specs.List.{filter}
@@ -23,7 +23,7 @@ use Rattle.ob0_refs.specs.Shown.{HoverText, hover_of_name}
 use Rattle.ob0_refs.specs.declared.answers.At as answer
 use Rattle.ob0_refs.specs.declared.answers.Of.TheVariants as answer_of
 
--- ---- the name or field at a place
+-- ---- the name or field that the identifier at a place refers to
 
 -- Returns the index of a field among the fields of its record, counted from 0. The field is found
 -- by its name. Returns 0 if it isn't found.
@@ -47,7 +47,7 @@ abbrev pub identified_at : Resolution → ℕ → Option answer.At
 identified_at r offset =
     option_map (λ (x : ResolvedIdentifier). answer_of_identified r.module_read x.token x.means) (identifier_meaning_at r offset)
 
--- ---- the name or field that can be renamed
+-- ---- prepareRename: the span of the name or field, if it can be renamed
 
 -- returns the span of the identifier with this token index and this meaning, or None if it is a
 -- predeclared name
@@ -63,7 +63,7 @@ renamable_span_at r offset =
     option_and_then (λ (x : ResolvedIdentifier). renamable_span_of_identified r.module_read x.token x.means)
     (identifier_meaning_at r offset)
 
--- ---- the declaration
+-- ---- definition: the span of the identifier that declares the name or field
 
 -- returns the span of the identifier that declares a field, or None if the field isn't found
 abbrev pub field_definition : ParsedModule → FieldName → Option Span
@@ -83,7 +83,7 @@ definition_at r offset =
     option_and_then (λ (x : ResolvedIdentifier). definition_of_identified r.module_read x.token x.means)
     (identifier_meaning_at r offset)
 
--- ---- the references
+-- ---- references: the spans of all identifiers that refer to the name or field
 
 -- returns a list of token indexes without this token index, or the whole list for None
 abbrev pub other_tokens : Option ℕ → List ℕ → List ℕ
@@ -126,7 +126,7 @@ references_at r offset include = references_of_optional r include (identifier_me
 abbrev pub AreReferencesAt : Resolution → ℕ → Bool → List Span → Type 0
 AreReferencesAt r offset include spans = spans ≡ references_at r offset include
 
--- ---- hover texts
+-- ---- hover: a text about the name or field
 
 -- returns the hover text of a field's identifier, given the identifier's token index and the
 -- field's type

@@ -1,4 +1,5 @@
-//! Defines the answers to questions about a place in the text.
+//! Defines the types of the answers about an identifier: the thing that it refers to, its hover
+//! text, and the conflict of a new name for its declaration.
 
 use ob0_scan::Span;
 
@@ -30,8 +31,10 @@ pub struct Hover {
     pub text: String,
 }
 
-/// A conflict of a new name for a declaration. The span, in bytes, is the span of the identifier at
-/// which the new name isn't free.
+/// The first conflict of a new name for a declaration. If another declaration of the same block has
+/// the new name, `span` is the span of the identifier that declares the renamed declaration.
+/// Otherwise it is the span of the first looked-up name whose binding would change. Spans are in
+/// bytes.
 #[derive(Clone, Copy, PartialEq, Eq)]
 pub struct NameConflict {
     pub span: Span,

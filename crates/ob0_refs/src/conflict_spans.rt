@@ -1,4 +1,4 @@
-//! Finds the spans of identifiers at which a new name for a declaration isn't free.
+//! Finds the span of the identifier at which a new name for a declaration has a conflict.
 
 ghost use Rattle.std.specs.Prelude.{◌≡◌};
 ghost use Rattle.ob0_scope.specs.Renames.{conflict_of};
@@ -11,8 +11,8 @@ use ob0_scope_table::{Resolved, token_span};
 
 /// Returns the span of a conflict of a new name for the declaration with the ordinal `declaration`.
 /// If another declaration of the block has the name, this is the span of the identifier that
-/// declares `declaration`. Otherwise it is the span of the looked-up name that would be bound to
-/// another declaration. If the identifier isn't found, the span is empty and at the text's start.
+/// declares `declaration`. Otherwise it is the span of the looked-up name whose binding would
+/// change. If the identifier isn't found, the span is empty and at the text's start.
 pub(crate) fn conflict_span(names: &Resolved, declaration: usize, capture: FirstConflict) -> Span
     ensures { result ≡ conflict_span names.now.module_read declaration (conflict_of capture) }
 {

@@ -1,4 +1,4 @@
-//! Finds the spans at which a declaration is declared and referred to.
+//! Finds the span of the identifier that declares a name, and the spans of all references to it.
 
 ghost use Rattle.std.specs.Prelude.{◌≡◌, IfOk, map};
 ghost use Rattle.ob0_scope_table.specs.Resolution.{span_at};

@@ -50,8 +50,8 @@ pub(crate) fn name_text(
     }
 }
 
-/// Returns the hover text of a declaration with this name. `object` is the constant, type, variable
-/// or procedure that it declares. Returns None for a constant with a fault.
+/// Returns the hover text of the declaration of `name`. `object` is the constant, type, variable or
+/// procedure that is declared. Returns None for a constant with a fault.
 fn object_text(
     alloc: Global,
     known: &DeclarationTable,
@@ -119,8 +119,9 @@ pub(crate) fn field_hover_text(
     format!(in alloc; "FIELD {name}: {of}")
 }
 
-/// Returns the hover text of a procedure: its name and its parameters. The names of the parameters
-/// are the first names that the text declares after the procedure's name.
+/// Returns the hover text of a procedure: its name and its parameters. `formals` is the procedure's
+/// signature. The names of the parameters are the first names that the text declares after the
+/// procedure's name.
 fn procedure_hover_text(
     alloc: Global,
     known: &DeclarationTable,

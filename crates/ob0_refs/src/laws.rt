@@ -8,8 +8,8 @@ pub fn fields_have_definitions()
     ensures { FieldsHaveDefinitions }
 {}
 
-/// Proves that renaming at a place that is on a field finds that field and changes exactly its
-/// references.
+/// Proves that renaming at any identifier that refers to a field finds that field and changes
+/// exactly its references.
 pub fn field_renaming_changes_references()
     ensures { FieldRenamingChangesReferences }
 {}

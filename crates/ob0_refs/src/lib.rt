@@ -1,6 +1,6 @@
-//! Answers questions about a place in a valid module: the name or field there, its declaration, its
-//! references and its hover text. Also finds the first place at which a new name for a declaration
-//! isn't free (docs/PROTOCOL.md, Requests on documents).
+//! Answers hover, definition, references and prepareRename for the name or field at a place in a
+//! valid module. Also finds the first conflict of a new name for a declaration (docs/PROTOCOL.md,
+//! Requests on documents).
 #![tactic(auto)]
 
 mod answers;

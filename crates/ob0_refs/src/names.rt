@@ -1,4 +1,4 @@
-//! Answers a question about a name with the name's span and the thing that the name refers to.
+//! Makes the answer of `at` about a name: the name's span, and the thing that the name refers to.
 
 ghost use Rattle.std.specs.Prelude.{◌≡◌};
 ghost use Rattle.ob0_refs.specs.Answered.{name_answer, referent_of_ordinal};

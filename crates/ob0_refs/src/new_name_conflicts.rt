@@ -15,7 +15,7 @@ use std::alloc::{AllocError, Global};
 /// Returns the first conflict of the name `new` for `declaration`, or None if `new` is free. If
 /// another declaration of the same block has the name `new`, the conflict is at the identifier that
 /// declares `declaration`. Otherwise the conflict is at the first looked-up name, in text order,
-/// that would be bound to another declaration.
+/// whose binding the renaming would change.
 pub fn captures(
     alloc: Global,
     names: &Resolved,

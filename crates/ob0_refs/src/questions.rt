@@ -1,4 +1,5 @@
-//! Answers questions about the name or the field at a place.
+//! Answers definition, references and prepareRename for the name or field at a place. Renaming and
+//! inlining use `at`, which returns the thing that the name or field refers to.
 //!
 //! Each public function first finds the meaning of the identifier at the place
 //! (`identifier_meaning_at` of `ob0_types`). Then it has one case for a name and one for a field.

@@ -36,7 +36,7 @@ pub record WritesName (r : Renaming) (tokens : List ℕ) (tree : Tree Name modul
   pub well_typed : WellTyped tree
   pub same_runs : HaveSameRuns tree (named_tree r)
 
--- ---- for a declaration
+-- ---- answers to the renaming of a declaration
 
 -- States that these edits rename the declaration `d`. The new name is an identifier and is free for
 -- `d`: it causes no name conflict. The edits write it at every token that declares `d`, refers to
@@ -77,7 +77,7 @@ abbrev pub AnswersForDeclaration : Renaming → ℕ → Result (Vec Edit Global)
 AnswersForDeclaration r d (Ok edits) = Renames r d edits.items
 AnswersForDeclaration r d (Err why) = (why ≡ refusal.Memory) ⊎ IsDeclarationRefusal r d why
 
--- ---- for a field
+-- ---- answers to the renaming of a field
 
 -- States that these edits rename the field `f` of the record `k`. The new name is an identifier and
 -- is free for that field: no other field of the record has it. The edits write it at the field's
@@ -114,7 +114,7 @@ abbrev pub AnswersForField : Renaming → ℕ → Name → Result (Vec Edit Glob
 AnswersForField r k f (Ok edits) = RenamesField r k f edits.items
 AnswersForField r k f (Err why) = (why ≡ refusal.Memory) ⊎ IsFieldRefusal r k f why
 
--- ---- for a declaration or a field, whichever is at the place
+-- ---- answers to the renaming of the declaration or field at the place
 
 -- States that this refusal applies to the new name of the declaration or field at the renaming's
 -- place.
@@ -149,8 +149,8 @@ abbrev pub RenameAnswers : Renaming → Result (Vec Edit Global) EditRefusal →
 RenameAnswers r (Ok edits) = AreRenameEdits r edits.items
 RenameAnswers r (Err why) = (why ≡ refusal.Memory) ⊎ IsRenameRefusal r why
 
--- States that a declaration or a field is at the place, and that the new name is an identifier. An
--- allocation can fail only in this case.
+-- States that a declaration or field of the module is at the renaming's place, not a predeclared
+-- name, and that the new name is an identifier. An allocation can fail only in this case.
 pub record AllocatesOnly (r : Renaming) : Type 0 where
   pub identifier : IsIdentifier r.new
   pub some : ¬ (renaming_target r ≡ nothing)

@@ -47,7 +47,7 @@ module_of r = r.names.module_read
 abbrev pub named_tree : Renaming → Tree Name module_text
 named_tree r = read.named_tree_of (module_of r)
 
--- ---- the declaration or field at a place
+-- ---- the target: the declaration or field at a place
 
 -- The target of a renaming: a predeclared name, a declaration, a field, or `nothing` if no name and
 -- no field is at the place.
@@ -94,7 +94,7 @@ TargetsDeclaration r d = renaming_target r ≡ declaration d
 abbrev pub TargetsField : Renaming → ℕ → Name → Type 0
 TargetsField r k f = renaming_target r ≡ field_of k f
 
--- ---- the places of the new name
+-- ---- the tokens at which the new name is written
 
 -- Returns the index of the token that declares the object with this ordinal. Returns None if no
 -- token declares it, as for a predeclared name.

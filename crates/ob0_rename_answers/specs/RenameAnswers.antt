@@ -14,9 +14,9 @@ abbrev pub EachHasNames : Type 0
 EachHasNames =
     (text : List ℕ) → WellTypedText text → (names : Resolution) × IsModuleIn (utf8 text) names
 
--- States that a request for a rename has an answer for each text, unit, position and new name,
--- under one condition. The condition is that each well-typed text has a module with bound names.
--- `HasAnswers` is a double negation: it says that an answer can't be missing.
+-- States that a request for a rename has an answer for each text, unit, position and new name, on
+-- the assumption (`EachHasNames`) that each well-typed text has a module whose names are bound to
+-- declarations. `HasAnswers` is a double negation: it says that an answer can't be missing.
 abbrev pub RenamingHasAnswers : Type 0
 RenamingHasAnswers =
     EachHasNames → (position : Position) (name : List ℕ) → HasAnswers (rename position name)

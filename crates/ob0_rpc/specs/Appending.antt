@@ -1,5 +1,5 @@
 -- Defines facts about writers that append the texts of JSON values to the bytes of an output.
--- Rule: none; for contracts of writers.
+-- Rule: none; for the contracts of functions that write JSON.
 use Rattle.std.specs.Prelude.{◌≡◌, ◌++◌, ℕ, List, [], ◌∷◌, Bool, true, Option, Some, None, ⊤}
 use Rattle.std.specs.Str.{IsUtf8}
 use Rattle.json.specs.Tree.{HasNumbers}

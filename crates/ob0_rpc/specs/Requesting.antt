@@ -48,7 +48,7 @@ member_at_path (name ∷ names) d = option_and_then (member_at_path names) (get 
 abbrev pub is_true : Option Data → Bool
 is_true found = unwrap_or (option_and_then as_bool found) false
 
--- Returns whether the second text exists and equals the first.
+-- Returns whether the second argument is a text that equals `text`.
 abbrev pub is_equal_text : List ℕ → Option (List ℕ) → Bool
 is_equal_text text None = false
 is_equal_text text (Some other) = bytes_eq other text
@@ -191,9 +191,9 @@ abbrev pub formatting_request_of : Data → Option ClientRequest
 formatting_request_of params =
     formatting_request_with (document_uri params) (option_and_then indent_of (get (codes "options") params))
 
--- ---- requests
+-- ---- requests by their methods
 
--- Returns the request as an `Ok` result. For None, returns the error `BadParams`.
+-- Returns this request as the result `Ok`. For None, returns the fault `BadParams`.
 abbrev pub or_bad_params : Option ClientRequest → Result ClientRequest RpcFault
 or_bad_params (Some ask) = Ok ask
 or_bad_params None = Err BadParams

@@ -19,19 +19,21 @@ whole_number z = number (of_integer z)
 abbrev pub jsonrpc_version : Data
 jsonrpc_version = text (codes "2.0")
 
--- Returns the message that answers a request, {"id":I,"jsonrpc":"2.0","result":X}.
+-- Returns the message that answers a request, {"id":I,"jsonrpc":"2.0","result":X}, from the JSON
+-- values of the id and of the result.
 abbrev pub result_message : Data → Data → Data
 result_message id value =
     object (member (codes "id") id
     (member (codes "jsonrpc") jsonrpc_version (member (codes "result") value no_members)))
 
--- Returns the error object of a refused request, {"code":c,"message":m}.
+-- Returns the error object of an error response, {"code":c,"message":m}.
 abbrev pub error_value : ℤ → List ℕ → Data
 error_value code said =
     object
     (member (codes "code") (whole_number code) (member (codes "message") (text said) no_members))
 
--- Returns the message that refuses a request, {"error":{..},"id":I,"jsonrpc":"2.0"}.
+-- Returns an error response, {"error":{..},"id":I,"jsonrpc":"2.0"}, from the JSON value of the id,
+-- the error code and the error's message.
 abbrev pub error_message : Data → ℤ → List ℕ → Data
 error_message id code said =
     object (member (codes "error") (error_value code said)

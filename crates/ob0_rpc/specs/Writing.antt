@@ -1,4 +1,4 @@
--- Defines the text in which a message is written.
+-- States when bytes are the text of a message, and when a value is shallow enough for a message.
 -- Rule: docs/PROTOCOL.md, JSON shapes 1.
 use Rattle.std.specs.Prelude.{◌≡◌, ◌≤◌, ℕ, List, Some}
 use Rattle.serde_json.specs.Data.{Data, depth}

@@ -10,7 +10,7 @@ use serde_json::{Number, Value};
 use std::alloc::{AllocError, AllocFailed, Global};
 use thiserror::Error;
 
-/// The id of a request: a whole number of 64 bits or a text.
+/// The id of a request: a whole number that fits in 64 bits, with or without sign, or a text.
 #[derive(Drop)]
 pub enum Id {
     Signed(i64),
@@ -18,8 +18,8 @@ pub enum Id {
     Text(String),
 }
 
-/// A message that has been read: a request or a notification with its params, or a response, which
-/// is ignored.
+/// A message that has been read: a request (its id, its method and its params), a notification (its
+/// method and its params), or a response, which is ignored.
 #[derive(Drop)]
 pub enum Incoming {
     Request(Id, String, Value),
@@ -95,8 +95,8 @@ impl<T: Drop> From<AllocFailed<T>> for RpcFault {
     }
 }
 
-/// Reads the content of one message: the bytes after the header. The content must be one JSON value
-/// in UTF-8, nested at most 127 deep. Otherwise the fault is `NotJson`. If the JSON value isn't a
+/// Reads the content of one message: the bytes after the header. If the content isn't one JSON
+/// value in UTF-8, nested at most 127 deep, the fault is `NotJson`. If the JSON value isn't a
 /// message, the fault is `NotAMessage`.
 pub fn read(alloc: Global, content: &[u8]) -> Result<Incoming, RpcFault>
     ensures { ReadsMessage content.now result }

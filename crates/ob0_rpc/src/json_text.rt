@@ -114,9 +114,9 @@ fn write_list_items<W: WriteJson>(out: &mut Vec<u8>, values: &[W]) -> Result<(),
     Ok(())
 }
 
-/// Writes one item of a list of `count` items. If `later` is true, a comma is written first. If
-/// `later` is false, this item is the first. Capacity is then reserved for the other items, as if
-/// each were about as long as this one.
+/// Writes one item of a list of `count` items. If `later` is true, a comma is written before
+/// the item. If `later` is false, the item is the first, and capacity is reserved for the
+/// other items, as if each were about as long as the first.
 fn write_item_and_reserve<W: WriteJson>(
     out: &mut Vec<u8>,
     count: usize,
@@ -151,8 +151,8 @@ pub fn begin_list(out: &mut Vec<u8>) -> Result<(), AllocError>
     write_piece(out, b"[")
 }
 
-/// Writes one item of a list. If `later` is true, the item isn't the first, and a comma is written
-/// before it.
+/// Writes one item of a list. If `later` is true, the item isn't the first, and a comma is
+/// written before it.
 #[inline(always)]
 pub fn write_item<W: WriteJson>(out: &mut Vec<u8>, later: bool, value: &W) -> Result<(), AllocError>
     ensures { OnOk result (AppendsItem later (W.value value.now) out.old.items out.new.items) }

@@ -45,8 +45,8 @@ impl<'a> WriteJson for ResponseError<'a> {
     }
 }
 
-/// An error response. It refuses a request, or a content that isn't a message. `id` is None if the
-/// content isn't a message.
+/// An error response: the answer to a request that is refused, or to a content that isn't a
+/// message. In the second case `id` is None.
 #[derive(Drop)]
 pub struct ErrorResponse<'a> {
     pub error: ResponseError<'a>,

@@ -50,8 +50,9 @@ pub enum ClientRequest {
     },
 }
 
-/// Reads a request from its method and its params. The fault is `UnknownMethod` or `BadParams` if
-/// that fails. The params of `initialize` must be an object. `shutdown` accepts any params.
+/// Reads a request from its method and its params. If the method is unknown, the fault is
+/// `UnknownMethod`. If the params can't be read, it is `BadParams`. The params of `initialize` must
+/// be an object. `shutdown` accepts any params.
 pub fn request(alloc: Global, method: &str, params: &Value) -> Result<ClientRequest, RpcFault>
     ensures { ReadsClientRequest (request_by_method method.now (view params.now)) result }
 {
@@ -64,8 +65,8 @@ pub fn request(alloc: Global, method: &str, params: &Value) -> Result<ClientRequ
     }
 }
 
-/// Reads a request about a document from its method and its params. The fault is `UnknownMethod` or
-/// `BadParams` if that fails.
+/// Reads a request about a document from its method and its params. If the method is unknown, the
+/// fault is `UnknownMethod`. If the params can't be read, it is `BadParams`.
 fn read_document_request(
     alloc: Global,
     method: &str,
@@ -186,8 +187,8 @@ fn read_formatting(alloc: Global, params: &Value) -> Result<ClientRequest, RpcFa
     Ok(ClientRequest::Formatting { uri, indent })
 }
 
-/// Returns the document's uri and the position that params contain. Returns None if either can't be
-/// read.
+/// Reads the uri of a document (`textDocument.uri`) and the member `position` from params. Returns
+/// None if either can't be read.
 fn document_position(alloc: Global, params: &Value) -> Result<Option<DocumentPosition>, AllocError>
     ensures { IfOk result (λ found. option_map document_place_view found ≡ document_place_of (view params.now)) }
 {
@@ -234,8 +235,9 @@ fn spaces_per_level(size: u64) -> u8
     size.min(MAX_INDENT as u64).max(1) as u8
 }
 
-/// Returns the kinds of code actions that the object `context` requests. `Some(None)` means that
-/// all kinds are requested. `None` means that the context is missing or can't be read.
+/// Returns the kinds of code actions that the object `context` requests (its member `only`).
+/// `Some(None)` means that all kinds are requested. `None` means that the context isn't an object,
+/// or that the kinds can't be read.
 fn read_requested_kinds(
     alloc: Global,
     context: Option<&Value>,
@@ -252,8 +254,8 @@ fn read_requested_kinds(
     read_optional_texts(alloc, context.get("only"))
 }
 
-/// Returns the texts of the member `only`, a list. `Some(None)` means that the member is absent or
-/// null. `None` means that the member or one of its items can't be read.
+/// Returns the items of the member `only` as texts. `Some(None)` means that the member is absent or
+/// null. `None` means that the member isn't a list, or that an item isn't a text.
 fn read_optional_texts(
     alloc: Global,
     only: Option<&Value>,

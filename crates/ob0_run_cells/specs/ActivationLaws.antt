@@ -1,4 +1,4 @@
--- States that the run of a lowered program is the run of its module.
+-- States that a program that means a well-typed module has the module's run.
 -- Rule: none; laws of lowered programs.
 use Rattle.std.specs.Prelude.{◌≡◌, ℕ, IfSome, List, map, ℤ}
 use Rattle.ob0_tree.specs.Tree.{Tree, module_text}
@@ -16,9 +16,9 @@ use Rattle.ob0_run_cells.specs.Lowering.{end_of}
 abbrev pub run_of : execution.MachineRun → Run
 run_of r = record { output = map written_of r.output; ending = end_of r.ending }
 
--- States that a program lowered from a well-typed module has the run of the module. This holds for
--- each input and for all bounds `c` on open calls and `t` on iterations. Nothing is claimed if the
--- machine has no room for the program's cells.
+-- States that a program that means a well-typed module (`ProgramMeans`) has the run of the module.
+-- This holds for each input and for all bounds `c` on open calls and `t` on iterations. Nothing is
+-- claimed if the machine has no room for the program's cells.
 abbrev pub LoweringKeepsRuns : Type 0
 LoweringKeepsRuns =
     (m : Tree Name module_text) (program : lowered.LoweredCode) (c t : ℕ) (input : List ℤ)

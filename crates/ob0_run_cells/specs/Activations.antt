@@ -1,12 +1,12 @@
 -- States where lowered code finds the variables and procedures of a module, and when a program
 -- means a module. A placement has the place of each name of an environment: a slot for a variable,
--- a target for a procedure. `BlockIsPlaced` is the meaning of a block, and `HasRoutine` the meaning
--- of a procedure. Both have the recursive part as a parameter. `IsPlaced` keeps, with a procedure's
--- binding, the placement at the procedure's declaration. `PlacementFits` recurses over the bindings
--- of the activation with that placement. So no slot has to be translated back to an outer level.
--- The code of a module has to meet `ProgramMeans` for the module's numbered tree. The laws of
--- productions and the recursion of `BlockMeans` over declarations show this. A procedure may have
--- any index, if the entry of the table at this index means the procedure's block. Variables of the
+-- a target for a procedure. `BlockIsPlaced` states the meaning of a block, and `HasRoutine` the
+-- meaning of a procedure. Each has a parameter for the facts about the procedures inside. A
+-- procedure's binding keeps the placement at the procedure's declaration (`IsPlaced`).
+-- `PlacementFits` recurses over the bindings of an activation, and uses this placement for the
+-- activations further out. So no slot has to be translated back to an outer level. The code of a
+-- module has to meet `ProgramMeans` for the module's numbered tree. A procedure may have any index,
+-- if the entry of the routine table at this index means the procedure's block. Variables of the
 -- module are `of_module`, at offsets that begin with 0. Variables of a procedure are `held 0`,
 -- after its value parameters. VAR parameters are `by_reference 0`, by their index among the VAR
 -- parameters.
@@ -343,8 +343,8 @@ outermost_placement naming =
     ∷ (naming.predeclared 0, nowhere)
     ∷ []
 
--- States that a program means a module: its body means the module's body, and its procedures mean
--- the module's procedures.
+-- States that a program means a module: the program's body means the module's body, and the
+-- program's procedures mean the module's procedures.
 abbrev pub ProgramMeans : {N : Type 0}
     → Naming N
     → Tree N module_text

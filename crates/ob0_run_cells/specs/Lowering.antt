@@ -1,12 +1,12 @@
--- States the meaning of lowered places, numbers and truths. They have the places and values of a
--- module's designators and expressions, at each moment of a run. A meaning is a relation between
--- lowered code and a function of the moment (`OutcomeByMoment`). This relation doesn't mention the
--- tree of the expression. So operators need no types: a number of lowered code means a number. Only
--- places and variables need types. The value of an array or a record is in the cells at a place
--- (`HoldsValue`), even if its expression is in parentheses. Only a VAR argument has to be a
--- designator without operators (`IsAt`). While arguments are passed, their cells follow the cells
--- of the store (`passed` of a moment). So a meaning also holds while arguments are passed. A sign
--- `+` is lowered to a sum with 0, which is in range exactly if the number is.
+-- States the meaning of lowered places, numbers and truths: they have the same outcome as the
+-- module's designators and expressions, at each moment of a run (`Moment`). A meaning is a relation
+-- between lowered code and a function of the moment (`OutcomeByMoment`). This relation doesn't
+-- mention the expression's tree. So operators need no types: a number of lowered code means a
+-- number. Only places and variables need types. The value of an array or a record is in the cells
+-- at a place (`HoldsValue`), even if its expression is in parentheses. Only a VAR argument has to
+-- be a designator without operators (`IsAt`). While arguments are passed, their cells follow the
+-- cells of the store (`passed` of a moment). So a meaning also holds while arguments are passed. A
+-- sign `+` is lowered to a sum with 0, which is in range exactly if the number is.
 -- Rule: none; for contracts of lowering, against docs/LANGUAGE.md, Runs 2 to 4.
 use Rattle.std.specs.Prelude.{◌≡◌, ℕ, zero, suc, ◌+◌, ◌^◌, ◌<◌, true, List, ◌++◌, ℤ, slice_index_or, Some}
 use Rattle.ob0_tree.specs.declared.tree.Relation.{Relation}

@@ -43,8 +43,9 @@ pub record BlockState : Type 0 where
   pub placement : Placement Label
   pub next : ℕ
 
--- States that the remaining procedures `ps` and the statements of a block fit in a state. All names
--- in scope have the objects of the table of declarations, and the places of the table of sites.
+-- States that the remaining procedures `ps` and the statements of a block are well-typed in a
+-- state. All names in scope have the objects of the table of declarations, and the places of the
+-- table of sites.
 pub record Ready (t : Tables) (sites : List Site) (depth : ℕ) (s : BlockState)
     (statements : Tree Label (maybe body)) (ps : Tree Label (items procedure)) : Type 0 where
   pub declared_there : AreDeclared (declared_object_in t) s.env
@@ -65,8 +66,8 @@ RestOfBlockMeans table s code statements ps =
     ProceduresMean (label_table table) s.env s.placement s.next code statements ps
 
 -- States that the procedures `ps` of a block are lowered from a state, except the procedures `left`
--- at their end. This results in the state `now`. If a table has code that means `left` in the state
--- `now`, then this code means `ps` in the state before.
+-- at their end. This results in the state `now`. The added routines and any code that means `left`
+-- in the state `now` together mean `ps` in the state before.
 pub record LowersFromState (t : Tables) (w v : Lowering) (depth : ℕ) (s : BlockState)
     (statements : Tree Label (maybe body)) (ps left : Tree Label (items procedure)) : Type 0 where
   pub now : BlockState
@@ -97,8 +98,9 @@ pub record MeansBlock (w v : Lowering) (f : Frame) (b : Tree Label block) (entry
       → BlockMeans (label_table table) (variable_slot f.depth) env p k entry.cells
       (sequence_of entry.body.items) b
 
--- States that the routine `entry` means a block if the block fits, and that the tables of sites and
--- of procedures only grow.
+-- States that the routine `entry` means a block, if the block is well-typed and the names in scope
+-- have their places and their objects. Also states that the tables of sites and of procedures only
+-- grow.
 pub record LowersBlock (t : Tables) (w v : Lowering) (f : Frame) (b : Tree Label block)
     (entry : Routine) : Type 0 where
   pub on : (env : TypeEnvironment Label) (p : Placed Label) (k : ℕ)

@@ -1,11 +1,12 @@
 -- States that statements are lowered to code that means them in a scene. `HoldsInScene` is the form
 -- of every clause about statements except the clause of `body`. A clause of this form is about all
--- checked names, slots and targets that the scene sees. It says that the code of a tree means the
--- tree, if the tree fits. Each law of `ob0_run_cells` is lifted to this form once
--- (`proofs/HoldsInScene`): if the whole fits, its parts fit. The clause of `body` states the
--- meaning of a body by `BodyMeans` of `ob0_run_cells`. This clause is about each environment and
--- each placement that the scene sees, if the body fits. A tree that occurs in no well-typed module
--- doesn't fit, so a clause about this tree holds for any code.
+-- checked names, slots and targets that agree with the scene (`Sees`). It says that the code of a
+-- tree means the tree, if the tree is well-typed (*fits*) with these names. Each law of
+-- `ob0_run_cells` is lifted to this form once (`proofs/HoldsInScene`): if the whole fits, its parts
+-- fit. The clause of `body` states the meaning of a body by `BodyMeans` of `ob0_run_cells`. This
+-- clause is about each environment and each placement that agree with the scene, if the body fits.
+-- A tree that occurs in no well-typed module doesn't fit, so a clause about this tree holds for any
+-- code.
 -- Rule: none; for contracts of lowering.
 use Rattle.std.specs.Prelude.{◌≡◌, ◌&&◌, Bool, List, [], IsTrue, Option, Some, None}
 use Rattle.std.specs.declared.alloc.Global.{Global}
@@ -22,8 +23,8 @@ use Rattle.ob0_run_cells.specs.Lowering.{Slot, TruthMeans, value_of_expression}
 use Rattle.ob0_run_lowering.specs.declared.scene.Scene.{Scene}
 use Rattle.ob0_run_lowering.specs.Scenes.{Sees}
 
--- States `Means` for all checked names, slots and targets that a scene sees, if the tree fits with
--- these names.
+-- States that `Means` holds for all checked names, slots and targets that agree with a scene
+-- (`Sees`), if `fits` is true for these names.
 abbrev pub HoldsInScene : Scene
     → (TypeMeanings Label → Bool)
     → (TypeMeanings Label → (Label → Slot) → (Label → Target) → Type 0)
@@ -99,8 +100,8 @@ ElsifsLower scene bs cs rest last =
     HoldsInScene scene (λ checked. elsifs_fit checked rest && else_fits checked last)
     (λ checked slots targets. ElsifsMean checked slots targets bs cs rest last)
 
--- States that instructions mean a body in each environment and at each placement that the scene
--- sees, if the body fits in the environment.
+-- States that instructions mean a body in each environment and each placement that agree with the
+-- scene (`Sees`), if the body is well-typed in the environment.
 abbrev pub BodyLowers : Scene → lowered.Instructions → Tree Label (maybe body) → Type 0
 BodyLowers scene cs b =
     (env : TypeEnvironment Label) (placement : Placement Label)

@@ -1,5 +1,5 @@
 -- States that expressions, designators and arguments are lowered to code that means them. This
--- holds for all checked names and slots that the scene sees.
+-- holds for all checked names and slots that agree with the scene (`Sees`).
 -- Rule: none; for contracts of lowering.
 use Rattle.std.specs.Prelude.{◌≡◌, ℕ, true, Some}
 use Rattle.ob0_tree.specs.Tree.{Tree, expression, items, selector}
@@ -28,7 +28,7 @@ use Rattle.ob0_run_lowering.specs.declared.scene.Scene.{Scene}
 abbrev pub LoweredMeans : TypeMeanings Label → (Label → Slot) → Lowered → Shape → OutcomeByMoment Label Value → Type 0
 LoweredMeans checked slots l s value = CodeMeans checked slots (code_of l) s value
 
--- States `P` for all checked names and slots that a scene sees.
+-- States that `P` holds for all checked names and slots that agree with a scene (`Sees`).
 abbrev pub ForAllSeen : Scene → (TypeMeanings Label → (Label → Slot) → Type 0) → Type 0
 ForAllSeen scene P =
     (checked : TypeMeanings Label) (slots : Label → Slot) (targets : Label → Target)

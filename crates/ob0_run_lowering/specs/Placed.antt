@@ -1,6 +1,7 @@
--- States where lowered code finds the names of a block or a heading, which are placed one by one.
--- The site of a name has the depth of the activation to which the name belongs. The place of a name
--- has the number of levels out instead, as seen from one activation. Constants and types need no
+-- States where lowered code finds the names of a block or a heading. The names are placed one by
+-- one: a variable gets cells, a VAR parameter gets an index. The site of a name has the depth of the
+-- activation to which the name belongs. The place of a name has the number of levels out instead, as
+-- seen from one activation. Constants and types need no
 -- code, so their place is `nowhere`, and `LocatesAll` claims nothing about them. `place_groups` and
 -- `place_sections` depend only on names and their sizes, so loops over names need no types or
 -- environments. The lemmas `groups_placed` and `sections_placed` show that these sizes are the
@@ -44,8 +45,8 @@ site_depth (site.Held at offset) = at
 site_depth (site.ByReference at index) = at
 site_depth (site.Procedure at index) = at
 
--- States that a site, seen from an activation of this depth, is the given place of a name. If the
--- place is `nowhere`, nothing is claimed.
+-- States that a site, seen from an activation of this depth, is the given place of a name, and that
+-- the site isn't deeper than this activation. If the place is `nowhere`, nothing is claimed.
 abbrev pub LocatesAs : ℕ → Site → BindingPlace → Type 0
 LocatesAs depth s nowhere = Unit {0}
 LocatesAs depth s (in_slot slot) = (site_depth s ≤ depth) × (place_seen_from depth s ≡ in_slot slot)

@@ -2,15 +2,15 @@
 //! third operand of `&` makes an `All`, a third operand of OR an `Any`.
 //!
 //! In `v + i * j` the sum becomes the last operation of the chain that begins with `i * j`.
-//! According to `View`, these nodes have the same meaning as nested pairs, so no other module has to
-//! distinguish them. The same holds for the forms of places, negations and assignments that the
-//! machine evaluates in fewer steps.
+//! According to `View`, these nodes have the same meaning as nested pairs, so no other module has
+//! to distinguish chains from nested pairs. The same holds for the forms of places, negations and
+//! assignments that the machine evaluates in fewer steps.
 //!
 //! Chains and nested pairs have the same meaning, so separate clauses state how deep the code is
-//! nested (`specs/Rows`). One more operand makes a conjunction no deeper on the left, unless the
-//! left operand wasn't a conjunction (`IsNoDeeper`). So the first operand of a conjunction isn't a
-//! conjunction (`IsFlat`). `both` and `either` list each case of the left operand, since a proof
-//! knows nothing about an operand in a wildcard arm.
+//! nested (`specs/Rows`). One more operand makes a conjunction no deeper on the left, unless
+//! the left operand wasn't a conjunction (`IsNoDeeper`). So the first operand of a conjunction
+//! isn't a conjunction (`IsFlat`). `both` and `either` list each case of
+//! the left operand, since a proof knows nothing about an operand in a wildcard arm.
 
 ghost use Rattle.std.specs.Prelude.{◌≡◌, ◌≤◌, IfOk, IfSome, max, suc};
 ghost use Rattle.ob0_run_machine.specs.Lowered as machine;

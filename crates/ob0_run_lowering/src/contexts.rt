@@ -1,4 +1,4 @@
-//! Defines the facts about a module that are needed to lower its blocks.
+//! Defines `LoweringContext`, the data of a module that is needed to lower the module's blocks.
 
 ghost use Rattle.std.specs.Prelude.{◌≡◌};
 

@@ -87,7 +87,8 @@ impl<'s, 'k, 't> Scene<'s, 'k, 't> {
         self.lower_expression(alloc, e)
     }
 
-    /// Returns the number that an expression means, or 0 if the expression isn't of type INTEGER.
+    /// Returns the code of an expression of type INTEGER. If the code isn't a number, returns the
+    /// literal 0.
     pub fn number(&self, alloc: Global, e: &Expression) -> Result<Number, AllocError>
         ensures { IfOk result (LowersNumber self.now (expression_of e.now)) }
     {
@@ -95,7 +96,8 @@ impl<'s, 'k, 't> Scene<'s, 'k, 't> {
         Ok(number_or_zero(lowered))
     }
 
-    /// Returns the truth that a condition means, or FALSE if the condition isn't of type BOOLEAN.
+    /// Returns the code of an expression of type BOOLEAN. If the code isn't a truth, returns the
+    /// constant FALSE.
     pub fn truth(&self, alloc: Global, e: &Expression) -> Result<Truth, AllocError>
         ensures lowers { IfOk result (LowersTruth self.now (expression_of e.now)) }
         ensures flat { IfOk result (λ t. IsFlat (code.Truth t)) }

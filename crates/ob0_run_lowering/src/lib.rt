@@ -1,12 +1,14 @@
 //! Lowers a well-typed module to a program of the machine. The program has the module's meaning.
 //!
 //! There are three layers. The first lowers designators, expressions and arguments, the second the
-//! statements of a body, and the third declarations, blocks and procedures. The contracts of the
-//! first two layers hold for any checked names, slots and targets for which the scene is right
-//! (`Sees`). Then the scene has the object of each bound name, and the place of each variable and
-//! procedure. So these contracts mention no environments, placements or blocks. The third layer
-//! shows `Sees` at each body. If an expression has a type, its code means the expression (`Lowers`).
-//! If it has no type, nothing is claimed about its code. So every tree is accepted and lowered.
+//! statements of a body, and the third declarations, blocks and procedures. The first two layers
+//! lower with a scene (`Scene`), which says where lowered code finds each name in a body. Their
+//! contracts hold if the scene has the object, the slot or the target of each checked name
+//! (`Sees`). A slot (`Slot`) is where a variable is, a target (`Target`) is the procedure that a
+//! call enters. So these contracts mention no environments, placements or blocks. The third layer
+//! shows `Sees` at each body. If an expression has a type, its code means the expression
+//! (`Lowers`). If an expression has no type, nothing is claimed about its code. So every
+//! tree is accepted and lowered.
 #![tactic(auto)]
 
 mod chains;

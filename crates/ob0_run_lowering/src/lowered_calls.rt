@@ -2,9 +2,10 @@
 //! variable, or calls Read without an argument. Such calls are lowered to `WriteLine`, since some
 //! instruction has to be returned.
 //!
-//! Arguments and parameters are visited in pairs, and their numbers aren't compared. If one list is
-//! longer, the arguments don't fit, and nothing is claimed about the code. Read needs the place of
-//! its argument (`locate_argument`), Write the value of its argument (`number`).
+//! Arguments and parameters are visited in pairs, and the lengths of the two lists aren't compared.
+//! If one list is longer, the call isn't well-typed, and nothing is claimed about its code. Read
+//! needs the place of its argument (`locate_argument`), Write the value of its argument
+//! (`number`).
 
 ghost use Rattle.std.specs.Prelude.{◌≡◌, IfOk, Some, map, option_map, slice_get};
 ghost use Rattle.ob0_tree.specs.View.{arguments_of, call_of};

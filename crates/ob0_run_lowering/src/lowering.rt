@@ -4,9 +4,10 @@
 //! Code and meaning are separate. `specs/Codes` and `specs/Trees` define the code of a tree by
 //! functions that compute it (`expression_code`), and each function here returns this code. An
 //! induction over trees (`proofs/TreesMean`) shows that the code means the tree, by the laws of
-//! `ob0_run_cells`. No proof about a function mentions moments or cells. The types of places come
-//! from the table of declarations. Only `bound` of `Sees` relates them to the checked types. A
-//! variable that isn't in scope also has a type there, and nothing is claimed about this type.
+//! `ob0_run_cells`. No proof about a function mentions moments of a run (`Moment`) or cells. The
+//! types of places come from the table of declarations. Only `bound` of `Sees` relates these types
+//! to the checked types. The table also has types of variables that aren't in scope, and nothing is
+//! claimed about these types.
 
 ghost use Rattle.std.specs.Prelude.{◌≡◌, IfOk, Some, option_and_then, option_map, pos};
 ghost use Rattle.ob0_tree.specs.Places.{value_at};

@@ -85,8 +85,8 @@ pub(crate) fn reference(
     Ok(Place::Passed(Box::new(alloc, reference)?))
 }
 
-/// Returns the place that results from adding `offset` to the offset of a place in an element whose
-/// array and index are variables.
+/// Returns the place `row` with `offset` added to its own offset. `row` is a place in an element
+/// whose array and index are variables.
 fn part_of_variable_element(
     alloc: Global,
     row: VariableElement,
@@ -101,7 +101,8 @@ fn part_of_variable_element(
     Ok(Place::VariableElement(Box::new(alloc, row)?))
 }
 
-/// Returns the place that results from adding `offset` to the offset of a place in an element.
+/// Returns the place `element` with `offset` added to its own offset. `element` is a place in an
+/// element of an array.
 fn part_of_element(alloc: Global, element: Element, offset: usize) -> Result<Place, AllocError>
     ensures { IfOk result (λ p. place_of p ≡ part_at (element_of element) offset) }
 {

@@ -23,8 +23,8 @@ use ob0_tree::{Block, Procedure};
 use ob0_types_table::DeclarationTable;
 use std::alloc::{AllocError, Global};
 
-/// The state while a module is lowered: the sites of the names in scope, and the code of the
-/// procedures so far.
+/// The state while a module is lowered. `visible` has, for each declaration in scope, where lowered
+/// code finds it (its `Site`). `procedures` has the code of the procedures so far.
 #[derive(Drop)]
 pub(crate) struct Lowering {
     pub(crate) visible: VisibleSites,
@@ -149,7 +149,8 @@ impl Lowering {
     }
 }
 
-/// Returns the lowered program of a module. `known` has to be the table of the module's declarations.
+/// Returns the lowered program of a module. `known` has to be the table of the module's
+/// declarations.
 ///
 /// # Errors
 ///

@@ -1,4 +1,5 @@
-//! Defines the facts that are needed to lower a body: the scene, and the sites of declarations.
+//! Defines `Scene`, the data that is needed to lower a body, and `Site`, which says where lowered
+//! code finds a declaration.
 
 ghost use Rattle.std.specs.Prelude.{◌≡◌, IfOk};
 ghost use Rattle.ob0_run_machine.specs.View.{place_of};
@@ -49,7 +50,7 @@ impl CallTarget {
     }
 }
 
-/// The facts that are needed to lower a body: the module, the layouts of its types, the sites of
+/// The data that is needed to lower a body: the module, the layouts of its types, the sites of
 /// declarations, and the depth of the body's activation. `sites` has the site of each declaration
 /// at the declaration's ordinal. The depth of the module is 0.
 #[derive(Clone, Copy)]

@@ -1,8 +1,8 @@
 //! Computes the layouts of a module's types: their numbers of cells, and the offsets of fields.
 //!
-//! Each layout is computed once. The layouts have the order of the checker's table of types, and each
-//! results from the layouts of earlier entries (`HaveLayouts`). The offset of a field is found by
-//! the index of the field in the record.
+//! The checker's table of types has the ARRAY and RECORD types of the module. The layout of each is
+//! computed once, in the order of this table, from the layouts of earlier entries (`HaveLayouts`).
+//! The offset of a field is found by the index of the field in the record.
 
 ghost use Rattle.std.specs.Prelude.{◌≡◌, ◌≤◌, ◌+◌, ◌*◌, ◌^◌, ℕ, IfOk, List, MatchResult, slice_index_or};
 ghost use Rattle.ob0_run_cells.specs.Cells.{field_offset, size, step_offset};

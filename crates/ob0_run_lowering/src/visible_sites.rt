@@ -1,9 +1,10 @@
-//! Places the names of a block or a heading, and keeps the sites of the declarations in scope. A site
-//! says where lowered code finds a declaration.
+//! Places the names of a block or a heading: gives each variable its cells, and each VAR parameter
+//! its index. Keeps the site of each declaration in scope (`Site`), which says where lowered code
+//! finds the declaration.
 //!
-//! A binding records the site that it hides. At the end of the procedure the hidden site is restored.
-//! So a single table by ordinals is enough, and a procedure takes time only for the names that it
-//! declares.
+//! Each declaration of a module has an ordinal, which is its index in the table of sites. A binding
+//! records the site that it hides. At the end of the procedure the hidden site is restored. So one
+//! table is enough, and a procedure takes time only for the names that it declares.
 
 ghost use Rattle.std.specs.Prelude.{◌≡◌, ◌≤◌, ◌+◌, ◌^◌, ℕ, suc, IfOk, OnOk, MatchOption, length, slice_set};
 ghost use Rattle.ob0_run_lowering.specs.Scenes.{site_at};

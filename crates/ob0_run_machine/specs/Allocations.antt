@@ -1,4 +1,4 @@
--- Defines the fact that an allocation of a run has failed.
+-- Defines whether an allocation of a run has failed (`has_failed`).
 -- Rule: docs/PROTOCOL.md, The program 6: `Memory` is reported if an allocation fails.
 use Rattle.std.specs.Prelude.{Bool}
 use Rattle.ob0_run_machine.specs.declared.memory.Memory.{Memory}

@@ -62,7 +62,7 @@ pub data LoweredArgument : Type 0 where
   by_block : Place → (cells : ℕ) → LoweredArgument
 
 mutual
-  -- One statement.
+  -- A statement, with its places, numbers, truths and nested statements.
   pub data Instruction : Type 0 where
     stores_number : Place → Number → Instruction
     stores_truth : Place → Truth → Instruction

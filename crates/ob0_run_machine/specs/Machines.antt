@@ -118,8 +118,8 @@ abbrev pub StopsPassing : Option Halt → Memory → StepResult CallArguments �
 StopsPassing (Some e) memory o = o ≡ ends e
 StopsPassing None memory o = has_failed memory ≡ true
 
--- States the outcome of passing arguments with this result: these cells and addresses, or an end of
--- the run as `StopsPassing` says.
+-- States that `o` is the outcome of passing arguments, given the machine's result. If the result is
+-- Ok, `o` gives these cells and addresses. If it is an error, the run ends as `StopsPassing` says.
 abbrev pub Passes : Result (Unit {0}) Stop → Memory → List ℤ → List ℕ → StepResult CallArguments → Type 0
 Passes (Ok done) memory cells addresses o = o ≡ gives (passed_arguments cells addresses)
 Passes (Err s) memory cells addresses o = StopsPassing (end_of_stop s) memory o

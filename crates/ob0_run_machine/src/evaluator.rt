@@ -225,9 +225,9 @@ pub(crate) fn evaluate_chain(
     Ok(left)
 }
 
-/// Applies a link to the number `left`, and returns the result or the fault. If the link's own
-/// operand is neither a literal nor a variable, a called function evaluates it. So `apply` is small
-/// enough to be inlined.
+/// Applies a link, which is an operator with one operand, to the number `left`. Returns the result
+/// or the fault. If the link's own operand is neither a literal nor a variable, a called function
+/// evaluates this operand. So `apply` is small enough to be inlined.
 #[inline(always)]
 #[cycle(evaluation)]
 fn apply(link: &Link, left: i32, level: &Level<'_>, cells: &[i32]) -> Result<i32, EvaluationFault>
@@ -272,7 +272,8 @@ fn apply_to_expression(
     }
 }
 
-/// Applies a link to the value of a variable, and returns the result or the fault.
+/// Applies a link, which is an operator with one operand, to the value of a variable. Returns the
+/// result or the fault.
 #[inline(always)]
 pub(crate) fn evaluate_update(
     variable: Variable,

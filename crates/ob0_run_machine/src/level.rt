@@ -1,8 +1,8 @@
 //! Represents the activations that running code can see, as a linked list.
 //!
-//! The list is the static chain, on the call stack of the machine itself. Each `Level` refers to
-//! the level in which its procedure is declared. `levels_of` reads the list by structural
-//! recursion, so no invariant about a table of frames is needed.
+//! The list is the static chain. Each `Level` is a local variable of the function that makes the
+//! call, and refers to the level in which its procedure is declared. `levels_of` reads the list by
+//! structural recursion, so no invariant about a table of frames is needed.
 //!
 //! A call's addresses of VAR parameters are in a `VarAddresses`, which stores up to two addresses
 //! without allocating memory. Only the cells, the output and more than two such addresses are in

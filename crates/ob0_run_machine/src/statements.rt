@@ -27,8 +27,8 @@ use crate::level::{Level, enclosing_level};
 use crate::machine::{Item, Machine, copy, store};
 use crate::operators::{add, as_cell, compare};
 
-/// Assigns a number to any place. This function isn't inlined, so `run_statement` is small enough
-/// to be inlined.
+/// Assigns a number to a place of any form. This function isn't inlined, so `run_statement` is
+/// small enough to be inlined.
 #[tactic(auto, unfolding(crate::specs::Execution::execute))]
 #[inline(never)]
 fn store_number(
@@ -413,8 +413,8 @@ fn run_conditional<F: Fn(&mut Machine<'_>, usize, &Level<'_>) -> Result<(), Stop
     run_elsifs(i, level, turns, machine, enter)
 }
 
-/// Runs the ELSIF parts of an IF: the statements of the first TRUE condition, or the ELSE part if
-/// no condition is TRUE.
+/// Runs the statements of the first ELSIF part whose condition is TRUE, or the ELSE part if there
+/// is no such ELSIF part.
 #[inline(never)]
 #[cycle(execution)]
 fn run_elsifs<F: Fn(&mut Machine<'_>, usize, &Level<'_>) -> Result<(), Stop>>(

@@ -54,8 +54,8 @@ pub record IsMovable (removed added : ℕ) (span : Span) : Type 0 where
   pub ordered : span.start ≤ span.end
   pub small : span.end + added < 2 ^ 32
 
--- States that the scanner `s`, which has found no fault, becomes the scanner `t` by reading exactly
--- one lexeme.
+-- States that the scanner `s` has found no fault, and that the scanner `t` has read one more lexeme.
+-- The lexeme begins at `s.at`. If it is a token or a comment, it is added to the list of `s`.
 pub record TakesOne (s t : Scanner) : Type 0 where
   pub kind : LexemeKind
   pub len : ℕ
@@ -63,8 +63,9 @@ pub record TakesOne (s t : Scanner) : Type 0 where
   pub tokens : t.tokens.items ≡ s.tokens.items ++ token_at kind (span_from s.at len)
   pub comments : t.comments.items ≡ s.comments.items ++ comment_at kind (span_from s.at len)
 
--- States that the scanner `s` becomes the scanner `t` by reading tokens and comments. If one of
--- these begins behind the change, no old token or comment begins at the same place in the old text.
+-- States that the scanner `t` has the tokens and comments of the scanner `s`, followed by newly read
+-- ones. If one of these begins behind the change, no old token or comment begins at the same place
+-- in the old text.
 pub record ReadsWithoutMeeting (old : TextWithTokens) (from removed added : ℕ) (s t : Scanner) : Type 0 where
   pub tokens : List Token
   pub comments : List Span

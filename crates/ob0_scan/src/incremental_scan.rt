@@ -11,8 +11,8 @@
 //!   certain place or later. This is the first place behind the change at which a token or comment
 //!   begins in both texts (`IsNew`).
 //!
-//! In the result, `alike` says that the new tokens have the same kinds as the old tokens.
-//! `same_names` says that the identifiers have the same spellings. `same_words` says that all
+//! If `alike` is true in the result, the new tokens have the same kinds as the old tokens. If
+//! `same_names` is true, the identifiers have the same spellings. If `same_words` is true, all
 //! tokens have the same kinds and spellings.
 //!
 //! Binary search finds the old tokens and comments in front of the change
@@ -40,12 +40,13 @@
 //! `ReplacesRange`. The law `new_middle_replaces_range` proves this fact for texts joined from
 //! parts, and `Difference::between` of `ob0_analysis` ensures it for any two texts.
 //!
-//! In the proof, `proofs/AtLexemes` gives the places of the tokens and comments of a list of
+//! In the proof, `proofs/AtLexemes` gives the places of the tokens and comments in a list of
 //! lexemes. `Fronts` splits off the old lexemes in front of the change. `Reusing` joins old and new
-//! lexemes at two places: a lexeme depends only on its bytes and the next byte, and equal rests
-//! have equal lexemes. `RescannedMiddle` collects the newly read tokens, and `Kept` has the numbers
-//! of the reused old tokens. `Named` shows that reused tokens have the same spelling in both texts.
-//! No clause counts steps, so it isn't proved that old tokens aren't scanned again.
+//! lexemes at both borders of the reread part: a lexeme depends only on its bytes and the next
+//! byte, and texts with equal rests have equal lexemes there. `RescannedMiddle` collects the newly
+//! read tokens, and `Kept` is about the reused old tokens. `Named` shows that reused tokens have
+//! the same spelling in both texts. No clause counts steps, so it isn't proved that old tokens
+//! aren't scanned again.
 
 ghost use Rattle.std.specs.Prelude.{◌≡◌, ℕ, List, [], false, ◌+◌, ◌-◌, ◌<◌, ◌≤◌, true, IfOk, IfErr, OnOk, length, take, drop};
 ghost use Rattle.ob0_scan.specs.declared.lexeme.TokenKind.TheVariants.{Identifier, Integer};

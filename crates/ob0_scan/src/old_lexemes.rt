@@ -243,8 +243,8 @@ fn count_comments_before_linearly(comments: &[Span], place: usize) -> usize
         .count()
 }
 
-/// Replaces the tokens with the indexes `front..following` by `between`. Shifts the spans of all
-/// later tokens to their places in the changed text.
+/// Replaces the tokens with the indexes `front..following` by `between`. Shifts the spans of
+/// all later tokens to their places in the changed text.
 pub(crate) fn splice_tokens(
     tokens: &mut Vec<Token>,
     front: usize,
@@ -266,8 +266,8 @@ pub(crate) fn splice_tokens(
     Ok(())
 }
 
-/// Replaces the comments with the indexes `front..following` by `between`. Shifts the spans of all
-/// later comments to their places in the changed text.
+/// Replaces the comments with the indexes `front..following` by `between`. Shifts the spans of
+/// all later comments to their places in the changed text.
 pub(crate) fn splice_comments(
     comments: &mut Vec<Span>,
     front: usize,

@@ -40,8 +40,9 @@ abbrev pub last_namesake : BlockSearch → Option ℕ → List ℕ → Option �
 last_namesake s found [] = found
 last_namesake s found (i ∷ is) = last_namesake s (if has_name_and_other_binding s i then ordinal_in_search s i else found) is
 
--- Returns the ordinal of the last other declaration with the sought name among these tokens of a block. Returns None if
--- there is none, or if the declaration itself isn't among these tokens.
+-- Finds the last of these tokens that has the sought name and isn't bound to the declaration whose block is searched.
+-- Returns the ordinal to which this token is bound. Returns None if there is no such token, or if no token in the list
+-- is bound to that declaration.
 abbrev pub namesake_among : BlockSearch → List ℕ → Option ℕ
 namesake_among s is = if list_any (is_bound_to_declaration s) is then last_namesake s None is else None
 

@@ -1,6 +1,6 @@
 -- The data about a module's names that is kept when the statements of one body are replaced: the
 -- data about the tokens before that body, and about the tokens after it, which have moved.
--- Rule: none; for private contracts: what is known of a module's names, carried over.
+-- Rule: none; for private contracts about bindings that are kept when one body is replaced.
 use Rattle.std.specs.Prelude.{◌≡◌, ℕ, ◌+◌, ◌-◌, ◌^◌, min, nat_lt, List, [], ◌∷◌, ◌++◌, Option, Some, None, if◌then◌else◌, is_some, length, take, drop, replicate}
 use Rattle.ob0_scan.specs.declared.tokens.SameTokens.{SameTokens}
 use Rattle.ob0_tree.specs.declared.tree.Role.{Role}

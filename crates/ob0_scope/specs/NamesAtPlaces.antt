@@ -15,7 +15,7 @@ use Rattle.ob0_scope_table.specs.Spans.{is_on}
 use Rattle.ob0_language_names.specs.Scopes.{numbered, renamed}
 use Rattle.ob0_scope.specs.declared.naming.Named as named
 
--- an identifier: its role, its token, and its label, which has the ordinal of its declaration if it is bound
+-- an identifier: its role, its token, and its label, which has the declaration's ordinal if the identifier is bound
 abbrev pub BoundIdentifier : Type 0
 BoundIdentifier = (Role × ℕ) × Label
 

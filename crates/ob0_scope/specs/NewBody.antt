@@ -8,7 +8,7 @@ use Rattle.ob0_scope_table.specs.Resolution.{IsResolution}
 use Rattle.ob0_scope_table.specs.declared.resolved.Bindings.{Bindings}
 
 -- States that `b` has the bindings of an older module, and that `m` is that module with the statements of one body
--- replaced. `s` says which tokens both modules have in common.
+-- replaced. `s` states which tokens at the start and at the end are the same in both modules.
 pub record WasBoundElsewhere (m : ParsedModule) (b : Bindings) (s : SameTokens) : Type 0 where
   pub old : ParsedModule
   pub way : PathToBody

@@ -16,8 +16,9 @@ pub record AreNamedAlike (old new : TextWithTokens) : Type 0 where
   pub same_kinds : kinds new.tokens ≡ kinds old.tokens
   pub same_names : names_in new.text new.tokens ≡ names_in old.text old.tokens
 
--- States that the bindings of a valid module are also the bindings of its tree over the tokens of another text. That
--- text's tokens must have the same kinds, and its identifiers the same spellings.
+-- States that the bindings of a module without faults of scopes are also the bindings of the same tree with the tokens
+-- of another text. The tokens of both texts must have the same kinds, and their identifiers the same spellings. The
+-- tree must spell the other text's tokens.
 abbrev pub BindingsDependOnNames : Type 0
 BindingsDependOnNames =
     (old new : TextWithTokens) (tree : ModuleTree) (b : Bindings)
@@ -35,8 +36,9 @@ pub record AreMoved (old new : TextWithTokens) (b c : Bindings) : Type 0 where
   pub occurrences : c.occurrences.items ≡ b.occurrences.items
   pub faults : c.faults.items ≡ moved_faults old new b.faults.items
 
--- States that the bindings of a module are also the bindings of its tree over another text. The tokens of both texts
--- must have the same spellings. Only the spans of the faults change, to those tokens' places in the other text.
+-- States that the bindings of a module are also the bindings of the same tree with the tokens of another text, except
+-- that each fault moves to the same token of the other text. The tokens of both texts must have the same spellings. The
+-- tree must spell the other text's tokens.
 abbrev pub BindingsMoveWithTokens : Type 0
 BindingsMoveWithTokens =
     (old new : TextWithTokens) (tree : ModuleTree) (b c : Bindings)

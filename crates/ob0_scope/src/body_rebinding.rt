@@ -19,9 +19,9 @@ use ob0_tree::Module;
 use ob0_tree::walk::walk_body;
 use std::alloc::{AllocError, Global};
 
-/// Returns the bindings of a module after tokens of one body changed. The changed tokens have the
-/// indexes from `low` up to, but not including, `_high`. `old` has the bindings before the change.
-/// Only that body is numbered again.
+/// Returns the bindings of a module after tokens of one body changed. `old` has the bindings before
+/// the change. The changed tokens have the indexes from `low` up to, but not including,
+/// `_high`, which only the contract uses. Only that body is numbered again.
 pub fn rebind_body(
     alloc: Global,
     read: &Module<'_>,

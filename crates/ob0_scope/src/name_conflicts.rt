@@ -25,8 +25,8 @@ use ob0_tree::{Block, Procedure, text_at};
 use std::alloc::{AllocError, Global};
 use std::marker::Model;
 
-/// The first conflict of a new name for a declaration. A duplicate declaration counts before any
-/// occurrence. Occurrences count in text order.
+/// The first conflict of a new name for a declaration. A conflict with another declaration precedes
+/// all conflicts at occurrences, which are in text order.
 #[derive(Clone, Copy, Debug, PartialEq, Eq)]
 pub enum FirstConflict {
     /// Another declaration of the same block has the name. The number is that declaration's
@@ -99,7 +99,8 @@ fn first_captured_occurrence(
 }
 
 /// Returns the index of the first occurrence, among all occurrences in text order, to which this
-/// table gives another ordinal than the module's own table. Returns None if there is none.
+/// table gives another ordinal than the module's own table. Returns None if there is no such
+/// occurrence.
 fn first_changed_occurrence(names: &Resolved, ordinals: &[OrdinalEntry]) -> Option<usize>
     ensures { result
         ≡ position_from (λ token. not
@@ -126,8 +127,8 @@ fn have_same_binding(a: Option<usize>, b: Option<usize>) -> bool
 }
 
 /// Returns the ordinal of another declaration with the name `new` in the block that declares
-/// `declaration`. If there are several, returns the ordinal of the last. Returns None if there is
-/// none.
+/// `declaration`. If there are several such declarations, returns the ordinal of the last. Returns
+/// None if there is no such declaration.
 fn namesake(
     alloc: Global,
     names: &Resolved,
@@ -188,9 +189,9 @@ impl<'t> NamesakeSearch<'t> {
         text_at(self.tokens, token) == self.new && !self.is_bound_to_declaration(token)
     }
 
-    /// Returns the ordinal of the last other declaration with the sought name among these tokens of
-    /// a block. Returns None if there is none, or if the declaration whose block is searched isn't
-    /// among them.
+    /// Finds the last token in `tokens` that has the sought name and isn't bound to the declaration
+    /// whose block is searched. Returns the ordinal to which this token is bound. Returns None if
+    /// there is no such token, or if no token in `tokens` is bound to that declaration.
     fn find_among(&self, tokens: &[usize]) -> Option<usize>
         ensures { result ≡ namesake_among self.now tokens.now }
     {
@@ -206,8 +207,8 @@ impl<'t> NamesakeSearch<'t> {
     }
 
     /// Searches a block, then the blocks inside it. Returns the ordinal of the declaration that is
-    /// found, or None. `own` has the tokens of the parameters, which count as declared in the
-    /// block.
+    /// found, or None if no declaration is found. `own` has the tokens of the parameters, which
+    /// count as declared in the block.
     #[cycle(blocks)]
     fn block(&self, alloc: Global, own: Vec<usize>, b: &Block) -> Result<Option<usize>, AllocError>
         ensures { IfOk result
@@ -223,7 +224,8 @@ impl<'t> NamesakeSearch<'t> {
     }
 
     /// Searches the block of a procedure. The procedure's parameters count as declared in the
-    /// block. Returns the ordinal of the declaration that is found, or None.
+    /// block. Returns the ordinal of the declaration that is found, or None if no declaration is
+    /// found.
     #[cycle(blocks)]
     fn find_in_procedure(&self, alloc: Global, p: &Procedure) -> Result<Option<usize>, AllocError>
         ensures { IfOk result (λ other. other ≡ found_in_procedure self.now (procedure_of p.now)) }

@@ -1,4 +1,5 @@
-//! Finds the declarations to which another name would be bound at the occurrences of a module.
+//! Finds, for each occurrence of a name in a module, the declaration to which a given name would be
+//! bound in its place.
 
 ghost use Rattle.std.specs.Prelude.{◌≡◌, IfOk, map, length, replicate, None};
 ghost use Rattle.ob0_tree.specs.ParsedModule.{named_tree_of};

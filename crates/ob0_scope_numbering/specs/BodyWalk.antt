@@ -38,8 +38,9 @@ with_procedure_skipped x v = show_declaration x (predeclared_count + length v.de
 -- that contains the token `low`.
 module _ {M : Type 0} (put_ordinal : ℕ → Option ℕ → M → M) (all : List ℕ) (low : ℕ) where
   abbrev mutual
-    -- Visits a block: its constants, types and variables, and then only the procedure that contains
-    -- the token `low`. If there is no such procedure, visits the block's statements.
+    -- Visits a block: its constants, types and variables, and then only the first procedure whose
+    -- closing name isn't before the token `low`. If there is no such procedure, visits the block's
+    -- statements.
     pub renumber_block : Tree ℕ block → WalkState M → WalkState M
     renumber_block (has_body (declares cs ts vs ps) statements) v =
         renumber_procedures ps statements

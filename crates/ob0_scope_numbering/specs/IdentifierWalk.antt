@@ -1,5 +1,6 @@
 -- Defines the walk over a module's identifiers in text order, by the state after each part of the
--- module. The parameter `put_ordinal` says how the ordinals are collected.
+-- module. The walk gives each identifier the ordinal of its declaration, which is the declaration's
+-- number in text order. The parameter `put_ordinal` says how the ordinals are collected.
 -- Rule: none; for contracts of the walk over identifiers.
 use Rattle.std.specs.Prelude.{ℕ, ◌+◌, ◌-◌, List, [], ◌∷◌, ◌++◌, Option, Some, None, map, length, drop}
 use Rattle.ob0_tree.specs.declared.tree.Role.{Role}
@@ -50,8 +51,8 @@ state_after_heading own outside v = show_declarations_from own (truncate_scope o
 abbrev pub leave_block : {M : Type 0} → ℕ → ℕ → ℕ → WalkState M → WalkState M
 leave_block x ordinal outside v = show_declaration x ordinal (truncate_scope outside v)
 
--- The following definitions are for any function `put_ordinal`. It adds the ordinal of the
--- identifier at a token to the ordinals so far.
+-- The following definitions are for any collection `M` of ordinals. The function `put_ordinal` adds
+-- the ordinal of the identifier at a token (None if it has no ordinal) to the collection.
 module _ {M : Type 0} (put_ordinal : ℕ → Option ℕ → M → M) where
   -- gives the identifier at the token `i` this ordinal, or no ordinal (None)
   abbrev pub with_mark : ℕ → Option ℕ → WalkState M → WalkState M

@@ -1,4 +1,5 @@
--- Defines marks: the tokens of identifiers with the ordinals of their declarations.
+-- Defines marks. A mark is the token of an identifier with the ordinal of the identifier's
+-- declaration, which is the declaration's number in text order.
 -- Rule: none; for contracts of the walk over identifiers.
 use Rattle.std.specs.Prelude.{ℕ, List, [], ◌∷◌, Option, Some, slice_set}
 

@@ -30,12 +30,12 @@ pub record HasNewestBindings (newest : List NameEntry) (bindings : List Binding)
   pub found : (x : Name) → newest_binding_in newest x ≡ newest_binding_index x (reverse bindings)
   pub hidden : HaveHiddenIndexes (reverse bindings)
 
--- The names that are visible at a place, and the new name of a renamed declaration.
+-- The names that are visible at a place, and `new_name`, the name that a renaming introduces.
 pub record VisibleNames : Type 0 where
   pub new_name : Name
   pub scope : Scope Name
 
--- returns these visible names with another scope and the same new name
+-- returns these visible names with another scope and the same `new_name`
 abbrev pub with_scope : VisibleNames → Scope Name → VisibleNames
 with_scope v scope = record { new_name = v.new_name; scope = scope }
 
@@ -46,8 +46,8 @@ HaveNamePlaces newest (b ∷ bs) =
     (place_of newest b.name.now ≡ Some b.place) × HaveNamePlaces newest bs
 
 -- States that the list `newest` has the index of each name's newest binding. Each binding has the
--- index of the binding that it hides, and the position of its name in the list. The new name has
--- the first position.
+-- index of the binding that it hides, and the position of its name in the list. The name `new` that
+-- the renaming introduces has the first position.
 pub record IsConsistentScope (new : Name) (newest : List NameEntry) (bindings : List Binding) : Type 0 where
   pub is : HasNewestBindings newest bindings
   pub placed : HaveNamePlaces newest bindings

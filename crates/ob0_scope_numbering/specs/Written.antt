@@ -1,5 +1,5 @@
--- Defines the spellings of identifiers: as in the text, or a new name for the identifiers of one
--- declaration.
+-- Defines the spellings of identifiers, as they are in the text or as they are after a renaming of
+-- one declaration.
 -- Rule: none; for contracts: identifiers as they are written.
 use Rattle.std.specs.Prelude.{ℕ, Bool, false, if◌then◌else◌, List, [], Option, Some, None}
 use Rattle.ob0_scan.specs.TextWithTokens.{TextWithTokens}
@@ -9,9 +9,9 @@ use Rattle.ob0_language_names.specs.Names.{Name}
 use Rattle.ob0_scope_table.specs.Resolution.{ordinal_in}
 use Rattle.ob0_language_names.specs.Scopes.{same_ordinal}
 
--- A text, with the ordinals of its identifiers by token index. `declaration` is the ordinal of the
--- renamed declaration, or None if no declaration is renamed. `new` is the new name of the renamed
--- declaration.
+-- A text with a renaming of one declaration. `ordinals` has the ordinals of the text's identifiers
+-- by token index. `declaration` is the ordinal of the renamed declaration, or None if nothing is
+-- renamed. `new` is the name that the renaming introduces.
 pub record Spellings : Type 0 where
   pub source : TextWithTokens
   pub ordinals : List (Option ℕ)
@@ -24,13 +24,13 @@ abbrev pub is_renamed : Option ℕ → Option ℕ → Bool
 is_renamed None ordinal = false
 is_renamed (Some d) ordinal = same_ordinal ordinal d
 
--- returns the spelling of the identifier at a token: the new name if its declaration is renamed,
--- otherwise its spelling in the text
+-- returns the spelling of the identifier at a token: `w.new` if the identifier is bound to the
+-- renamed declaration, otherwise its spelling in the text
 abbrev pub spelling_at : Spellings → ℕ → Name
 spelling_at w i =
     if is_renamed w.declaration (ordinal_in w.ordinals i) then w.new else text_at w.source i
 
--- returns the spellings of the identifiers as in the text, without a new name
+-- returns the spellings of the identifiers as in the text, without a renaming
 abbrev pub original_spellings : TextWithTokens → Spellings
 original_spellings source = record { source = source; ordinals = []; declaration = None; new = [] }
 

@@ -100,10 +100,11 @@ pub(crate) struct NameEntry<'t> {
     newest: Option<usize>,
 }
 
-/// A list of names with their newest bindings, each name once. The new name of a renaming is first,
-/// followed by the other names in the order in which they were first bound. A name's position is
-/// found in logarithmic time, whatever the names are. A name that was looked up recently is usually
-/// found at once.
+/// A list of names with their newest bindings, each name once. The name that a renaming introduces
+/// is first. The other names follow in the order in which they were first bound. A name's position
+/// is
+/// found in logarithmic time, whatever the names are. A name that was looked up recently is
+/// usually found at once.
 #[derive(Drop)]
 pub(crate) struct NewestBindings<'t> {
     entries: Vec<NameEntry<'t>>,

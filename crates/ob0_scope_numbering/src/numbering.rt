@@ -1,15 +1,16 @@
 //! Visits the declarations of a module in text order, and gives each identifier the ordinal of its
-//! declaration.
+//! declaration: the declaration's number in text order, after the predeclared names.
 //!
 //! Expressions, types and statements declare nothing. The walk of `ob0_tree` visits them, with
 //! `Numbering` as its `Visitor`. The contract of each function is an equation between whole states:
 //! `self.new ≡ visit_constant c self.old`. With such contracts, most descents and loops over
 //! declarations need no proof file.
 //!
-//! Names become visible in the order of their ordinals (`show_names_from`), for constants, for
-//! groups of variables, and after a procedure's heading. After a heading, the bindings of the
-//! parameters are removed. Then `show_names_from` binds the procedure, and after the procedure its
-//! parameters. So a parameter with the procedure's name hides the procedure.
+//! Names become visible in the order of their ordinals (`show_names_from`), for
+//! constants, for groups of variables, and after a procedure's heading. After a heading, the
+//! bindings of the parameters are removed. Then `show_names_from` binds the procedure, and
+//! after the procedure its parameters. So a parameter with the procedure's name hides the
+//! procedure.
 //!
 //! Each identifier's ordinal is written into the table, at the index of the identifier's token, as
 //! soon as the ordinal is known. The entries of fields and of the module's name are None. The
@@ -50,8 +51,9 @@ use std::marker::Model;
 
 /// The state of the walk inside a module. `table` has the ordinal of each identifier visited so
 /// far, at the index of its token. `declarations` and `occurrences` have the tokens of the
-/// declaring and of the looked-up names so far. `ordinals` and `declaration` say which identifiers
-/// have the new name of a renamed declaration.
+/// declaring and of the looked-up names so far. `declaration` is the ordinal of a renamed
+/// declaration, or None if nothing is renamed. `ordinals` has the ordinals before the renaming. The
+/// identifiers that have the ordinal `declaration` there get the declaration's new name.
 #[derive(Drop)]
 pub struct Numbering<'t> {
     tokens: &'t Tokens,
@@ -109,8 +111,8 @@ fn ordinal_at_index(index: usize) -> usize
     PREDECLARED_COUNT + index
 }
 
-/// Returns a scope in which only the predeclared names are bound. The scope also has the new name
-/// of a renamed declaration, but that name isn't bound yet.
+/// Returns a scope in which only the predeclared names are bound. The scope also has the name `new`
+/// that a renaming introduces, but it isn't bound to the renamed declaration yet.
 fn predeclared_names<'t>(alloc: Global, new: &'t str) -> Result<VisibleBindings<'t>, AllocError>
     ensures { IfOk result
         (λ v. v ≡ record { new_name = new.entry.now; scope = predeclared_scope naming_by_spelling }) }
@@ -288,8 +290,8 @@ impl<'t> Numbering<'t> {
         self.visible.truncate_bindings(len);
     }
 
-    /// Returns whether the identifier at a token has the new name, because its declaration is
-    /// renamed.
+    /// Returns whether the identifier at a token is bound to the renamed declaration, so that it
+    /// has the new name instead of its spelling in the text.
     fn is_renamed(&self, token: usize) -> bool
         ensures { result
             ≡ is_renamed self.now.writing.declaration (ordinal_in self.now.writing.ordinals token) }
@@ -501,8 +503,9 @@ impl<'t> Numbering<'t> {
         self.show_name(token, ordinal_at_index(next))
     }
 
-    /// Visits a procedure's name, its parameters and its block again, on the way to the body that
-    /// contains the token `low`. `all` has the module's declaring tokens.
+    /// Visits again a procedure's name, its parameters, and the parts of its block that
+    /// `revisit_block` visits on the way to the token `low`. `all` has the declaring tokens of the
+    /// whole module, in text order.
     #[cycle(blocks_again)]
     fn revisit_procedure(
         &mut self,
@@ -522,9 +525,9 @@ impl<'t> Numbering<'t> {
         self.revisit_block(&p.block, all, low)
     }
 
-    /// Visits a block again: its constants, types and variables, and then only the procedure that
-    /// contains the token `low`. If there is no such procedure, visits the block's statements.
-    /// `all` has the declaring tokens of the whole module.
+    /// Visits a block again: its constants, types and variables, and then only the first procedure
+    /// whose closing name isn't before the token `low`. If there is no such procedure, visits the
+    /// block's statements. `all` has the declaring tokens of the whole module, in text order.
     #[cycle(blocks_again)]
     fn revisit_block(&mut self, inner: &Block, all: &[usize], low: usize) -> Result<(), AllocError>
         ensures { OnOk result

@@ -21,9 +21,10 @@ pub(crate) struct Binding<'t> {
     hidden: Option<usize>,
 }
 
-/// The bindings at a place, oldest first, and the new name of a renamed declaration. `newest` has
-/// the index of the newest binding of each name. The new name may be far longer than the names of
-/// the text, so its binding is found without reading the name.
+/// The bindings at a place, oldest first. `newest` has the index of the newest binding of each
+/// name. `new_name` is the name that a renaming introduces. Callers pass the empty name if nothing
+/// is renamed. `new_name` may be far longer than the names of the text, so its binding is found
+/// without reading the name.
 #[derive(Drop)]
 pub(crate) struct VisibleBindings<'t> {
     new_name: &'t str,
@@ -42,7 +43,7 @@ impl<'t> Model for VisibleBindings<'t> {
 }
 
 impl<'t> VisibleBindings<'t> {
-    /// Returns an empty scope, for a renaming to `new_name`. That name isn't bound yet.
+    /// Returns an empty scope, for a renaming to `new_name`. No name is bound yet.
     pub(crate) fn new(alloc: Global, new_name: &'t str) -> Result<VisibleBindings<'t>, AllocError>
         ensures { IfOk result (λ v. v ≡ record { new_name = new_name.entry.now; scope = [] }) }
     {
@@ -73,8 +74,8 @@ impl<'t> VisibleBindings<'t> {
         Some(self.bindings[index].ordinal)
     }
 
-    /// Returns the ordinal of the declaration to which the new name is bound, or None if the new
-    /// name is unbound.
+    /// Returns the ordinal of the declaration to which `new_name`, the name that the renaming
+    /// introduces, is bound. Returns None if `new_name` is unbound.
     pub(crate) fn look_up_new_name(&self) -> Option<usize>
         ensures { result ≡ ordinal_of naming_by_spelling self.now.scope self.now.new_name }
     {
@@ -85,8 +86,8 @@ impl<'t> VisibleBindings<'t> {
         Some(self.bindings[index].ordinal)
     }
 
-    /// Binds the new name to an ordinal, and hides the earlier binding of this name, if there is
-    /// one. If an allocation fails, the scope is unchanged.
+    /// Binds `new_name`, the name that the renaming introduces, to an ordinal. Hides the earlier
+    /// binding of this name, if there is one. If an allocation fails, the scope is unchanged.
     pub(crate) fn declare_new_name(&mut self, ordinal: usize) -> Result<(), AllocError>
         ensures bound { OnOk result
             (self.new ≡ with_scope self.old ((self.old.new_name, ordinal) ∷ self.old.scope)) }

@@ -1,9 +1,8 @@
-//! Gives the spellings of a text's identifiers, with a new name for one declaration if it is
-//! renamed.
+//! Gives the spellings of a text's identifiers, as they are or as they are after a renaming.
 //!
 //! An identifier has its spelling in the text, unless the table of ordinals binds it to the renamed
-//! declaration. In that case it has the new name. So one walk numbers a module as it is or as it is
-//! after a renaming.
+//! declaration. In that case it has the name that the renaming introduces. So one walk can number
+//! a module as it is, and also as it is after a renaming.
 
 ghost use Rattle.std.specs.Prelude.{◌≡◌};
 ghost use Rattle.ob0_scope_numbering.specs.Written.{original_spellings, is_renamed};
@@ -12,9 +11,10 @@ use ob0_scan::Tokens;
 use ob0_scope_table::OrdinalEntry;
 use std::marker::Model;
 
-/// A text, with the table of its ordinals by token index, and a new name for the identifiers of one
-/// declaration. `declaration` is the ordinal of this declaration, or None if no declaration is
-/// renamed.
+/// A text with a renaming of one declaration. `ordinals` is the table of the text's ordinals by
+/// token index. `declaration` is the ordinal of the renamed declaration, or None if nothing is
+/// renamed. `new` is the name that the renaming introduces, for all identifiers with the ordinal
+/// `declaration`.
 #[derive(Drop)]
 pub struct Spellings<'t> {
     pub tokens: &'t Tokens,
@@ -51,7 +51,7 @@ pub(crate) fn is_renamed(declaration: Option<usize>, ordinal: Option<usize>) -> 
 }
 
 impl<'t> Spellings<'t> {
-    /// Returns the spellings of the identifiers as in the text, without any new name.
+    /// Returns the spellings of the identifiers as in the text, without a renaming.
     pub fn original_spellings(tokens: &'t Tokens) -> Spellings<'t>
         ensures { result ≡ original_spellings tokens.now }
     {

@@ -9,12 +9,13 @@ use Rattle.ob0_scope_table.specs.BodyReplaced.{body_at, body_in, body_inside, cl
 use Rattle.ob0_scope_table.specs.OneBody.{is_in_block, is_in_body, is_in_procedure}
 use Rattle.ob0_scope_table.specs.declared.one_body.BodyPlace.{BodyPlace}
 
--- returns a module's tree of the code as a tree of the definitions, with token indexes as names
+-- returns the specification's `Tree` for the program's `ModuleTree`, with token indexes in place of
+-- names
 abbrev pub module_tree_of : ModuleTree → Tree ℕ module_text
 module_tree_of t = is_module t.name (block_of t.block) t.closing
 
--- Returns the place of a body with these statements, in a block with this closing name. Returns
--- None if `sought` is false or the statements have no identifier.
+-- Returns the place of a body with these statements, in a block with this closing name, if the
+-- condition `sought` is true. Returns None if it is false or the statements have no identifier.
 abbrev pub body_place_if : Bool → Tree ℕ (maybe body) → ℕ → Option BodyPlace
 body_place_if sought statements closing =
     if sought

@@ -1,4 +1,4 @@
--- Defines the entries of a table of ordinals.
+-- Defines the entries of a table of ordinals. An ordinal is a declaration's number.
 -- Rule: none; for contracts: ordinals in 32 bits.
 use Rattle.std.specs.Prelude.{ℕ, zero, suc, min, Option, Some, None, option_map}
 
@@ -11,7 +11,7 @@ greatest_ordinal = 4294967294
 abbrev pub stored_ordinal : Option ℕ → Option ℕ
 stored_ordinal ordinal = option_map (λ n. min n greatest_ordinal) ordinal
 
--- returns the ordinal that the number of an entry means: the number minus 1, or None for 0
+-- returns the ordinal that an entry with this number has: the number minus 1, or None for 0
 abbrev pub ordinal_from_number : ℕ → Option ℕ
 ordinal_from_number zero = None
 ordinal_from_number (suc n) = Some n

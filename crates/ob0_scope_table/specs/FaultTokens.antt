@@ -1,5 +1,5 @@
--- Defines faults with the tokens at which they begin and end. In two texts whose tokens have the
--- same spellings, the faults are at the same tokens.
+-- Defines faults with the tokens at which they begin and end, so that they can be moved to another
+-- text whose tokens have the same spellings.
 -- Rule: none; for contracts: the results that stay the same if all tokens keep their spellings.
 use Rattle.std.specs.Prelude.{◌≡◌, ◌==◌, ℕ, nat_lt, List, length, map, if◌then◌else◌}
 use Rattle.std.specs.List.{prefix_len}
@@ -34,8 +34,8 @@ fault_at source f =
     }
 
 -- Returns the index of the first token that begins at or after the byte offset `place`, or the
--- number of tokens if there is none. Also returns the number of tokens for offset 0, because no
--- token counts as beginning there.
+-- number of tokens if there is none. Also returns the number of tokens for offset 0. No token has
+-- this index, so `span_at` returns an empty span at offset 0 for it.
 abbrev pub index_starting_at : List Token → ℕ → ℕ
 index_starting_at tokens place =
     if place == 0 then length tokens

@@ -1,4 +1,5 @@
--- Defines a resolved module: the declaration to which each name is bound, and the faults of names.
+-- Defines a resolved module: the ordinal (the number) of the declaration to which each name is
+-- bound, and the faults of names.
 -- Rule: docs/LANGUAGE.md, Scopes, Faults of scopes and types, `Undeclared`.
 use Rattle.std.specs.Prelude.{◌≡◌, ℕ, ◌-◌, nat_lt, Bool, true, false, not, ◌==◌, List, [], ◌∷◌, ◌++◌, Option, None, slice_get, slice_index_or, if◌then◌else◌, is_some}
 use Rattle.std.specs.List.{filter, list_any}
@@ -74,7 +75,8 @@ undeclared_faults_by_table source ordinals (token ∷ tokens) =
     else record { code = code.Undeclared; span = span_at source token }
     ∷ undeclared_faults_by_table source ordinals tokens
 
--- A module with its resolved names. `ordinals` has the ordinal at each token. `declarations` has
+-- A module with its resolved names. `ordinals` has the ordinal (the declaration's number), or None,
+-- at each token. `declarations` has
 -- the tokens of the declaring names in text order. The first of these names has the ordinal
 -- `predeclared_count`. `uses` has the tokens of the looked-up names in text order.
 pub record Resolution : Type 0 where
@@ -84,8 +86,9 @@ pub record Resolution : Type 0 where
   pub uses : List ℕ
   pub faults : List Fault
 
--- States that the module's numbered tree results from replacing each identifier in its tree by the
--- label from this table of ordinals.
+-- States that the module's numbered tree (`numbered`), in which each bound name is replaced by its
+-- declaration's ordinal, results from this table of ordinals: each identifier of the module's tree
+-- is replaced by its label (`label_at`).
 abbrev pub IsNumberingTable : ParsedModule → List (Option ℕ) → Type 0
 IsNumberingTable m ordinals =
     numbered (named_tree_of m) ≡ mapped (label_at m.source ordinals) (value_at m.source) (tree_of m)

@@ -1,5 +1,6 @@
 //! Defines the result of resolving a module's names: the ordinal of the declaration at each token,
-//! the faults of names, and trees labelled with ordinals.
+//! the faults of names, and trees labelled with ordinals. An ordinal is a declaration's number: 0
+//! to 6 for the predeclared names, then 7 upwards for the text's declarations in text order.
 #![tactic(auto)]
 
 mod fault_tokens;

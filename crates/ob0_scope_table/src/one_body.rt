@@ -1,4 +1,4 @@
-//! Finds the body that contains a range of tokens, if there is one.
+//! Finds the body (the statements of one block) that contains a range of tokens, if there is one.
 
 ghost use Rattle.std.specs.Prelude.{◌≡◌};
 ghost use Rattle.ob0_tree.specs.ParsedModule.{tree_of};

@@ -1,4 +1,4 @@
-//! Stores an entry of a table of ordinals in 32 bits.
+//! Stores an entry of a table of ordinals in 32 bits. An ordinal is a declaration's number.
 
 ghost use Rattle.std.specs.Prelude.{◌≡◌};
 ghost use Rattle.ob0_scope_table.specs.Entries.{stored_ordinal};
@@ -8,8 +8,8 @@ use std::marker::Model;
 /// The greatest ordinal that an entry can have: 2^32 - 2.
 const GREATEST_ORDINAL: usize = 4294967294;
 
-/// An optional ordinal in 32 bits: the ordinal plus 1, or 0 for None. A text has far fewer
-/// declarations than there are such ordinals, so a table of entries can hold them all.
+/// An optional ordinal (a declaration's number) in 32 bits: the ordinal plus 1, or 0 for None. A
+/// text has far fewer declarations than an entry has values, so entries can hold all ordinals.
 #[derive(Clone, Copy)]
 pub struct OrdinalEntry {
     number: u32,

@@ -13,9 +13,10 @@ use ob0_tree::Module;
 use std::borrow::Cow;
 use std::marker::Model;
 
-/// The bindings of a module's names, as token indexes and ordinals. `ordinals` has an entry for
-/// each token. `declarations` has the tokens of the declaring names, and `occurrences` the tokens
-/// of the looked-up names. `faults` has the faults of names. Bindings borrow nothing.
+/// The bindings of a module's names, as token indexes and ordinals (the numbers of declarations).
+/// `ordinals` has an entry for each token: the ordinal of the identifier's declaration, or None.
+/// `declarations` has the tokens of the declaring names, and `occurrences` the tokens of the
+/// looked-up names. `faults` has the faults of names. Bindings borrow nothing.
 #[derive(Drop)]
 pub struct Bindings {
     pub ordinals: Vec<OrdinalEntry>,

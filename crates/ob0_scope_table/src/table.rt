@@ -1,4 +1,5 @@
-//! Finds the ordinal and the span of a token, and compares its spelling with a name.
+//! Finds a token's ordinal (the number of the declaration to which its identifier is bound) and its
+//! span, and compares its spelling with a name.
 
 ghost use Rattle.std.specs.Prelude.{◌≡◌};
 ghost use Rattle.ob0_tree.specs.Places.{text_at};

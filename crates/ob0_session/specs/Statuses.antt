@@ -1,4 +1,4 @@
--- Defines the exit statuses of the program after a fault of `serve`.
+-- Defines the program's exit status after each fault of `serve`.
 -- Rule: docs/PROTOCOL.md, The program 8.
 use Rattle.std.specs.Prelude.{ℕ}
 use Rattle.ob0_session.specs.declared.serving.ServeFault.{ServeFault}

@@ -1,5 +1,5 @@
--- Defines the diagnostics of a text: the complaints that are reported for the text, with positions
--- instead of byte offsets.
+-- Defines the diagnostics of a text. An analysis reports complaints: diagnostics that have byte
+-- offsets (`Complaint`). A `Diagnostic` has positions instead.
 -- Rule: docs/PROTOCOL.md, Publishing 3, JSON shapes 2.
 use Rattle.std.specs.Prelude.{◌≡◌, ℕ, ℤ, List, Some, map}
 use Rattle.ob0_rpc.specs.Writing.{Writes}
@@ -10,8 +10,8 @@ use Rattle.ob0_analysis.specs.Diagnosed.{Complaint, Reports}
 use Rattle.ob0_analysis.specs.Texts.{utf8}
 use Rattle.ob0_session_json.specs.Shapes.{Diagnostic, publication}
 
--- Returns the diagnostic that reports a complaint. It has the complaint's code and message, and the
--- positions at which the complaint starts and ends.
+-- Returns the diagnostic for a complaint about the text. The diagnostic has the complaint's code and
+-- message, and the positions at which the complaint starts and ends.
 abbrev pub diagnostic_of : Unit → List ℕ → Complaint → Diagnostic
 diagnostic_of unit text c = record {
   code = c.code;

@@ -1,4 +1,5 @@
--- Defines questions about the name or field at a position of a document's text, and their answers.
+-- Defines the answers to hover, definition, references and prepareRename: four questions about the
+-- name or field at a position of a document's text.
 -- Rule: docs/PROTOCOL.md, Requests on documents 2 to 5.
 use Rattle.std.specs.Prelude.{◌≡◌, ◌⊎◌, ℕ, List, Bool, Option, Some, None, map, option_map}
 use Rattle.serde_json.specs.Data.{Data, null, array, no_items}
@@ -19,7 +20,7 @@ use Rattle.ob0_analysis.specs.Diagnosed.{IsWellTypedModule}
 use Rattle.ob0_analysis.specs.Texts.{utf8}
 use Rattle.ob0_session_json.specs.Shapes.{hover_value, location_in}
 
--- A question about the name or field at a position.
+-- A question about the name or field at a position: hover, definition, references or prepareRename.
 pub data NameQuestion : Type 0 where
   hover_asked : NameQuestion
   definition_asked : NameQuestion
@@ -47,7 +48,7 @@ abbrev pub value_or_null : Option Data → Data
 value_or_null (Some value) = value
 value_or_null None = null
 
--- Returns the byte offset of a position in the text.
+-- Returns the byte offset in the text of the position `at.position`, which is counted in this unit.
 abbrev pub offset_in : Unit → List ℕ → DocumentPlace → ℕ
 offset_in unit text at = offset_of (width_of unit) text at.position
 
@@ -85,7 +86,7 @@ empty_answer definition_asked = null
 empty_answer (references_asked include) = array no_items
 empty_answer renaming_asked = null
 
--- ---- texts
+-- ---- the answer to a question about a text
 
 -- States that the value answers the question about a position in this text.
 abbrev pub AnswersQuestion : Unit → List ℕ → DocumentPlace → NameQuestion → Data → Type 0
@@ -95,8 +96,8 @@ AnswersQuestion unit text at question value =
     × AnswersInModule unit text at question names value)
     ⊎ (¬ IsWellTypedModule (utf8 text) × (value ≡ empty_answer question))
 
--- States that the bytes `content` are the text of the answer to a request with this id, which asks
--- this question.
+-- States that the bytes `content` are the text of a message that answers this question. The message
+-- has the id of the request that asks the question.
 abbrev pub RepliesToQuestion : Unit → Data → DocumentPlace → NameQuestion → List ℕ → List ℕ → Type 0
 RepliesToQuestion unit id at question text content =
     (value : Data)

@@ -42,9 +42,9 @@ abbrev pub edits_for_client : RequestedRename → List Edit → Data
 edits_for_client requested edits =
     workspace_edit requested.client requested.at.uri requested.version edits
 
--- States that the message answers the request for renaming in a document with this text. The
--- message has edits, refuses the renaming, or refuses because the text is ill-typed. Positions are
--- counted in this unit.
+-- States that the message answers the request for renaming in a document with this text. The message
+-- contains the edits, or it refuses the new name, or it refuses the request because the text isn't a
+-- well-typed module. Positions are counted in this unit.
 abbrev pub AnswersRenaming : Unit → RequestedRename → List ℕ → Data → Type 0
 AnswersRenaming unit requested text message =
     ((edits : List Edit)

@@ -2,8 +2,9 @@
 //!
 //! `inline_edits` of `ob0_edits` computes the edits. A range may end before its start, so the byte
 //! offsets of both are compared (`actions_position`, `actions_offset`). No law about the order of
-//! positions is needed. An action's title, definition and edits all depend on its `Inlining`
-//! (`Here` or `Everywhere`). To add an action, add an `Inlining` and a line in `title`.
+//! positions is needed. An action's title and edits depend on its `Inlining` (`Here` or
+//! `Everywhere`). To add an action, add a variant of `Inlining` and its title (`title_of` and
+//! `title`).
 
 ghost use Rattle.std.specs.Prelude.{◌≡◌, IfOk, map, string_bytes};
 ghost use Rattle.std.specs.List.{list_any};

@@ -1,8 +1,9 @@
 //! Answers requests about the name or field at a position: hover, definition, references and
 //! prepareRename.
 //!
-//! Each request is a type that computes its answer from a document (`DocumentRequest`). For the
-//! question that the request asks about the module, there is a second type (`Question`).
+//! Each request is a type that computes its answer from a document (`DocumentRequest`). To do so,
+//! the request asks a question about the document's module. Each question is also a type
+//! (`Question`).
 
 ghost use Rattle.std.specs.Prelude.{◌≡◌, IfOk, option_map, map};
 ghost use Rattle.serde_json.specs.Data.{array};

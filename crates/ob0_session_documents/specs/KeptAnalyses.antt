@@ -7,8 +7,9 @@ use Rattle.lru.specs.LruCache.{LruCache}
 use Rattle.ob0_text.specs.OpenDocuments.{OpenDocuments, InStep, document_at}
 use Rattle.ob0_session_documents.specs.declared.analyses.Analyses.{Analyses}
 
--- States that the cache contains an analysis of this text under this uri. Never holds for None,
--- which means that there is no cache yet.
+-- States that the cache contains an analysis of the text `text` under this uri. The specs see an
+-- analysis as the text that it analyses. Never holds for None, which means that there is no cache
+-- yet.
 abbrev pub CacheContains : Option (LruCache (String Global) (List ℕ)) → List ℕ → List ℕ → Type 0
 CacheContains None uri text = ⊥
 CacheContains (Some cache) uri text =

@@ -1,9 +1,10 @@
 //! Keeps the analyses of the documents that were changed or asked about most recently.
 //!
-//! The contracts only limit which analyses are kept after a call. Each of them was kept before
-//! (`AddsNoAnalysis`), was kept before for another document (`KeepsOnlyOthers`), or is the added
-//! one (`AddsOnlyAnalysis`). So code that drops more analyses also meets the contracts. `put` drops
-//! the least recently used analyses if the total size is too large.
+//! The contracts only limit which analyses are kept after a call: only analyses that were kept
+//! before (`AddsNoAnalysis`), only these without the analysis of one document (`KeepsOnlyOthers`),
+//! or only these and the added one (`AddsOnlyAnalysis`). So code that drops more analyses also
+//! meets the contracts. `put` drops the least recently used analyses if the total size is too
+//! large.
 
 ghost use Rattle.std.specs.Prelude.{◌≡◌, ◌∷◌, ◌≤◌, [], IfSome, IfOk};
 ghost use Rattle.ob0_session_documents.specs.KeptAnalyses.{KeepsAnalysis, AddsOnlyAnalysis, AddsNoAnalysis, KeepsOnlyOthers};
@@ -12,8 +13,8 @@ use lru::LruCache;
 use ob0_analysis::Analysis;
 use std::alloc::{AllocError, Global};
 
-/// The greatest total size, in bytes, if several analyses are kept: enough for about four analyses
-/// of the longest texts. A single analysis may be larger.
+/// The greatest total size in bytes of the kept analyses, enough for about four analyses of the
+/// longest texts. An analysis that is larger on its own is also kept, but then it is the only one.
 const MAX_BYTES: usize = 4_198_400;
 
 /// The number of bytes that each analysis counts for, in addition to the sizes of its uri and its

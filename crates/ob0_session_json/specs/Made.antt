@@ -1,4 +1,5 @@
--- Translates the code's results into JSON values and diagnostics of the specs.
+-- Translates the code's edits, code actions and diagnostics into JSON values and diagnostics of the
+-- specs.
 -- Rule: none; for contracts: what values of the code mean.
 use Rattle.std.specs.Prelude.{◌≡◌, List, map, string_bytes}
 use Rattle.serde_json.specs.Data.{Data}
@@ -7,11 +8,11 @@ use Rattle.ob0_session_json.specs.declared.edits.CodeAction.{CodeAction}
 use Rattle.ob0_session_json.specs.declared.edits.WorkspaceEdit.{WorkspaceEdit}
 use Rattle.ob0_session_json.specs.declared.publication.Diagnostic.{Diagnostic}
 
--- Returns the JSON value of the edits of one document.
+-- Returns the JSON value of the code's `WorkspaceEdit`, the edits of one document.
 abbrev pub workspace_edit_view : WorkspaceEdit → Data
 workspace_edit_view e = shapes.workspace_edit e.client e.uri.now e.version e.edits.now
 
--- Returns the JSON value of a code action.
+-- Returns the JSON value of the code's `CodeAction`.
 abbrev pub code_action_view : CodeAction → Data
 code_action_view a = shapes.action_value (workspace_edit_view a.edit) a.title.now
 

@@ -67,7 +67,7 @@ abbrev pub capabilities : ClientFeatures → Data
 capabilities client =
     object (member (codes "capabilities") (server_capabilities client) no_members)
 
--- ---- diagnostics
+-- ---- diagnostics, locations, edits and refusals
 
 -- A diagnostic: its code, its message, and its start and end.
 pub record Diagnostic : Type 0 where
@@ -115,8 +115,8 @@ document_edit uri version es =
     object (member (codes "edits") (edits_value es)
     (member (codes "textDocument") (versioned_document uri version) no_members))
 
--- Returns the edits as {"documentChanges":[..]} for a client that accepts this, otherwise as
--- {"changes":{u:[E,..]}}.
+-- Returns the JSON value of the edits: {"documentChanges":[..]} if the client accepts that form,
+-- otherwise {"changes":{u:[E,..]}}.
 abbrev pub workspace_edit : ClientFeatures → List ℕ → ℤ → List Edit → Data
 workspace_edit client uri version es =
     if client.accepts_document_changes

@@ -60,7 +60,7 @@ impl<'a> WriteJson for TextDocumentEdit<'a> {
     }
 }
 
-/// One version of a document.
+/// The uri and the version of a document to which edits apply.
 #[derive(Drop)]
 struct VersionedDocument<'a> {
     uri: &'a str,

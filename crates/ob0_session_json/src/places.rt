@@ -16,11 +16,11 @@ use ob0_text::Range;
 use std::alloc::{AllocError, Global};
 
 /// The size in bytes of the free space at the start of the buffer in which a location is built. The
-/// space has room for a comma and the location's text up to the end of the range.
+/// space has room for a comma and for the location's text up to and including its member `range`.
 const PREFIX_CAPACITY: usize = 192;
 
-/// An estimate of the length in bytes of the text that a location has before its uri. The estimate
-/// is used to reserve capacity for a list of locations.
+/// An estimate of the length in bytes of a location's text before its member `uri`. The estimate is
+/// used to reserve capacity for a list of locations.
 const TYPICAL_PREFIX: usize = 96;
 
 /// A location: a range of the document with this uri.
@@ -79,8 +79,8 @@ fn write_locations(out: &mut Vec<u8>, uri: &str, ranges: &[Range]) -> Result<(),
 }
 
 /// Returns a buffer in which the texts of locations are built, one after another. The buffer begins
-/// with 192 bytes of free space. The end of each location's text follows: a comma, the uri and the
-/// closing brace.
+/// with 192 bytes of free space. After them, the buffer has the end of each location's text: a
+/// comma, the member `uri` and the closing brace.
 fn location_buffer(alloc: Global, uri: &str) -> Result<Vec<u8>, AllocError>
     ensures { IfOk result (λ buffer. EndsInUri uri.now buffer.items) }
 {
@@ -90,9 +90,9 @@ fn location_buffer(alloc: Global, uri: &str) -> Result<Vec<u8>, AllocError>
     Ok(buffer)
 }
 
-/// Writes a comma and the start of a location's text, up to the end of the range, into the free
-/// space of the buffer. These bytes end right before the index 192. The rest of the location's text
-/// begins at that index. Returns the index of the comma.
+/// Writes a comma and the start of a location's text, up to and including the member `range`, into
+/// the free space of the buffer. These bytes end right before the index 192. The rest of the
+/// location's text begins at that index. Returns the index of the comma.
 fn write_location_before(buffer: &mut [u8], range: Range) -> usize
     requires { 192 ≤ length buffer.old }
     ensures within { result < 192 }

@@ -67,8 +67,8 @@ pub data Reply : Type 0 where
   -- The edits that format a text, or a refusal to format it. Arguments: the unit of positions, the request's id, the
   -- indentation and the characters of the text.
   lays_out : Unit → Data → Indent → List ℕ → Reply
-  -- The answer to a question about a position. Arguments: the unit of positions, the request's id, the document and
-  -- position, the question and the characters of the text.
+  -- The answer to hover, definition, references or prepareRename. Arguments: the unit of positions, the request's id,
+  -- the document and position, the question and the characters of the text.
   answers_name : Unit → Data → DocumentPlace → NameQuestion → List ℕ → Reply
   -- The edits that rename a declaration, or a refusal to rename it. Arguments: the unit of positions, the request and
   -- the characters of the text.
@@ -135,7 +135,8 @@ react_about_document s id (Some (InStep version text)) say = unchanged_with s (s
 react_about_document s id (Some OutOfStep) say = unchanged_with s (says (edit_refusal id (codes "out of step")))
 react_about_document s id None say = unchanged_with s (says (edit_refusal id (codes "unopened")))
 
--- Returns the reaction to a question about the name or field at a position.
+-- Returns the reaction to hover, definition, references or prepareRename: a question about the name
+-- or field at a position.
 abbrev pub react_to_question : ServerState → Data → DocumentPlace → NameQuestion → Reaction
 react_to_question s id at question =
     react_about_document s id (document_at s.held at.uri)
@@ -197,7 +198,7 @@ react_to_request Running s id method params =
 react_to_request ShutDown s id method params = react_with_error s id (minus 32600) (codes "shut down")
 react_to_request phase s id method params = unchanged_with s nothing
 
--- ---- notifications
+-- ---- the reactions to notifications
 
 -- Returns the exit status of a session that receives `exit` in this phase: 0 after `shutdown`,
 -- otherwise 1.
@@ -244,7 +245,7 @@ react_to_notification Running s method params = apply_notification s (notificati
 react_to_notification phase s method params =
     if bytes_eq method (codes "exit") then react_to_exit s else unchanged_with s nothing
 
--- ---- messages
+-- ---- the replies to one content, and to a conversation of contents
 
 -- Returns the reaction of a server in this state to a content with this meaning.
 abbrev pub react : ServerState → MessageMeaning → Reaction
@@ -254,8 +255,8 @@ react s response = unchanged_with s nothing
 react s (request id method params) = react_to_request s.phase s id method params
 react s (notice method params) = react_to_notification s.phase s method params
 
--- States that a server that has neither ended nor failed may answer this content with these
--- messages. `after` is the server's next state.
+-- States that a server in the state `before`, in which the session has neither ended nor failed, may
+-- reply to this content with the messages `sent`. `after` is the server's next state.
 abbrev pub AnswersBeforeEnd : ServerState → List ℕ → List (List ℕ) → ServerState → Type 0
 AnswersBeforeEnd before content sent after =
     (json : Option Data) × ReadsContent content json
@@ -274,8 +275,8 @@ AnswersInPhase phase before content sent after = AnswersBeforeEnd before content
 abbrev pub Answers : ServerState → List ℕ → List (List ℕ) → ServerState → Type 0
 Answers before content sent after = AnswersInPhase before.phase before content sent after
 
--- States that the messages `sent` begin with a reply to this content. `Follows` must hold for the
--- state after that reply and for the other messages of `sent`.
+-- States that the messages `sent` begin with the messages that reply to this content. `Follows` must
+-- hold for the state after that reply and for the remaining messages of `sent`.
 pub record AnswersFirst (before : ServerState) (content : List ℕ) (sent : List (List ℕ))
     (Follows : ServerState → List (List ℕ) → Type 0) : Type 0 where
   pub between : ServerState

@@ -1,4 +1,4 @@
--- Relates the messages and outcomes in the code to the replies and reactions in `Answers`.
+-- States which messages and outcomes of the code are the replies and reactions of `Answers`.
 -- Rule: none; for contracts: what values of the code mean.
 use Rattle.std.specs.Prelude.{◌≡◌, ℕ, ℤ, List, Option, Some, None, Vec, option_map, codes}
 use Rattle.std.specs.Option.{option_to_list}
@@ -21,8 +21,9 @@ SendsReply reply sent = AreContentsOfReply reply (option_to_list (option_map (λ
 abbrev pub Reacts : Reaction → Option (Vec ℕ Global) → ServerState → Type 0
 Reacts r sent new = (new ≡ r.after) × SendsReply r.say sent
 
--- States that the message is the reply to a request about a document that has this outcome. The
--- reply is the outcome's message, or a refusal if the document is out of step or isn't open.
+-- States that the message is the reply to a request about a document, if the request has this
+-- outcome. The reply is the outcome's message, or a refusal if the document is out of step or isn't
+-- open.
 abbrev pub RepliesForOutcome : Data → RequestOutcome → Option (Vec ℕ Global) → Type 0
 RepliesForOutcome id (Answered message) sent = sent ≡ Some message
 RepliesForOutcome id OutOfStep sent = SendsReply (says (edit_refusal id (codes "out of step"))) sent

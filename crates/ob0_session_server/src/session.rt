@@ -536,7 +536,7 @@ impl<T: TextStore> Session<T> {
     }
 }
 
-/// Returns the reply to a request about a document that has this outcome. The reply is the
+/// Returns the reply to a request about a document, from the request's outcome. The reply is the
 /// outcome's message, or a refusal if the document is out of step or isn't open.
 fn reply_for_outcome(
     alloc: Global,

@@ -1,4 +1,5 @@
-//! Defines the questions in the tests' tables, and asks them about texts.
+//! Defines the questions in the tests' tables, such as the type of a declaration or the text after
+//! a renaming, and asks them about texts.
 
 ghost use Rattle.std.specs.Prelude.{⊤};
 
@@ -31,8 +32,8 @@ pub enum Asked {
     NameAt(usize),
     /// The hover text of each name, followed by a bar.
     Shown,
-    /// The output and the end of a run on an input. The run has a bound on open calls, and a bound on the iterations of
-    /// a loop.
+    /// The output and the end of a run on an input. The run has a bound on open calls, and a bound
+    /// on the iterations of a loop.
     Run(&'static [i32], u32, u32),
     /// The names of the nodes to which the statements are lowered.
     Code,
@@ -136,8 +137,8 @@ fn answer_or_faults(
     }
 }
 
-/// Returns whether a row has its expected answer. If an allocation fails, returns whether it may
-/// fail (`Walk::Refused`).
+/// Returns whether a row has its expected answer. If an allocation fails, returns whether
+/// allocations may fail (`Walk::Refused`).
 fn has_expected_answer(alloc: Global, row: &Row, walk: Walk) -> bool {
     match answer_for_row(alloc, row, walk) {
         Ok(found) => found.as_str() == row.2,

@@ -1,4 +1,5 @@
-//! Tests the types of declarations, and the conflicts of new names.
+//! Tests the types of declarations, and the conflicts of new names. A declaration is given by its
+//! ordinal: predeclared names have the ordinals 0 to 6, and the text's declarations follow.
 
 use crate::asking::Asked::{Bound, Free, TypeOf};
 use crate::asking::{Row, Walk, first_wrong, push_number, push_span, rows};

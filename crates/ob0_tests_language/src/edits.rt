@@ -17,7 +17,7 @@ use ob0_types::WellTyped;
 use std::alloc::{AllocError, Global};
 use std::process::Abort;
 
-/// Appends a module's text after the edit that a question asks for, or the refusal.
+/// Appends the text that the module has after the edit in the question `asked`, or the refusal.
 pub fn push_edited(
     alloc: Global,
     out: &mut String,
@@ -29,7 +29,8 @@ pub fn push_edited(
     out.push_str(apply_or_refuse(alloc, &store, edits)?.as_str())
 }
 
-/// Returns the edits that a question asks for, or the refusal. If the question isn't about edits, the list is empty.
+/// Returns the edits for the question `asked`, or the refusal. If the question isn't about edits,
+/// the list is empty.
 fn edits_of<T: TextStore>(
     alloc: Global,
     store: &T,
@@ -167,8 +168,8 @@ const COMMENTED: &str = "MODULE M; CONST c (* five *) = 5; (* on *) BEGIN Write(
 const SEVERAL: &str =
     "MODULE M; CONST a = 9; c = -5; d = c; BEGIN Write(a - c); Write(c DIV 3) END M.";
 
-/// A module that is nested as deep as it may be. If its constant is inlined, the value is written in parentheses, which
-/// nest one level deeper.
+/// A module that is nested as deep as it may be. If its constant is inlined, the value is written
+/// in parentheses, which nest one level deeper.
 const DEEP: &str = "MODULE M; CONST c = -1; VAR x: INTEGER; BEGIN x := \
     ((((((((((((((((((((((((((((((((((((((((((((((((((\
     ((((((((((((((((((((((((((((((((((((((((((((((((((c\

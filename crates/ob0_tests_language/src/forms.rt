@@ -1,5 +1,7 @@
-//! Tests the forms in which the parser represents expressions. No contract distinguishes these
-//! forms. Also tests the sizes of nodes and of the entries for the bindings of tokens.
+//! Tests the forms in which the parser represents expressions: an expression that is a single
+//! factor is an `Expression::Factor`, any other is a `CompoundExpression`. No contract
+//! distinguishes these forms. Also tests the sizes of nodes and of the entries for the bindings of
+//! tokens.
 
 use ob0_parse::parse;
 use ob0_scan::{Tokens, scan};
@@ -23,8 +25,8 @@ const ONE_FACTOR: &str =
 const OPERATIONS: &str =
     "MODULE M; VAR x: INTEGER; BEGIN x := -x; x := +1; x := (x) * 2; x := a[i].b + 1; x := ~b & c; x := x = 1; x := (x) # y; x := a.b < 3; x := -(x) END M.";
 
-/// Returns whether a statement assigns a value in the small form, a single factor. Returns None if
-/// the statement isn't an assignment.
+/// Returns whether a statement assigns an `Expression::Factor`. Returns None if the statement isn't
+/// an assignment.
 fn assigns_factor(s: &Statement) -> Option<bool> {
     match s {
         Statement::Assign(a) => match &a.value {
@@ -35,8 +37,8 @@ fn assigns_factor(s: &Statement) -> Option<bool> {
     }
 }
 
-/// Returns whether the statements are this many assignments. If `factor` is true, all values must
-/// have the small form. If it is false, all must have another form.
+/// Returns whether the statements are this many assignments. If `factor` is true, each must assign
+/// an `Expression::Factor`. If it is false, none may.
 fn are_assignments(statements: &[Statement], count: usize, factor: bool) -> bool {
     for s in statements {
         if assigns_factor(s) != Some(factor) {
@@ -46,8 +48,8 @@ fn are_assignments(statements: &[Statement], count: usize, factor: bool) -> bool
     statements.len() == count
 }
 
-/// Returns whether the module's body consists of this many assignments. If `factor` is true, all
-/// values must have the small form. If it is false, all must have another form.
+/// Returns whether the module's body consists of this many assignments. If `factor` is true, each
+/// must assign an `Expression::Factor`. If it is false, none may.
 fn has_assignments(module: &Module<'_>, count: usize, factor: bool) -> bool {
     match &module.block().body {
         Some(body) => are_assignments(body.as_slice(), count, factor),
@@ -56,8 +58,7 @@ fn has_assignments(module: &Module<'_>, count: usize, factor: bool) -> bool {
 }
 
 /// Returns whether the tokens are a module whose body consists of this many assignments. If
-/// `factor` is true, all values must have the small form. If it is false, all must have another
-/// form.
+/// `factor` is true, each must assign an `Expression::Factor`. If it is false, none may.
 fn are_parsed(alloc: Global, tokens: &Tokens, count: usize, factor: bool) -> bool {
     match parse(alloc, tokens) {
         Ok(module) => has_assignments(&module, count, factor),
@@ -66,7 +67,7 @@ fn are_parsed(alloc: Global, tokens: &Tokens, count: usize, factor: bool) -> boo
 }
 
 /// Returns whether the text is a module whose body consists of this many assignments. If `factor`
-/// is true, all values must have the small form. If it is false, all must have another form.
+/// is true, each must assign an `Expression::Factor`. If it is false, none may.
 fn all_assign(alloc: Global, text: &str, count: usize, factor: bool) -> bool {
     match scan(alloc, text) {
         Ok(tokens) => are_parsed(alloc, &tokens, count, factor),

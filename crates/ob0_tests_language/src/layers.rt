@@ -1,5 +1,8 @@
 //! Tests a module that passes through the layers one by one: scan, parse, resolve and check. Each
 //! layer's function is imported from its own crate.
+//!
+//! An ordinal is the number of a declaration. The predeclared names have the ordinals 0 to 6, and
+//! the declarations of the module follow in text order.
 
 use ob0_parse::{ParseRefusal, parse};
 use ob0_run::laws::{
@@ -16,10 +19,12 @@ use std::process::Abort;
 const TEXT: &str =
     "MODULE M; CONST c = 3; VAR x: INTEGER; BEGIN x := c; IF x = c THEN Write(x) END END M.";
 
-/// The ordinals of the declarations to which the occurrences of the text are bound: INTEGER, x, c, x, c, Write and x.
+/// The ordinals of the declarations to which the occurrences of the text are bound: INTEGER, x, c,
+/// x, c, Write and x.
 static BOUND: &[usize] = &[0, 8, 7, 8, 7, 5, 8];
 
-/// Returns whether the names of the module are bound to their declarations and no fault is reported.
+/// Returns whether the names of the module are bound to their declarations and no fault is
+/// reported.
 fn is_bound(names: &Resolved<'_>) -> bool {
     for occurrence in 0..BOUND.len() {
         if names.declaration_of(occurrence) != Some(BOUND[occurrence]) {
@@ -32,7 +37,7 @@ fn is_bound(names: &Resolved<'_>) -> bool {
 }
 
 /// Returns whether the constant (ordinal 7) has its value and the variable (ordinal 8) has a type.
-/// Nothing else may have a value or a type, and there may be no faults.
+/// The variable must have no value, there must be no type for ordinal 9, and no faults.
 fn has_types(typed: &WellTyped<'_>) -> bool {
     typed.constant(7) == Some(Scalar::Number(3))
         && typed.constant(8) == None

@@ -106,7 +106,7 @@ fn names_and_fields_are_found(rt: HostRuntime) {
     assert!(rt; text.is_empty(), "{wanted} in {text}");
 }
 
-/// Appends the hover text of each identifier that has one, each followed by a bar.
+/// Appends the hover text of each identifier that has a hover text, followed by a bar.
 pub fn push_all_shown(
     alloc: Global,
     out: &mut String,

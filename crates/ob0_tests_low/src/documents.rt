@@ -95,7 +95,7 @@ fn is_known<T: TextStore>(documents: &Documents<T>, uri: &str, wanted: Known) ->
     }
 }
 
-/// Returns whether the replaced bytes are the expected ones.
+/// Returns whether the replaced bytes (`found`) are the expected ones (`wanted`).
 fn are_bytes(found: Option<ReplacedBytes>, wanted: Option<(usize, usize, usize)>) -> bool {
     match (found, wanted) {
         (Some(bytes), Some(wanted)) => (bytes.from, bytes.removed, bytes.added) == wanted,

@@ -82,8 +82,8 @@ impl Stores {
         self.whole.replace(range, new)
     }
 
-    /// Replaces the range of two columns that starts at this line and column, in both stores.
-    /// Returns whether both have the same text and replaced the same bytes.
+    /// Replaces the two units from this line and column on, in both stores. Returns whether both
+    /// stores have the same text and replaced the same bytes.
     fn change(&mut self, line: u64, column: u64) -> Result<bool, AllocError> {
         let range = range_of((line, column), (line, column.saturating_add(2)));
         let bytes = self.lines.replace_at(range, "é-")?;
@@ -131,9 +131,9 @@ fn agree(
     Ok(is_as_new(alloc, &stores.lines, unit)? && stores.have_same_places(10, 8))
 }
 
-/// Returns whether the stores agree after each of two separate changes. One change ends `further`
-/// lines later and counts in UTF-16 units. The other one begins and ends in the same line, and
-/// counts in bytes.
+/// Returns whether the stores agree after each of two separate changes, which begin in `line`. The
+/// change `wide` ends `further` lines later and counts in UTF-16 units. The change `narrow` ends in
+/// the same line and counts in bytes.
 fn agree_from(
     alloc: Global,
     text: &str,

@@ -74,8 +74,8 @@ fn outcome_in_place(
     }
 }
 
-/// Returns whether the scan that keeps the old tokens also has this outcome, compared with a scan
-/// from scratch.
+/// Returns whether `found`, the result of a scan that keeps the old tokens, has the outcome
+/// `outcome`. It is compared with `scanned`, the result of a scan from scratch.
 fn has_outcome(
     found: &Result<Rescan, ScanRefusal>,
     scanned: &Result<Tokens, ScanRefusal>,
@@ -101,8 +101,8 @@ struct ChangedRange {
     added: usize,
 }
 
-/// Scans a changed text again in two ways: one keeps the old tokens, the other replaces them in
-/// place. Returns the common outcome, or `Different`.
+/// Scans a changed text again in two ways: with the old tokens kept (`rescan`), and with the old
+/// tokens replaced in place (`rescan_in_place`). Returns the outcome of both scans, or `Different`.
 fn rescan_both(
     alloc: Global,
     old: Tokens,
@@ -118,8 +118,9 @@ fn rescan_both(
     compare(&beside, &placed, &scan(alloc, text), old_text)
 }
 
-/// Returns the common outcome of both scans of a changed text, compared with the scan from scratch
-/// (`scanned`). Returns `Different` if their outcomes differ.
+/// Returns the outcome that `beside` and `placed`, the two scans of a changed text, both have.
+/// They are compared with a scan from scratch (`scanned`). Returns `Different` if their outcomes
+/// differ.
 fn compare(
     beside: &Result<Rescan, ScanRefusal>,
     placed: &Result<RescanInPlace, RescanRefusal>,
@@ -134,7 +135,8 @@ fn compare(
     }
 }
 
-/// Replaces `middle` by `other`, scans the text again, and returns the outcome.
+/// Replaces `middle` by `other` in the text `front`, `middle`, `following`. Scans the text again in
+/// both ways (`rescan_both`), and returns the outcome.
 fn change(
     alloc: Global,
     front: &str,

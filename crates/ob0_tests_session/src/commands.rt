@@ -64,8 +64,8 @@ fn outcome_of(alloc: Global, call: Call, flushes: u32) -> (u8, usize) {
     (status, printed.passed_on)
 }
 
-/// A call, the number of flushes that succeed, the expected status, and the expected number of bytes that are passed
-/// on.
+/// A call, the number of flushes that succeed, the expected status, and the expected number of
+/// bytes that are passed on.
 static CALLS: &[(Call, u32, (u8, usize))] = &[
     (
         (CHECK, b"", b""),
@@ -80,8 +80,8 @@ static CALLS: &[(Call, u32, (u8, usize))] = &[
     ((RENAME_WORD, READS, b""), 1, (1, 0)),
 ];
 
-/// Returns the index, from 0, of the first call with another outcome than expected. Returns None if
-/// all calls have the expected outcome.
+/// Returns the index, from 0, of the first call that doesn't have its expected outcome. Returns
+/// None if all calls have it.
 fn first_astray(alloc: Global, calls: &[(Call, u32, (u8, usize))]) -> Option<usize> {
     for i in 0..calls.len() {
         if outcome_of(alloc, calls[i].0, calls[i].1) != calls[i].2 {
@@ -97,7 +97,7 @@ fn commands_print_what_they_flush(rt: HostRuntime) {
     assert!(rt; number.is_none(), "call {number:?}");
 }
 
-/// Returns the kind of a command line, in words.
+/// Returns the kind of a command line, such as `serve`.
 fn word_of(line: &CommandLine<'_>) -> &'static str {
     match line {
         CommandLine::Serve => "serve",
@@ -112,8 +112,8 @@ fn word_of(line: &CommandLine<'_>) -> &'static str {
     }
 }
 
-/// Returns the kind of the command line that these words spell, in words. If they are refused or
-/// memory runs out, returns these words instead.
+/// Returns the kind of the command line that `words` spell. Returns `refused` if the words are
+/// refused, and `out of memory` if an allocation fails.
 fn line_of(alloc: Global, words: &[&str]) -> &'static str {
     match command(alloc, words) {
         Ok(line) => word_of(&line),

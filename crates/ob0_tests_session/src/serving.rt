@@ -100,8 +100,8 @@ fn ends_flushed(alloc: Global, end: &ServeEnd, flushes: u32) -> bool {
     found.result == end.result && is_reported(found) && count.passed_on == count.written
 }
 
-/// Returns whether a conversation needs all its flushes. It must end with `Write` for each number
-/// of flushes below `end.flushes`, and as expected for this number.
+/// Returns whether a conversation needs exactly `end.flushes` flushes. With fewer flushes it must
+/// end with `Write`, and with this number it must end as expected.
 fn needs_each_flush(alloc: Global, end: &ServeEnd) -> bool {
     for flushes in 0..end.flushes {
         if !ends_flushed(alloc, end, flushes) {

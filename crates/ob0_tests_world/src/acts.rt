@@ -49,7 +49,8 @@ pub enum ShortReport {
     Dropped(u64),
 }
 
-/// A list of events in a world that counts positions in this unit, with the expected reports and results.
+/// A list of events in a world that counts positions in this unit, with the expected reports and
+/// results.
 pub struct Story {
     pub name: &'static str,
     pub unit: ob0_text::Unit,
@@ -103,8 +104,8 @@ fn rename_ask(alloc: Global, position: Position, name: &str) -> Result<Ask, Allo
     Ok(Ask::Rename { position, name })
 }
 
-/// Returns the ask that an act describes. An act that describes no other ask gives the ask for a
-/// formatting.
+/// Returns the ask that an act describes. Any act other than a rename or an inlining gives the ask
+/// for a formatting.
 fn ask_of(alloc: Global, act: Act) -> Result<Ask, AllocError> {
     match act {
         Act::Rename(line, character, name) => rename_ask(alloc, at(line, character), name),
@@ -190,7 +191,7 @@ fn sight_of(seen: &Seen) -> ShortReport {
     }
 }
 
-/// Makes an event happen in a world, and returns the result: the expected report or another one, or
+/// Makes an event happen in a world. Returns whether the report is the expected one (`wanted`), or
 /// why the event failed.
 pub fn way_of_event<T: TextStore>(
     world: &mut World<T>,

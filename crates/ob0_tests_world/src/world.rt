@@ -22,7 +22,7 @@ enum Manner {
 #[derive(Clone, Copy)]
 struct Outcome(StepsResult, u64, usize, usize);
 
-/// The outcome of a story that doesn't run as expected.
+/// The outcome of a story that doesn't run as expected: its numbers say nothing.
 const NOTHING: Outcome = Outcome(StepsResult::Unexpected, 0, 0, 0);
 
 /// Returns whether the edits found are the first of the expected edits, in order.

@@ -1,7 +1,7 @@
 -- Defines the byte offsets at which the lines of a text start. A line starts after an LF, and after
 -- a CR that no LF follows. So the two bytes next to an offset decide whether a line starts there.
 -- The text's start counts as an offset after an LF. So the whole text's starts are `starts_after 0
--- (LF ∷ bytes) []` (`StartLaws.table`). This follows from the starts after each character
+-- (LF ∷ bytes) []` (`StartLaws.table`), which is proved character by character
 -- (`following_ends`). If a run of bytes has two parts, the starts in the first part come first,
 -- then the starts in the second part (`following-append`). Whether a line starts at the end of a
 -- run depends on the first byte after the run, and on no later byte (`following-next`). The starts
@@ -46,8 +46,9 @@ AreAllBelow bound ns = (k : ℕ) → k < length ns → slice_index ns k < bound
 abbrev pub AreAllAtLeast : ℕ → List ℕ → Type 0
 AreAllAtLeast bound ns = (k : ℕ) → k < length ns → bound ≤ slice_index ns k
 
--- States that `count` is the number of starts below the offset. However the list is split into
--- starts below the offset and starts at or above the offset, the first part has the length `count`.
+-- States that the first part has the length `count`, however the list is split into starts below
+-- the offset and starts at or above the offset. So in an ascending list, `count` is the number of
+-- starts below the offset.
 abbrev pub IsCountBefore : List ℕ → ℕ → ℕ → Type 0
 IsCountBefore starts offset count =
     (front back : List ℕ) → starts ≡ front ++ back → AreAllBelow offset front → AreAllAtLeast offset back

@@ -1,15 +1,15 @@
-//! Keeps the part of a line that was counted last. The next position is usually near the end of
-//! this part, so counting starts there.
+//! Keeps the part of a line whose units were counted last. The next position is usually near the
+//! end of this part, so counting continues there.
 //!
 //! `Lines` keeps the counted part of the line of the last change: from the line's start to a place
 //! shortly before the change. The search for the start of the next change begins at the end of this
-//! part: stretches are removed there or added there (`shorten_to`, `extend_to`). So replacing all
-//! occurrences in one long line passes only over the text between the changes, whether they are
-//! made forwards or backwards. The part contains only text in front of the change
-//! (`kept_if_before`). So the change leaves the part valid, whatever lines the change makes.
-//! `place_after_counted` tests whether a line still starts at the part's start. If changes
-//! alternate between two places of one long line, each change passes over the text between these
-//! places.
+//! part. Short runs of characters (`stretches.rt`) are removed there or added there (`shorten_to`,
+//! `extend_to`). So replacing all occurrences in one long line passes only over the text between
+//! the changes, whether they are made forwards or backwards. The part contains only text in front
+//! of the change (`kept_if_before`). So it remains a piece of a line (`IsPieceOfLine`), even if the
+//! change adds or removes lines. `place_after_counted` tests whether a line still starts at the
+//! part's start. If changes alternate between two places of one long line, each change passes over
+//! the text between these places.
 
 ghost use Rattle.std.specs.Prelude.{◌≡◌, ◌+◌, ◌-◌, ◌<◌, ◌≤◌, ◌++◌, ℕ, List, IfSome, length, take};
 ghost use Rattle.ob0_text.specs.Units.{width_of};
@@ -26,7 +26,7 @@ pub struct CountedPiece {
     pub counted: Stretch,
 }
 
-/// Returns an empty piece, which is valid for every text.
+/// Returns an empty piece at the text's start. It is a piece of a line of every text.
 pub fn empty_counted_piece() -> CountedPiece
     ensures { (width : ℕ → ℕ) (text : List ℕ)
         → IsPieceOfLine width text result.start result.counted }
@@ -39,7 +39,8 @@ pub fn empty_counted_piece() -> CountedPiece
 
 impl CountedPiece {
     /// Returns this piece if it ends at or before the byte offset `offset`, otherwise an empty
-    /// piece. The result is valid for every text that has the same bytes before `offset`.
+    /// piece. If this piece is a piece of a line of some text, the result is a piece of a line of
+    /// every text with the same first `offset` bytes.
     pub fn kept_if_before(self, offset: usize) -> CountedPiece
         ensures { (width : ℕ → ℕ) (text rest : List ℕ)
             → IsPieceOfLine width text self.start self.counted
@@ -73,8 +74,9 @@ pub fn count_up_to(text: &str, unit: Unit, start: usize, last: CountedPiece, uni
     extend_to(text, unit, start, nothing, units)
 }
 
-/// Returns the piece `from` without its last characters, so that at most `units` units are left.
-/// The characters are removed from the end in steps of at most 64 bytes.
+/// Returns the piece `from` without its last characters, so that at most `units` units are left. A
+/// piece with at most `units` units is returned unchanged. The characters are removed from the end
+/// in steps of at most 64 bytes.
 fn shorten_to(text: &str, unit: Unit, start: usize, from: Stretch, units: u64) -> Stretch
     requires start { start ≤ length text.now }
     requires is { IsPieceOfLine (width_of unit) text.now start from }

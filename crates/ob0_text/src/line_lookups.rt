@@ -46,8 +46,8 @@ pub fn offset_in(text: &str, table: &LineTable, unit: Unit, position: Position) 
     place_of_position(text, table, unit, position).offset
 }
 
-/// The byte offsets at which a range starts and ends. `counted` is a counted piece of a line, from
-/// whose end the next search can begin.
+/// The byte offsets at which a range starts and ends, and a counted piece of a line. The next
+/// search can begin at the end of this piece.
 #[derive(Clone, Copy, Drop)]
 pub struct RangeOffsets {
     pub start: usize,

@@ -1,13 +1,13 @@
 //! Converts offsets to positions, and positions to offsets, in passes over a text.
 //!
 //! There are two kinds of passes: to a byte offset (`advance_to_offset`) and to a position
-//! (`advance_to_position`). Each first advances by whole stretches of a line (`stretches.rt`). Then
-//! the pass to an offset advances over ASCII bytes, even across lines (`skip_ascii`), because the
-//! places of edits are close together. This pass decodes only CR and characters outside ASCII. The
-//! pass to a position decodes each remaining character: in the store `Lines` fewer than 64
-//! characters of the line are left. The pass to an offset preserves the invariant `CanCountFrom`,
-//! and the pass to a position preserves `CanSeekFrom`. `StretchSteps` proves that a step over a
-//! whole stretch preserves both, from the step over one character.
+//! (`advance_to_position`). Both first advance by stretches of a line: runs of up to 64 bytes
+//! (`stretches.rt`). Then the pass to an offset advances over ASCII bytes, even across lines
+//! (`skip_ascii`), because the places of edits are close together. This pass decodes only CR and
+//! characters outside ASCII. The pass to a position decodes each remaining character. If the pass
+//! began in the position's line, fewer than 64 characters remain. The pass to an offset preserves
+//! the invariant `CanCountFrom`, and the pass to a position preserves `CanSeekFrom`. `StretchSteps`
+//! proves that a step over a whole stretch preserves both, because a step over one character does.
 
 ghost use Rattle.std.specs.Prelude.{◌≡◌, ◌↔◌, ◌==◌, ◌||◌, ◌+◌, ◌-◌, ◌<◌, ◌≤◌, IfOk, IfSome, IsTrue, None, map};
 ghost use Rattle.std.specs.Str.{IsCharBoundary, chars};

@@ -1,4 +1,4 @@
-//! Defines the plain store: a text as one `String`. Each look-up searches the text from its start.
+//! Defines the plain store `Whole`: a text as one `String`, without a table of its lines.
 
 ghost use Rattle.std.specs.Prelude.{string_bytes};
 ghost use Rattle.std.specs.Str.{chars};
@@ -9,7 +9,7 @@ use crate::replaced_bytes::ReplacedBytes;
 use crate::stores::TextStore;
 use std::alloc::{AllocError, Global};
 
-/// A text without a table of its lines. Each look-up begins at the text's start.
+/// A text without a table of its lines. Each look-up passes over the text from its start.
 #[derive(Drop)]
 pub struct Whole {
     text: String,

@@ -23,8 +23,8 @@ names_without_roles xs = map (λ x. x.1) xs
 abbrev pub leaves : {N : Type 0} {s : Sort} → Tree N s → List N
 leaves t = names_without_roles (identifiers role.Declaring t)
 
--- Returns a list of the one index `i` if this is the kind of an identifier, otherwise the empty
--- list.
+-- Returns a list that contains only the index `i` if this is the kind of an identifier. Otherwise
+-- returns the empty list.
 abbrev pub identifier_index : ℕ → TokenKind → List ℕ
 identifier_index i kind.Identifier = i ∷ []
 identifier_index i k = []

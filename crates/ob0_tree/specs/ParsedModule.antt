@@ -22,11 +22,11 @@ pub record ParsedModule : Type 0 where
 abbrev pub parsed_module : TextWithTokens → ModuleTree → ParsedModule
 parsed_module s t = record { source = s; name = t.name; block = t.block; closing = t.closing }
 
--- Returns the module's tree. Each identifier and integer is given by the index of its token.
+-- Returns the module's `Tree`, in which each identifier and integer is the index of its token.
 abbrev pub tree_of : ParsedModule → Tree ℕ module_text
 tree_of m = is_module m.name (block_of m.block) m.closing
 
--- Returns the module's tree, with the text of each name and the value of each integer.
+-- Returns the module's `Tree`, with the text of each name and the value of each integer.
 abbrev pub named_tree_of : ParsedModule → Tree (List ℕ) module_text
 named_tree_of m = tree_with_names m.source (tree_of m)
 

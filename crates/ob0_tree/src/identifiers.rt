@@ -1,4 +1,4 @@
-//! Lists the identifiers of a module.
+//! Lists the identifiers of a module in text order, each with its role and the index of its token.
 
 ghost use Rattle.std.specs.Prelude.{◌≡◌, ◌++◌, ◌∷◌, [], IfOk};
 ghost use Rattle.ob0_tree.specs.declared.tree.Role.TheVariants as roles;

@@ -1,8 +1,8 @@
 //! Computes the nesting depth of a module.
 //!
 //! The private functions add with saturation, so they need no precondition that bounds the depth:
-//! their contracts promise `capped (nesting ..)`. `Module::nesting` promises the exact depth,
-//! because a module has at most 100 levels by its invariant.
+//! their contracts promise `capped (nesting ..)`. `Module::nesting` promises the exact
+//! depth, because a module has at most 100 levels by its invariant.
 
 ghost use Rattle.std.specs.Prelude.{◌≡◌, ◌+◌};
 ghost use Rattle.ob0_tree.specs.Tree.{nesting};

@@ -3,8 +3,9 @@
 //! Each `Visitor` defines a ghost function `seen`, which returns the visitor's state after one
 //! identifier. A walk leads to the state that results from applying `seen` to each identifier of
 //! the tree, in text order. In proofs, the invariants of the recursive functions take the generic
-//! parameters `g` first, and `g.V.Visitor.seen` is the visitor's `seen`. A visitor that contracts
-//! mention needs a model: an equation of a `Vec` would also compare capacities.
+//! parameters `g` first, and `g.V.Visitor.seen` is the visitor's `seen`. A visitor with a `Vec`
+//! needs a model (`Model`), because an equation of two `Vec` values would also compare their
+//! capacities.
 
 #![tactic(auto, using(std::proofs::lemmas::Grind::common_steps, crate::proofs::Visits::visited_append))]
 

@@ -1,2 +1,3 @@
-//! Proves that each tree whose leaves are token indexes is the tree of a value of the code.
+//! Proves that each specification tree (`Tree`) whose leaves are token indexes is the tree of some
+//! syntax tree of the code, if it spells at most 1,048,576 tokens.
 #![tactic(auto)]

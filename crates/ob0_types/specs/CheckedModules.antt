@@ -55,7 +55,7 @@ abbrev pub AreFieldsIfTyped : Resolution → FieldLists → Type 0
 AreFieldsIfTyped names fields =
     WellTyped (named_tree_of names.module_read) → AreFieldListsOf names fields
 
--- states that the module is well-typed and its names are bound
+-- states that `names` has the right bindings of its module (`IsResolution`), and that this module is well-typed
 pub record IsWellTyped (names : Resolution) : Type 0 where
   pub resolved : IsResolution names
   pub well_typed : WellTyped (named_tree_of names.module_read)

@@ -6,9 +6,9 @@
 //! that owns the result. `Checked::from_parts` makes a `Checked` that borrows a result kept
 //! elsewhere, without allocating.
 //!
-//! Faults are sorted by (start, end, code). The lists of fields are made only for a well-typed
-//! module (`fields_from_table`). If one body changed, the lists are made from the lists of the
-//! previous text (`fields_after_body_change`). The invariant of `Checked` states that the lists
+//! Faults are sorted by (start, end, code). The lists of fields are made only for a module without
+//! faults of types (`fields_from_table`). If one body changed, the lists are made from the lists of
+//! the previous text (`fields_after_body_change`). The invariant of `Checked` states that the lists
 //! have the module's fields if the module has no fault. So the value of a `Checked` in contracts
 //! doesn't contain the lists.
 
@@ -41,8 +41,8 @@ const MAX_FAULTY_BODIES: usize = 32;
 
 /// The result of checking a module. If the module is well-typed, `known` has the table of its
 /// declarations, and `fields` the lists of its fields. `faults` has the first 100 faults of its
-/// scopes and types. `faulty` has the closing names of the bodies with a fault of types, as token
-/// indexes. The result borrows nothing.
+/// scopes and types. `faulty` has the closing names of the bodies with a fault of
+/// types, as token indexes. The result borrows nothing.
 #[derive(Drop)]
 pub struct ModuleTypes {
     pub known: Option<DeclarationTable>,
@@ -221,8 +221,8 @@ fn types_from_report<'t>(
     })
 }
 
-/// Returns the lists of the fields of a well-typed module. `known` is the table of the module's
-/// declarations. If there is no table, the module isn't well-typed and the lists are empty.
+/// Returns the lists of a module's fields, given the table of its declarations (`known`). If there
+/// is no table, the module isn't well-typed and the lists are empty.
 fn fields_from_table<'t>(
     alloc: Global,
     resolved: &'t Resolved<'t>,

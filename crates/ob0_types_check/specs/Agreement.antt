@@ -1,6 +1,6 @@
 -- States when the checker's facts at a place agree with the definitions. These facts are the types and the meanings of
 -- names that the checker has found.
--- Rule: none; for laws: what is known against what names and types are.
+-- Rule: none; for laws about the facts that the checker has found.
 use Rattle.std.specs.Prelude.{◌≡◌, ℕ, Bool, true, false, List, [], ◌∷◌, ◌++◌, Option, Some, None, option_map, option_and_then, is_some, slice_get}
 use Rattle.ob0_language_names.specs.Names.{Name}
 use Rattle.ob0_types_table.specs.declared.types.TypeId.{TypeId}
@@ -147,8 +147,8 @@ as_record boolean_shape = None
 as_record (array_shape k n s) = None
 as_record (record_shape k fs) = Some (record_shape k fs)
 
--- Returns the shape of a type. The list has the shapes of the arrays and records found so far, in order. Returns None
--- for the unknown type, and if the list has no such array or record.
+-- Returns the shape of a type. The list has the shapes of the array and record types found so far, in order. Returns
+-- None for the unknown type, and if the list has no such array or record type.
 abbrev pub shape_in : List Shape → TypeId → Option Shape
 shape_in shapes type.Integer = Some integer_shape
 shape_in shapes type.Boolean = Some boolean_shape
@@ -164,22 +164,22 @@ FieldsAgree shape (f ∷ fields) no_field_shape = ⊥
 FieldsAgree shape (f ∷ fields) (next_field_shape x s fs) =
     (f.name ≡ x) × (shape f.of ≡ Some s) × FieldsAgree shape fields fs
 
--- States that the parts of an array or record agree with its shape. `k` is the ordinal of its word ARRAY or RECORD: the
--- number of such words before this one in the text.
+-- States that the parts of an array or record type agree with its shape. `k` is the ordinal of the type's word ARRAY or
+-- RECORD: the number of such words before this one in the text.
 abbrev pub PartsAgree : (TypeId → Option Shape) → ℕ → PartTypes → Shape → Type 0
 PartsAgree shape k (of_elements n t) s = (u : Shape) × (s ≡ array_shape k n u) × (shape t ≡ Some u)
 PartsAgree shape k (of_fields fields) s =
     (fs : FieldShapes) × (s ≡ record_shape k fs) × FieldsAgree shape fields fs
 
--- states that an array or record has the parts, the number of scalars and the depth of its shape
+-- states that an array or record type has the parts, the number of scalars and the depth of its shape
 pub record CompositeAgrees (shape : TypeId → Option Shape) (m : CompositeType) (s : Shape) : Type 0 where
   pub parts : PartsAgree shape m.ordinal m.parts s
   pub scalars : m.size.scalars ≡ typing.scalars s
   pub depth : m.size.depth ≡ typing.depth s
 
--- States that each array and record in the second list agrees with the shape at the same index of the third list. The
--- first list has the shapes of the arrays and records before them. The parts of an array or record may only refer to
--- earlier arrays and records.
+-- States that each array or record type in the second list agrees with the shape at the same index of the third list.
+-- The first list has the shapes of the types that precede the second list. The parts of a type may only refer to
+-- earlier types.
 abbrev pub EntriesAgree : List Shape → List CompositeType → List Shape → Type 0
 EntriesAgree known [] [] = Unit {0}
 EntriesAgree known [] (s ∷ ss) = ⊥
@@ -187,6 +187,6 @@ EntriesAgree known (m ∷ ms) [] = ⊥
 EntriesAgree known (m ∷ ms) (s ∷ ss) =
     CompositeAgrees (shape_in known) m s × EntriesAgree (known ++ s ∷ []) ms ss
 
--- states that each array and record of a table agrees with the shape at the same index of the second list
+-- states that each array or record type in the first list agrees with the shape at the same index of the second list
 abbrev pub TableAgrees : List CompositeType → List Shape → Type 0
 TableAgrees made shapes = EntriesAgree [] made shapes

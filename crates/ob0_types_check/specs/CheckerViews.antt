@@ -1,6 +1,6 @@
 -- Converts the state of the code's walk (`CheckerState`) and its parts to values of the
 -- definitions.
--- Rule: none; for contracts: what the reporting walk knows.
+-- Rule: none; for contracts of the walk that reports faults.
 use Rattle.std.specs.Prelude.{◌≡◌, ℕ, ◌-◌, ◌^◌, Bool, List, map, ◌++◌, min, slice_get, slice_index_or, slice_set, string_bytes, Option, Some, None, option_and_then, option_map}
 use Rattle.ob0_scan.specs.declared.fault.Fault.{Fault}
 use Rattle.ob0_language_names.specs.Names.{Name}
@@ -40,7 +40,7 @@ entry_field_type None x = None
 entry_field_type (Some (made.Array a)) x = None
 entry_field_type (Some (made.Record r)) x = first_field_type r.fields x
 
--- returns the form of a type, given the code's list of arrays and records
+-- returns the form of a type, given the code's list of array and record types
 abbrev pub form_in : List TypeEntry → TypeId → Form TypeId
 form_in composites type.Integer = a_scalar
 form_in composites type.Boolean = a_scalar
@@ -48,7 +48,7 @@ form_in composites (type.Array i) = an_array (entry_element_type (slice_get comp
 form_in composites (type.Record i) = a_record (entry_field_type (slice_get composites i))
 form_in composites type.Unknown = unknown_form
 
--- returns the representation of types (`Types`) by the code's `TypeId`, given the code's list of arrays and records
+-- returns the representation of types (`Types`) by the code's `TypeId`, given the code's list of array and record types
 abbrev pub known_types : List TypeEntry → Types TypeId
 known_types composites =
     record {
@@ -105,7 +105,7 @@ size_of z = record { scalars = z.scalars; depth = z.depth }
 abbrev pub fields_in : List Field → List KnownField
 fields_in fields = map (λ f. record { name = string_bytes f.name; of = f.of }) fields
 
--- converts an array or record of the code to an array or record of the definitions
+-- converts an array or record type of the code to an array or record type of the definitions
 abbrev pub composite_type_of : TypeEntry → CompositeType
 composite_type_of (made.Array a) =
     record {

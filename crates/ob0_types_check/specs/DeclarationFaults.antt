@@ -150,7 +150,7 @@ unfoldable mutual
     h ← reported_sections (record { formals = []; following = p }) (formal_sections fs)
     reported_block (state_after_heading x h) b
 
--- returns the undeclared names of a module in text order, and then its faults of types
+-- returns the faults at the undeclared names of a module, in text order, and then the module's faults of types
 unfoldable pub reported_module : Resolution → List Fault
 unfolding reported_block
 reported_module r =

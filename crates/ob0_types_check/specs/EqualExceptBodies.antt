@@ -1,6 +1,6 @@
 -- States when two modules have the same tree and the same tokens, except in the statements of
 -- certain bodies.
--- Rule: none; for contracts: what stays where the names and numbers of some bodies are written otherwise.
+-- Rule: none; for contracts about a module in which the names and numbers of some bodies changed.
 use Rattle.std.specs.Prelude.{◌≡◌, ℕ, Bool, true, false, length}
 use Rattle.ob0_tree.specs.ParsedModule.{tree_of}
 use Rattle.ob0_tree.specs.Places.{text_at, value_at}
@@ -14,8 +14,8 @@ Unless true A = Unit {0}
 Unless false A = A
 
 -- States that each token of a tree has the property `P`, except in the statements of some blocks. These are the blocks
--- whose closing names pass the test `left_out`. In `BlockExceptBodies`, the ℕ is the token of the block's own closing
--- name.
+-- whose closing names pass the test `left_out`. In `BlockExceptBodies`, the ℕ is the token of the block's own
+-- closing name.
 abbrev mutual
   -- states that each token of a block has the property `P`, except in statements of blocks whose closing names pass
   -- `left_out`

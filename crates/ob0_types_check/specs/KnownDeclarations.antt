@@ -1,5 +1,5 @@
--- The state at a place of a module while its faults are reported: the declarations before the place, and the arrays and
--- records before it.
+-- The state at a place of a module while its faults are reported: the declarations, and the array and record types,
+-- that precede the place.
 -- Rule: docs/LANGUAGE.md, Scopes 2, Faults of scopes and types 2.
 use Rattle.std.specs.Prelude.{ℕ, nat_le, Bool, true, false, ◌==◌, ◌&&◌, List, [], ◌∷◌, ◌++◌, length, map, slice_get, slice_index_or, slice_set, if◌then◌else◌, Option, Some, None, option_and_then}
 use Rattle.ob0_scan.specs.declared.fault.FaultCode.TheVariants as code
@@ -23,13 +23,13 @@ pub record KnownField : Type 0 where
   pub name : Name
   pub of : TypeId
 
--- the parts of an array or a record: the number and type of its elements, or its fields in order
+-- the parts of an array or record type: the number and type of its elements, or its fields in order
 pub data PartTypes : Type 0 where
   of_elements : ℕ → TypeId → PartTypes
   of_fields : List KnownField → PartTypes
 
--- An array or record: its ordinal, its parts and its size. The ordinal is the number of words ARRAY and RECORD in the
--- text before the type's own word.
+-- An array or record type: its ordinal, its parts and its size. The ordinal is the number of words ARRAY and RECORD in
+-- the text before the type's own word.
 pub record CompositeType : Type 0 where
   pub ordinal : ℕ
   pub parts : PartTypes
@@ -37,14 +37,14 @@ pub record CompositeType : Type 0 where
 
 -- The state of a walk over declarations. `ordinals` has the ordinal of each identifier's declaration, by token.
 -- `declared` has the meaning of each declaration, by ordinal, or None if the meaning isn't found yet. `made` has the
--- arrays and records found so far. Types refer to arrays and records by their indexes in this list.
+-- array and record types found so far. A `TypeId` refers to such a type by its index in `made`.
 pub record KnownDeclarations : Type 0 where
   pub source : TextWithTokens
   pub ordinals : List (Option ℕ)
   pub declared : List (Option (Meaning TypeId))
   pub made : List CompositeType
 
--- returns whether two types are the same; two arrays, or two records, are the same if they have the same index
+-- returns whether two types are the same; two array types, or two record types, are the same if their indexes are equal
 abbrev pub same_type : TypeId → TypeId → Bool
 same_type type.Integer type.Integer = true
 same_type type.Boolean type.Boolean = true
@@ -58,7 +58,7 @@ abbrev pub element_type_in : PartTypes → TypeId
 element_type_in (of_elements n t) = t
 element_type_in (of_fields fields) = type.Unknown
 
--- returns the type of an array's elements; the unknown type if there is no array
+-- returns the type of an array type's elements; the unknown type for a record type and for None
 abbrev pub made_element_type : Option CompositeType → TypeId
 made_element_type None = type.Unknown
 made_element_type (Some m) = element_type_in m.parts
@@ -74,12 +74,13 @@ abbrev pub field_type_in : PartTypes → Name → Option TypeId
 field_type_in (of_elements n t) x = None
 field_type_in (of_fields fields) x = type_of_first_field fields x
 
--- returns the type of a record's field; None if there is no record or no such field
+-- returns the type of the first field with this name in a record type; None if the type has no such field, for an
+-- array type, and for None
 abbrev pub made_field_type : Option CompositeType → Name → Option TypeId
 made_field_type None x = None
 made_field_type (Some m) x = field_type_in m.parts x
 
--- returns the form of a type, given the arrays and records found so far
+-- returns the form of a type, given the array and record types found so far
 abbrev pub form_at : List CompositeType → TypeId → Form TypeId
 form_at made type.Integer = a_scalar
 form_at made type.Boolean = a_scalar
@@ -87,7 +88,7 @@ form_at made (type.Array i) = an_array (made_element_type (slice_get made i))
 form_at made (type.Record i) = a_record (made_field_type (slice_get made i))
 form_at made type.Unknown = unknown_form
 
--- returns the representation of types by `TypeId`, given the arrays and records found so far
+-- returns the representation of types (`Types`) by `TypeId`, given the array and record types found so far
 abbrev pub types_so_far : List CompositeType → Types TypeId
 types_so_far made =
     record {
@@ -142,7 +143,7 @@ scalar_size = record { scalars = 1; depth = 0 }
 abbrev pub empty_size : Size
 empty_size = record { scalars = 0; depth = 0 }
 
--- returns the size of an array or record; for None, the size of one scalar
+-- returns the size of an array or record type; for None, the size of one scalar
 abbrev pub composite_size : Option CompositeType → Size
 composite_size None = scalar_size
 composite_size (Some m) = m.size
@@ -164,12 +165,13 @@ pub record TypeWithState : Type 0 where
   pub of : TypeId
   pub following : KnownDeclarations
 
--- returns the type of an array or record with these parts at index `k` of the list
+-- returns the `TypeId` of an array or record type that has these parts and is at index `k` of the list of such types
 abbrev pub type_at_index : PartTypes → ℕ → TypeId
 type_at_index (of_elements n t) k = type.Array k
 type_at_index (of_fields fields) k = type.Record k
 
--- Appends an array or record with this ordinal, these parts and this size. Returns its type with the resulting state.
+-- Appends an array or record type with this ordinal, these parts and this size. Returns its `TypeId` with the resulting
+-- state.
 abbrev pub made : KnownDeclarations → ℕ → PartTypes → Size → TypeWithState
 made p ordinal parts size = record {
   of = type_at_index parts (length p.made);
@@ -190,8 +192,8 @@ type_too_large p word =
       faults = fault_at_token (facts_at p false) code.TypeTooLarge word;
     }
 
--- appends an array or record and returns its type; if its size isn't within the limits, reports `TypeTooLarge` at its
--- word ARRAY or RECORD instead
+-- appends an array or record type and returns its `TypeId`; if its size isn't within the limits, reports `TypeTooLarge`
+-- at `word`, its word ARRAY or RECORD, instead
 abbrev pub make_type : KnownDeclarations → ℕ → ℕ → PartTypes → Size → Reported TypeWithState
 make_type p word ordinal parts size =
     if is_within_limits size then without_fault (made p ordinal parts size) else type_too_large p word

@@ -1,4 +1,4 @@
--- Laws about the report of a module: if nothing is reported, the module is well-typed and the meaning of each
+-- Laws about the report of a module: if nothing is reported, the module passes the type check, and the meaning of each
 -- declaration is known.
 -- Rule: none; laws of reported faults.
 use Rattle.std.specs.Prelude.{◌≡◌, ℕ, ◌<◌, ◌≤◌, true, false, List, [], None, length, slice_index_or}
@@ -17,7 +17,8 @@ use Rattle.ob0_types_check.specs.Agreement.{DeclarationAgrees, TableAgrees, is_s
 use Rattle.ob0_types_check.specs.DeclarationFaults.{reported_block, reported_module}
 use Rattle.ob0_types_check.specs.KnownDeclarations.{KnownDeclarations, state_at_start}
 
--- States that a module is well-typed if no fault of types and no undeclared name is reported for it.
+-- States that a module passes the type check if no fault of types and no undeclared name is reported for it. The type
+-- check ignores duplicate declarations and wrong closing names.
 abbrev pub ModulesFit : Type 0
 ModulesFit =
     (r : Resolution)

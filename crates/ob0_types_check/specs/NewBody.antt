@@ -1,4 +1,4 @@
--- A module that is well-typed except for the statements of one body.
+-- A module that passes the type check if the statements of one body are left out.
 -- Rule: docs/LANGUAGE.md, Types 8; what is reported where one body was replaced.
 use Rattle.std.specs.Prelude.{◌≡◌, ℕ, true}
 use Rattle.ob0_language_names.specs.Names.{naming_by_spelling}
@@ -8,8 +8,8 @@ use Rattle.ob0_scope_table.specs.Resolution.{Resolution}
 use Rattle.ob0_tree.specs.ParsedModule.{tree_of}
 use Rattle.ob0_tree.specs.Places.{tree_with_names}
 
--- States that the module is well-typed if the statements of the block with this closing name are left out. Nothing is
--- required of these statements.
+-- States that the module passes the type check if the statements of the block with this closing name are left out.
+-- Nothing is required of these statements.
 pub record FitsWithout (r : Resolution) (closing : ℕ) : Type 0 where
   pub way : PathToBody
   pub at : closing_name_in_module way (tree_of r.module_read) ≡ closing

@@ -22,8 +22,8 @@ allowed_meanings true meaning = constant_meanings meaning
 allowed_meanings false meaning = meaning
 
 -- States that an operand has the type and the value of its expression. The value is None if the expression isn't
--- constant or its evaluation fails. Otherwise the value has the operand's type. If the operand's `is_place` is true,
--- the expression is a variable or parameter with its selectors.
+-- constant or its evaluation fails. Otherwise the value has the operand's type. If `is_place` is true, the
+-- expression is a variable or parameter with its selectors.
 pub record OperandFits
     {T N P : Type 0} (shape : T → Option Shape) (meaning : Meanings N Shape P) (o : Operand T)
     (e : Tree N expression) : Type 0 where
@@ -34,7 +34,8 @@ pub record OperandFits
   pub scalar : (v : Value) → o.value ≡ Some v → value_type v ≡ Some of
   pub placed : o.is_place ≡ true → variable_type meaning (lone_designator e) ≡ Some of
 
--- States that if no fault is reported for an expression, the operand found agrees with the expression.
+-- States that if no fault is reported for an expression, the operand found agrees with the expression. The facts known
+-- at the expression must be right (`Agrees`).
 abbrev pub ExpressionsFit : Type 0 → Type 0
 ExpressionsFit N =
     (p : KnownDeclarations) (only_constants : Bool) (shapes : List Shape) (label : ℕ → N) (meaning : TypeMeanings N)
@@ -54,6 +55,7 @@ pub record ConstantFits
   pub scalar : is_some (value_type value) ≡ true
 
 -- States that the value found for a constant is the value of the constant's right side if no fault is reported there.
+-- The facts known there must be right (`Agrees`).
 abbrev pub ConstantsFit : Type 0 → Type 0
 ConstantsFit N =
     (p : KnownDeclarations) (shapes : List Shape) (label : ℕ → N) (meaning : TypeMeanings N) (e : Tree ℕ expression)
@@ -72,7 +74,7 @@ pub record LengthFits
   pub counted : array_length value ≡ Some length
 
 -- States that the length found for an array is the value of the length's expression if no fault is reported for the
--- length.
+-- length. The facts known there must be right (`Agrees`).
 abbrev pub ReportedLengthsAgree : Type 0 → Type 0
 ReportedLengthsAgree N =
     (p : KnownDeclarations) (shapes : List Shape) (label : ℕ → N) (meaning : TypeMeanings N) (e : Tree ℕ expression)
@@ -82,7 +84,8 @@ ReportedLengthsAgree N =
     (reported_expression (facts_at p true) e >>= length_of (facts_at p false)).known
     (mapped label (value_at p.source) e)
 
--- States that statements are well-typed if no fault is reported for them.
+-- States that statements are well-typed if no fault is reported for them. The facts known at the statements must be
+-- right (`Agrees`).
 abbrev pub StatementsFit : Type 0 → Type 0
 StatementsFit N =
     (p : KnownDeclarations) (shapes : List Shape) (label : ℕ → N) (meaning : TypeMeanings N)
@@ -91,7 +94,7 @@ StatementsFit N =
     → reported_sequence (facts_at p false) statements ≡ []
     → sequence_fits meaning (mapped label (value_at p.source) statements) ≡ true
 
--- States that every type agrees with its shape if each array and record found does.
+-- States that every type agrees with its shape if each array and record type of the list `made` does.
 abbrev pub TableTypesAgree : Type 0
 TableTypesAgree =
     (made : List CompositeType) (shapes : List Shape)

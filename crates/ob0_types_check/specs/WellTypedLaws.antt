@@ -20,7 +20,8 @@ use Rattle.ob0_types_check.specs.StatementFaults.{reported_sequence, reported_ta
 use Rattle.ob0_types_check.specs.TypeFaults.{length_of, reported_constant}
 use Rattle.ob0_types_check.specs.Agreement.{Agrees, shape_in}
 
--- States that no fault is reported for an expression that has a type.
+-- States that no fault is reported for an expression that has a type. The facts known at the expression must be right
+-- (`Agrees`).
 abbrev pub NoFaultInExpressions : Type 0 → Type 0
 NoFaultInExpressions N =
     (p : KnownDeclarations) (only_constants : Bool) (shapes : List Shape) (label : ℕ → N) (meaning : TypeMeanings N)
@@ -30,7 +31,8 @@ NoFaultInExpressions N =
     ≡ true
     → (reported_expression (facts_at p only_constants) e).faults ≡ []
 
--- States that no fault is reported for a constant expression that has a value.
+-- States that no fault is reported for a constant expression that has a value. The facts known there must be right
+-- (`Agrees`).
 abbrev pub NoFaultInConstants : Type 0 → Type 0
 NoFaultInConstants N =
     (p : KnownDeclarations) (shapes : List Shape) (label : ℕ → N) (meaning : TypeMeanings N) (e : Tree ℕ expression)
@@ -38,7 +40,7 @@ NoFaultInConstants N =
     → is_some (constant_value meaning (mapped label (value_at p.source) e)) ≡ true
     → (reported_constant (facts_at p true) e).faults ≡ []
 
--- States that no fault is reported for a valid array length.
+-- States that no fault is reported for a valid array length. The facts known there must be right (`Agrees`).
 abbrev pub NoFaultInLengths : Type 0 → Type 0
 NoFaultInLengths N =
     (p : KnownDeclarations) (shapes : List Shape) (label : ℕ → N) (meaning : TypeMeanings N) (e : Tree ℕ expression)
@@ -49,7 +51,7 @@ NoFaultInLengths N =
     → (reported_expression (facts_at p true) e >>= length_of (facts_at p false)).faults ≡ []
 
 -- States that no fault is reported for an assignment's target that is a variable or parameter with well-typed
--- selectors.
+-- selectors. The facts known there must be right (`Agrees`).
 abbrev pub NoFaultInTargets : Type 0 → Type 0
 NoFaultInTargets N =
     (p : KnownDeclarations) (shapes : List Shape) (label : ℕ → N) (meaning : TypeMeanings N) (x : ℕ)
@@ -71,7 +73,8 @@ HaveDistinctConstructors shapes =
     (i j k : ℕ) (s t : Shape) → slice_get shapes i ≡ Some s → slice_get shapes j ≡ Some t
     → constructor_ordinal s ≡ Some k → constructor_ordinal t ≡ Some k → i ≡ j
 
--- States that no fault is reported for well-typed statements if no two types are made by the same word ARRAY or RECORD.
+-- States that no fault is reported for well-typed statements. The facts known at the statements must be right
+-- (`Agrees`), and no two types may be made by the same word ARRAY or RECORD.
 abbrev pub NoFaultInStatements : Type 0 → Type 0
 NoFaultInStatements N =
     (p : KnownDeclarations) (shapes : List Shape) (label : ℕ → N) (meaning : TypeMeanings N)
@@ -81,7 +84,7 @@ NoFaultInStatements N =
     → sequence_fits meaning (mapped label (value_at p.source) statements) ≡ true
     → reported_sequence (facts_at p false) statements ≡ []
 
--- States that every name of a well-typed module is bound.
+-- States that every name of a module that passes the type check is bound.
 abbrev pub NamesBound : Type 0
 NamesBound =
     (r : Resolution)
@@ -89,7 +92,7 @@ NamesBound =
     → passes_type_check naming_by_spelling (named_tree_of r.module_read) ≡ true
     → filter is_undeclared_fault r.faults ≡ []
 
--- States that no undeclared name and no fault of types is reported for a well-typed module.
+-- States that no undeclared name and no fault of types is reported for a module that passes the type check.
 abbrev pub NoFaultInModules : Type 0
 NoFaultInModules =
     (r : Resolution)

@@ -17,9 +17,9 @@ use Rattle.ob0_types_check.specs.TypeFaults.{length_of, type_named_at}
 abbrev pub array_size : ℕ → Size → Size
 array_size n z = record { scalars = z.scalars * n; depth = z.depth + 1 }
 
--- Returns the ordinal of the next word ARRAY or RECORD, that is, the number of such words before it. Each word makes
--- one type, and inner types are made first. So, if nothing is reported, the ordinal is the number of types made so far
--- plus `around`, the number of types around the word.
+-- Returns the number of array and record types made so far plus `around`, the number of types around the next word
+-- ARRAY or RECORD. Each such word makes one type, and inner types are made first. So, if nothing is reported, this sum
+-- is the ordinal of the next word: the number of such words before it in the text.
 abbrev pub next_type_ordinal : ℕ → KnownDeclarations → ℕ
 next_type_ordinal around p = length p.made + around
 

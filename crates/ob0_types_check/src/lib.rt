@@ -2,8 +2,9 @@
 //! Faults of scopes and types). If there are none, the report has the table of the module's
 //! declarations.
 //!
-//! The laws state that nothing is reported exactly if the module is well-typed. Every name of a
-//! well-typed module is bound.
+//! The laws state that nothing is reported exactly if the module passes the type check
+//! (`passes_type_check`). This check ignores duplicate declarations and wrong closing names. In a
+//! module that passes, every name is bound.
 #![tactic(auto)]
 
 pub mod laws;

@@ -4,28 +4,30 @@
 //! The type of an expression with a fault is unknown. A type that is written with a fault is
 //! unknown, as a whole or in parts. An unknown type causes no further fault.
 //!
-//! No other code decides whether a module is well-typed. The laws connect this walk with the
-//! definitions. A module that isn't well-typed has a reported fault (`modules_fit`), and a
-//! well-typed module has none (`no_fault_in_modules`). If a module has no faults, the walk has
-//! found the meaning of every declaration (`declarations_known`).
+//! No other code decides whether a module passes the type check (`passes_type_check`). The laws
+//! connect this walk with the definition of the check. If no fault is reported, the module passes
+//! (`modules_fit`). If the module passes, no fault is reported
+//! (`no_fault_in_modules`). If no fault is reported, the walk has found the meaning of
+//! every declaration (`declarations_known`).
 //!
 //! The definitions give the faults of each production of the grammar, in order, with codes and
 //! spans. They also give the result of the production, for example the type of an expression. A
 //! `Reported` is such a result with its faults. The operator `>>=` puts the faults of one step
 //! before the faults of the next step. Statements have faults but no result. The contract of a
-//! function that returns a value has one clause, `ReportsAfter before after x t`. The clause states
-//! that the function returns the result `x` of `t` and appends the faults of `t`. An operand has a
-//! value if its expression is constant. So one walk over an expression finds its type, its value,
-//! whether it may be a variable, and its first and last token.
+//! function that returns a value has one clause, `ReportsAfter before after x t`. The
+//! clause states that the function returns the result `x` of `t` and appends the faults of `t` to
+//! the list `before`. An operand has a value if its expression is constant. So one walk over an
+//! expression finds its type, its value, whether it may be a variable, and its first and last
+//! token.
 //!
 //! The definitions work over any representation of types that has an unknown type (`Types`). One
-//! such representation is the code's `TypeId`, which refers to arrays and records by their indexes
-//! in a list (`known_types`). Another is `Option Shape`, without a list; None represents the
-//! unknown type.
+//! such representation is the code's `TypeId`, which refers to array and record types by their
+//! indexes in a list (`known_types`). Another is `Option Shape`, without a list. None represents
+//! the unknown type there.
 //!
 //! The faults of written types, declarations and blocks depend on a state, `KnownDeclarations`.
-//! This state has the meanings of the declarations, by ordinal, and a list of the arrays and
-//! records with their parts. `declarations_in_state` converts the code's `CheckerState` to such a
+//! This state has the meanings of the declarations, by ordinal, and a list of the array and record
+//! types with their parts. `declarations_in_state` converts the code's `CheckerState` to such a
 //! state, so the definitions of expressions and statements don't mention `CheckerState`.
 //! `CheckerState` and the list of faults are separate values. The functions for expressions and
 //! statements take `&self` and the list. The functions for declarations take a `Reporter`, which
@@ -43,9 +45,9 @@
 //! `report_some_bodies` therefore walks the declarations, the changed body and the bodies that had
 //! faults, and skips all others. The report lists the bodies with faults, for the next change.
 //!
-//! If the statements of one body were replaced and the rest is well-typed, only these statements
-//! can have faults (`NewBody` of the proofs). `report_one_body` walks the declarations and that
-//! body.
+//! If the statements of one body were replaced, and the module passes the type check without them,
+//! only these statements can have faults (`NewBody` of the proofs). `report_one_body` walks the
+//! declarations and that body.
 //!
 //! The ordinal of a word ARRAY or RECORD is the number of such words before it in the text. The
 //! walk doesn't count these words. Each word makes one type, and inner types are made first. So, if
@@ -85,7 +87,7 @@ use std::alloc::{AllocError, Global};
 /// which a fault of types is reported.
 #[derive(Drop)]
 pub struct Report {
-    /// The faults at undeclared names in text order, and then the faults of types.
+    /// The faults at undeclared names, in text order, and then the faults of types.
     pub faults: Vec<Fault>,
     /// The table of declarations, or None if there is a fault.
     pub known: Option<DeclarationTable>,
@@ -147,7 +149,8 @@ pub fn report_some_bodies<'t>(
 }
 
 /// Returns the same report as `report_faults`, but walks only the declarations and the statements
-/// of the block with this closing name. The module must be well-typed without these statements.
+/// of the block with this closing name. Without these statements, the module must pass the type
+/// check.
 pub fn report_one_body<'t>(
     alloc: Global,
     resolved: &'t Resolved<'t>,
@@ -266,7 +269,7 @@ impl<'t> Reporter<'t> {
     }
 }
 
-/// Returns the faults at undeclared names from the module's faults of scopes, in text order.
+/// Returns the faults `Undeclared` from the module's faults of scopes, in the same order.
 fn unbound_names(alloc: Global, resolved: &Resolved) -> Result<Vec<Fault>, AllocError>
     ensures { IfOk result (λ faults. faults.items ≡ filter is_undeclared_fault resolved.now.faults) }
 {

@@ -63,7 +63,7 @@ AreInTextOrder source xs = AreAscending 0 (tokens_of xs) (length source.tokens)
 abbrev pub field_at : Resolution → ℕ → Option FieldName
 field_at r offset = field_at_offset r.module_read.source offset (field_identifiers r)
 
--- ---- declaring identifiers; `k` is the ordinal of the first ARRAY or RECORD of the part
+-- ---- the identifiers that declare fields; `k` is the ordinal of the first ARRAY or RECORD of the visited part
 
 abbrev mutual
   -- returns the fields that the declarations of a block declare, in text order; `k` is the ordinal of the block's first
@@ -115,7 +115,7 @@ field_index_in_record m k x =
     position_from (λ token. same_name (text_at m.source token) x) 0
     (field_tokens_of_record k (declared_fields m))
 
--- ---- laws
+-- ---- laws: renaming changes only a field's tokens, each field is declared, and the grammar determines the fields
 
 -- States that renaming the field `f` of the record with ordinal `k` in a well-typed module changes only the identifiers
 -- at the field's tokens. These identifiers get the name `new`.

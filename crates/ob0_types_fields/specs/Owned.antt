@@ -30,7 +30,7 @@ abbrev pub identifiers_without_owners : {s : Sort} → Tree ℕ s → List (ℕ 
 identifiers_without_owners t = unowned_identifiers (identifiers role.Declaring t)
 
 -- returns the type of a designator including one more selector; `s` is the type before this selector; returns None if
--- the selector doesn't fit that type
+-- `s` is unknown (None) or has no such field or element
 abbrev pub type_after_selector : {P : Type 0} {i : Item}
     → Meanings ℕ Shape P
     → Option Shape
@@ -201,7 +201,7 @@ abbrev pub owners_in_module : {P : Type 0}
 owners_in_module m (is_module x b closing) = (x, None) ∷ (owners_in_block m 0 b ++ ((closing, None) ∷ []))
 
 -- Returns the meanings of the names in a resolved module. Each name is given by the index of its token. `objects` gives
--- the object of the declaration with an ordinal. A token that isn't bound to a declaration has no object.
+-- the object of a declaration, by the declaration's ordinal. A token that isn't bound to a declaration has no object.
 abbrev pub meanings_by_token : (ℕ → Option (Object Shape Signature))
     → Resolution
     → Meanings ℕ Shape Signature
@@ -256,7 +256,7 @@ FieldsGiveAllOwners =
     → IsOwnerTable r.module_read (table_with_owners (replicate (length r.module_read.source.tokens) None)
     (fields_with_owners (owners_in_resolution r)))
 
--- ---- only the field identifiers, computed as by the code's walk
+-- ---- the field identifiers only, in the order in which the code's walk collects them
 
 -- returns a list of one field identifier if the identifier at token `x` has an owner, otherwise an
 -- empty list
@@ -264,7 +264,7 @@ abbrev pub field_if_owned : ℕ → Option ℕ → List FieldName
 field_if_owned x None = []
 field_if_owned x (Some k) = record { token = x; owner = k } ∷ []
 
--- Returns the field identifiers in statements.
+-- Returns the field identifiers in a statement, in a part of a statement or in a list of selectors.
 abbrev mutual
   -- returns the field identifiers in a statement or a part of a statement, in text order; parts without fields give an
   -- empty list

@@ -33,9 +33,9 @@ fn add_named_fields(
     Ok(())
 }
 
-/// Returns the ordinal of the next word ARRAY or RECORD: the old value of `made`, the number of
-/// such words so far. Then adds 1 to `made`. Returns an error if the sum doesn't fit in 64 bits. No
-/// text is long enough for that.
+/// Returns the ordinal of the next word ARRAY or RECORD: the old value of `made`, the number
+/// of such words so far. Then adds 1 to `made`. Returns an error if the sum doesn't fit in 64
+/// bits. No text is long enough for that.
 fn take_next_ordinal(made: &mut usize) -> Result<usize, AllocError>
     ensures { MatchResult result (λ n. (n ≡ made.old) × (made.new ≡ made.old + 1))
         (λ _. 2 ^ 64 ≤ made.old + 1) }
@@ -50,8 +50,8 @@ fn take_next_ordinal(made: &mut usize) -> Result<usize, AllocError>
     }
 }
 
-/// Appends the fields that a written type declares. `made` counts the words ARRAY and RECORD that
-/// precede the type in the module. On return, `made` also counts the words in the type.
+/// Appends the fields that a written type declares. `made` counts the words ARRAY and RECORD
+/// that precede the type in the module. On return, `made` also counts the words in the type.
 #[cycle(types)]
 pub(crate) fn add_type_fields(
     found: &mut FieldNameList,
@@ -74,8 +74,8 @@ pub(crate) fn add_type_fields(
 }
 
 /// Appends the fields that a record type declares, including the fields of records inside it.
-/// `made` counts the words ARRAY and RECORD that precede the type in the module. On return, `made`
-/// also counts the words in the type.
+/// `made` counts the words ARRAY and RECORD that precede the type in the module. On return,
+/// `made` also counts the words in the type.
 #[cycle(types)]
 fn add_record_fields(
     found: &mut FieldNameList,
@@ -95,9 +95,9 @@ fn add_record_fields(
 }
 
 /// Appends the fields of one group (`x, y: T`), then the fields that the group's type declares.
-/// `owner` is the ordinal of the record that contains the group. `made` counts the words ARRAY and
-/// RECORD that precede the group in the module. On return, `made` also counts the words in the
-/// group.
+/// `owner` is the ordinal of the record that contains the group. `made` counts the words
+/// ARRAY and RECORD that precede the group in the module. On return, `made` also counts the
+/// words in the group.
 #[cycle(types)]
 fn add_group_fields(
     found: &mut FieldNameList,
@@ -144,8 +144,8 @@ pub(crate) fn add_type_section_fields(
 }
 
 /// Appends the fields that the VAR section of a block declares. Appends nothing if the block has no
-/// such section. `made` counts the words ARRAY and RECORD that precede the section in the module.
-/// On return, `made` also counts the words in the section.
+/// such section. `made` counts the words ARRAY and RECORD that precede the section in the
+/// module. On return, `made` also counts the words in the section.
 pub(crate) fn add_variable_section_fields(
     found: &mut FieldNameList,
     made: &mut usize,
@@ -168,8 +168,8 @@ pub(crate) fn add_variable_section_fields(
 }
 
 /// Appends the fields that the types of formal parameters declare. Appends nothing if there is no
-/// parameter list. `made` counts the words ARRAY and RECORD that precede the parameters in the
-/// module. On return, `made` also counts the words in the parameters.
+/// parameter list. `made` counts the words ARRAY and RECORD that precede the parameters in
+/// the module. On return, `made` also counts the words in the parameters.
 pub(crate) fn add_formal_fields(
     found: &mut FieldNameList,
     made: &mut usize,

@@ -10,9 +10,9 @@ use crate::field_name::FieldNameList;
 use ob0_tree::{Block, Procedure};
 use std::alloc::AllocError;
 
-/// Appends the fields that a block and its procedures declare. `made` counts the words ARRAY and
-/// RECORD that precede the block in the module. On return, `made` also counts the words in the
-/// block.
+/// Appends the fields that a block and its procedures declare. `made` counts the words ARRAY
+/// and RECORD that precede the block in the module. On return, `made` also counts the words
+/// in the block.
 #[cycle(blocks)]
 pub(crate) fn add_block_declared_fields(
     found: &mut FieldNameList,
@@ -32,9 +32,9 @@ pub(crate) fn add_block_declared_fields(
     Ok(())
 }
 
-/// Appends the fields that a procedure declares in its parameters and its block. `made` counts the
-/// words ARRAY and RECORD that precede the procedure in the module. On return, `made` also counts
-/// the words in the procedure.
+/// Appends the fields that a procedure declares in its parameters and its block. `made`
+/// counts the words ARRAY and RECORD that precede the procedure in the module. On return,
+/// `made` also counts the words in the procedure.
 #[cycle(blocks)]
 fn add_procedure_declared_fields(
     found: &mut FieldNameList,

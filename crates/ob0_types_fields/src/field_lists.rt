@@ -16,8 +16,8 @@
 //!
 //! A list doesn't contain its text, so a caller may use the list with another text. A token index
 //! that this text doesn't have gets the empty span at the text's start. So the contract of
-//! `FieldList::at` has a premise (`AreInTextOrder`). A module's fields satisfy this premise
-//! (`fields_ascend`).
+//! `FieldList::at` has a premise (`AreInTextOrder`). A module's fields satisfy this
+//! premise (`fields_ascend`).
 
 ghost use Rattle.std.specs.Prelude.{◌≡◌, ◌++◌, List, [], false, true, map, nat_lt, IfOk, OnOk};
 ghost use Rattle.std.specs.List.{position_from};
@@ -89,7 +89,7 @@ impl FieldList {
 
     /// Returns the two lists for a changed text. In one body's statements some tokens differ from
     /// the old text, but the number of tokens is the same. The fields that these statements select
-    /// are found again. They replace the old fields at the same tokens.
+    /// are found again. The found fields replace the old fields at the same tokens.
     pub fn with_changed_body<'a, 't>(
         self,
         alloc: Global,
@@ -277,8 +277,9 @@ fn add_before(
     Ok(())
 }
 
-/// Appends to `found` the items of the list `fields` whose tokens are at or after `token`. Each
-/// appended item has the index of its token in the new text.
+/// Appends to `found` the items of the list `fields` whose tokens are at or after `token` in the
+/// old text. Each appended item gets the index of its token in the new text. `same` specifies the
+/// unchanged tokens.
 fn add_moved(
     found: &mut FieldNameList,
     fields: &[FieldName],

@@ -5,8 +5,9 @@
 //! of words ARRAY and RECORD before the record. The field's type is looked up in the RECORD with
 //! this ordinal (`typed_field`). To find that RECORD, a walk visits the module's declarations and
 //! counts the words ARRAY and RECORD (`constructed_types`). The walk takes the types of declared
-//! names from the table of declarations, so no array length is evaluated again. The walk's
-//! contracts don't depend on the ordinals in that table.
+//! names from the table of declarations, so no array length is evaluated again. That table also
+//! stores ordinals of records, but the walk counts the words itself. So the walk's contracts don't
+//! depend on the stored ordinals.
 //!
 //! Each function of the walk visits one part of the module. It takes the state of the search before
 //! this part and returns the state after this part (`Search`). So all the functions' contracts have

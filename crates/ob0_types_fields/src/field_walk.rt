@@ -7,8 +7,8 @@
 //! because they select no fields.
 //!
 //! Little work is done for parts that select nothing. An expression with a single factor is treated
-//! as that factor. The type of a designator without selectors isn't looked up. A selected name is
-//! looked up once, for its type.
+//! as that factor. The type of a designator without selectors isn't looked up. The name of a
+//! selected field is looked up once, which gives the field's type.
 
 ghost use Rattle.std.specs.Prelude.{◌≡◌, ◌++◌, ◌+◌, IfOk, Some, option_and_then, option_map};
 ghost use Rattle.ob0_tree.specs.View.{expression_of, compound_of, simple_of, term_of, factor_of, designator_of, selector_of, assignment_of, call_of, arguments_of_vec, statement_of, if_of, elsifs_of_vec, sequence_of_vec, body_of, block_of, procedure_of};
@@ -373,8 +373,9 @@ impl<'a, 't> FieldWalk<'a, 't> {
     }
 
     /// Appends the field identifiers in a block: first the identifiers in its declarations and
-    /// procedures, then the identifiers in its statements. `made` counts the words ARRAY and RECORD
-    /// that precede the block in the module. On return, `made` also counts the words in the block.
+    /// procedures, then the identifiers in its statements. `made` counts the words ARRAY and
+    /// RECORD that precede the block in the module. On return, `made` also counts the words
+    /// in the block.
     #[cycle(blocks)]
     pub(crate) fn add_block_fields(
         &self,
@@ -396,9 +397,9 @@ impl<'a, 't> FieldWalk<'a, 't> {
         self.add_body_fields(found, &b.body)
     }
 
-    /// Appends the fields that a procedure declares and selects. `made` counts the words ARRAY and
-    /// RECORD that precede the procedure in the module. On return, `made` also counts the words in
-    /// the procedure.
+    /// Appends the fields that a procedure declares and selects. `made` counts the words
+    /// ARRAY and RECORD that precede the procedure in the module. On return, `made` also
+    /// counts the words in the procedure.
     #[cycle(blocks)]
     fn add_procedure_fields(
         &self,

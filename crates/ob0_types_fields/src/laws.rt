@@ -1,26 +1,29 @@
-//! The laws that contracts cite. Each function does nothing; its contract is the law.
+//! Laws about the fields of a module: their owners, declarations, types and renaming. The owner of
+//! a field identifier is the ordinal of its record: the number of words ARRAY and RECORD before the
+//! record. An owner table gives the owner of each token (`IsOwnerTable`). Each function does
+//! nothing; its contract is the law.
 
 ghost use Rattle.ob0_types_fields.specs.FieldTypes.{FieldsHaveTypes};
 ghost use Rattle.ob0_types_fields.specs.Identifiers.{DuplicateHasDeclaringToken, FieldsAreDeclared, FieldsMatchGrammar, RenamingChangesFieldTokens};
 ghost use Rattle.ob0_types_fields.specs.Owned.{WalkFindsAllFields, ListedOwnersAreComplete, FieldsGiveAllOwners};
 ghost use Rattle.ob0_types_fields.specs.Owners.{RenamingFollowsOwners};
 
-/// Proves that a table has the owners of all fields of a well-typed module if it agrees with the
-/// list `owners_in_resolution`. At the token of each identifier, the table and the list must give
-/// the same owner. The list is computed from the objects of declarations.
+/// Proves that a table is an owner table of a well-typed module if it agrees with the list
+/// `owners_in_resolution`. At the token of each identifier, the table and the list must give the
+/// same owner. The list is computed from the objects of declarations.
 pub fn listed_owners_are_complete()
     ensures { ListedOwnersAreComplete }
 {}
 
-/// Proves that a table has the owners of all fields of a well-typed module once the module's field
-/// identifiers are entered in it. Before that, the table must have one entry for each token and no
-/// owners.
+/// Proves that a table is an owner table of a well-typed module once the owners of all its field
+/// identifiers are entered in the table. Before that, the table must have one entry for each token
+/// and no owners.
 pub fn fields_give_all_owners()
     ensures { FieldsGiveAllOwners }
 {}
 
-/// Proves that two lists are equal: the identifiers of a module that have an owner, and the field
-/// identifiers that the code's walk finds.
+/// Proves that the code's walk over a module finds exactly the identifiers that have an owner, in
+/// text order.
 pub fn walk_finds_all_fields()
     ensures { WalkFindsAllFields }
 {}
@@ -57,8 +60,7 @@ pub fn fields_have_types()
 {}
 
 /// Proves that renaming a field gives the new name to the identifiers at the field's tokens and
-/// changes nothing else. A table with the record of each token determines which tokens belong to
-/// the field.
+/// changes nothing else. An owner table of the module determines which tokens belong to the field.
 pub fn renaming_follows_owners()
     ensures { RenamingFollowsOwners }
 {}

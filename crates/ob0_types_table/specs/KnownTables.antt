@@ -1,4 +1,4 @@
--- The table of a module: its arrays and records, and the objects of its declarations.
+-- The table of a module's declarations: the module's array and record types, and the objects of its declarations.
 -- Rule: none; for contracts of the table of types and declarations.
 use Rattle.std.specs.Prelude.{ℕ, List, [], None, Option, option_and_then, slice_index_or}
 use Rattle.ob0_language_values.specs.Values.{Shape}
@@ -8,7 +8,7 @@ use Rattle.ob0_language_types.specs.Expressions.{Object}
 use Rattle.ob0_types_table.specs.Tables.{object_view, extended_shapes}
 use Rattle.ob0_language_types.specs.WellTyped.{Signature}
 
--- a table: the entries of the arrays and records, and the object of each declaration, by ordinal, or None if the
+-- a table: the entries of the array and record types, and the object of each declaration, by ordinal, or None if the
 -- declaration has no object
 pub record Tables : Type 0 where
   pub shapes : List code.TypeEntry

@@ -1,5 +1,5 @@
--- A type with its parts.
--- Rule: none; for contracts: a type with its parts.
+-- A type with its parts (`Parts`): the type's shape, its size, and whether it is a type of the module.
+-- Rule: none; for contracts about `Parts`.
 use Rattle.std.specs.Prelude.{Bool, true, false, List, Option, Some, None, slice_get}
 use Rattle.ob0_types_table.specs.KnownTables.{Tables}
 use Rattle.ob0_types_table.specs.Tables.{HasSizeOfShape, entry_shape, faulty_shape}
@@ -19,7 +19,8 @@ parts_shape shapes (parts.Array a) = entry_shape shapes (made.Array a)
 parts_shape shapes (parts.Record r) = entry_shape shapes (made.Record r.now)
 parts_shape shapes parts.Faulty = faulty_shape
 
--- states that an array or record has the number of scalars and the depth of its shape; states nothing for other types
+-- states that an array or record type has the number of scalars and the depth of its shape; states nothing for any
+-- other type
 abbrev pub PartsHaveSizes : List Shape → Parts → Type 0
 PartsHaveSizes shapes parts.Integer = Unit {0}
 PartsHaveSizes shapes parts.Boolean = Unit {0}

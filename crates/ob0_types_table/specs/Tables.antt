@@ -1,6 +1,6 @@
 -- The meaning of the checker's table in contracts: its types as shapes, and its declarations as
 -- objects.
--- Rule: none; for contracts: what the checker's tables mean.
+-- Rule: none; for contracts about the checker's tables.
 use Rattle.std.specs.Prelude.{◌≡◌, ℕ, ◌<◌, Bool, true, false, List, [], ◌∷◌, ◌++◌, map, length, slice_index_or, All, Some, None, Option, string_bytes}
 use Rattle.ob0_language_values.specs.Scalars.{scalar_value}
 use Rattle.ob0_language_values.specs.Values.{FieldShapes, Shape, array_shape, boolean_shape, integer_shape, next_field_shape, no_field_shape, record_shape}
@@ -54,7 +54,7 @@ abbrev pub entry_shape : List Shape → code.TypeEntry → Shape
 entry_shape shapes (made.Array a) = array_shape a.ordinal a.length (type_shape shapes a.element)
 entry_shape shapes (made.Record r) = record_shape r.ordinal (field_shapes shapes r.fields)
 
--- returns the type of an entry that has the index `place` in the table
+-- returns the `TypeId` of an entry that has the index `place` in the table
 abbrev pub type_of_entry : code.TypeEntry → ℕ → TypeId
 type_of_entry (made.Array a) place = type.Array place
 type_of_entry (made.Record r) place = type.Record place

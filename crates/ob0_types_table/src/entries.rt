@@ -1,4 +1,4 @@
-//! Adds entries to the table of a module's arrays and records.
+//! Adds an entry to the table of a module's array and record types.
 
 ghost use Rattle.std.specs.Prelude.{◌≡◌, ◌++◌, ◌∷◌, [], length, IfOk, OnOk, OnErr};
 ghost use Rattle.ob0_types_table.specs.Tables.{type_of_entry};
@@ -7,8 +7,8 @@ use crate::known::TypeEntry;
 use crate::types::TypeId;
 use std::alloc::AllocError;
 
-/// Appends the entry of an ARRAY or RECORD and returns the entry's type. No other entry has the
-/// same type. If the allocation fails, the table is unchanged.
+/// Appends the entry of an array or record type and returns the `TypeId` that refers to this entry.
+/// If the allocation fails, the table is unchanged.
 pub fn add_entry(entries: &mut Vec<TypeEntry>, entry: TypeEntry) -> Result<TypeId, AllocError>
     ensures made { IfOk result (λ of. of ≡ type_of_entry entry (length entries.old.items)) }
     ensures added { OnOk result (entries.new.items ≡ entries.old.items ++ entry ∷ []) }
@@ -19,7 +19,7 @@ pub fn add_entry(entries: &mut Vec<TypeEntry>, entry: TypeEntry) -> Result<TypeI
     Ok(of)
 }
 
-/// Returns the type of an entry that has the index `place` in the table.
+/// Returns the `TypeId` of an entry that has the index `place` in the table.
 fn type_of_entry(entry: &TypeEntry, place: usize) -> TypeId
     ensures { result ≡ type_of_entry entry.now place }
 {

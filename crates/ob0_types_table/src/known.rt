@@ -1,10 +1,11 @@
-//! The table of a valid module: its arrays and records, and the objects of its declarations.
+//! Defines the table of a module's declarations (`DeclarationTable`): the module's array and record
+//! types, and the object of each declaration.
 //!
-//! A type refers to the entry of an array or record by the entry's index. An entry refers only to
-//! earlier entries (`AreEntriesInOrder`), so `shapes_of` can compute the shapes of the entries from
-//! first to last. In contracts, the value of a `DeclarationTable` is its two lists. The shapes
-//! aren't part of this value, because the definitions' `Shape` isn't a type of the code. The shapes
-//! are computed from it.
+//! A `TypeId` refers to the entry of an array or record type by the entry's index. An entry refers
+//! only to earlier entries (`AreEntriesInOrder`), so `shapes_of` can compute the shapes of the
+//! entries from first to last. In contracts, the value of a `DeclarationTable` is its two lists.
+//! The shapes aren't part of this value, because the definitions' `Shape` isn't a type of the code.
+//! They are computed from this value.
 
 ghost use Rattle.std.specs.Prelude.{◌≡◌, List, option_map};
 ghost use Rattle.ob0_language_values.specs.Values as shape;
@@ -96,9 +97,9 @@ pub enum Object {
     StandardProcedure(StandardProcedure),
 }
 
-/// The table of a module's declarations. `shapes` has the arrays and records, each of which refers
-/// only to earlier ones. `objects` has the object of each declaration, by ordinal, or None if there
-/// is none.
+/// The table of a module's declarations. `shapes` has the array and record types, each of which
+/// refers only to earlier ones. `objects` has the object of each declaration, by ordinal, or None
+/// if the declaration has no object.
 #[derive(Drop)]
 pub struct DeclarationTable {
     shapes: Vec<TypeEntry>,
@@ -144,8 +145,8 @@ impl DeclarationTable {
     ghost use Rattle.ob0_language_values.specs.Scalars.{scalar_value};
     ghost use Rattle.ob0_language_values.specs.Values.{integer_shape};
 
-    /// Makes the table of a module from its arrays and records and from the objects of its
-    /// declarations.
+    /// Makes the table of a module from the entries of its array and record types and from the
+    /// objects of its declarations.
     pub fn new(shapes: Vec<TypeEntry>, objects: Vec<Option<Object>>) -> DeclarationTable
         requires { AreEntriesInOrder [] shapes.items }
         ensures { result ≡ record { shapes = shapes.items; objects = objects.items } }
@@ -160,7 +161,7 @@ impl DeclarationTable {
         self.objects.len()
     }
 
-    /// Returns the entries of the arrays and records. Each refers only to earlier ones.
+    /// Returns the entries of the array and record types. Each entry refers only to earlier ones.
     pub fn shapes(&self) -> &[TypeEntry]
         ensures { result.now ≡ self.now.shapes }
     {
@@ -213,8 +214,8 @@ impl DeclarationTable {
         }
     }
 
-    /// Returns the entry of the array or record with the index `place` in the table. Returns None
-    /// if there is no such index.
+    /// Returns the entry of the array or record type with the index `place` in the table. Returns
+    /// None if there is no such index.
     pub(crate) fn entry(&self, place: usize) -> Option<&TypeEntry>
         ensures found { option_map (λ m. m.now) result ≡ slice_get self.now.shapes place }
         ensures shape { MatchOption result

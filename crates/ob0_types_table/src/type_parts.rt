@@ -1,4 +1,4 @@
-//! Types with their parts.
+//! Gives the parts of a type (`Parts`), for example an array's length and element type.
 //!
 //! The parts of an array or record include its number of scalars and its depth (`PartsHaveSizes`).
 //! The parts of a `TypeId` are `Faulty` exactly if the `TypeId` isn't one of the module's types

@@ -1,4 +1,4 @@
-//! The checker's representation of a type.
+//! Defines the checker's representation of a type (`TypeId`).
 
 ghost use Rattle.std.specs.Prelude.{◌≡◌, List, Some};
 ghost use Rattle.ob0_language_values.specs.Scalars.{scalar_value};

@@ -1,4 +1,5 @@
--- Defines the meaning of the code's events, publications and results in the model.
+-- Defines the model's events, publications and applied edits for those of the code. The model is
+-- `ClientAndServer`.
 -- Rule: none; for contracts: what values of the code mean.
 use Rattle.std.specs.Prelude.{ℕ, List, map, string_bytes, Vec}
 use Rattle.std.specs.Str.{chars}
@@ -39,10 +40,10 @@ publication_of m =
 abbrev pub content_bytes : List (Vec ℕ Global) → List (List ℕ)
 content_bytes contents = map (λ v. v.items) contents
 
--- returns the applied edits in the results that the code returns
+-- returns the applied edits in `p`, the results that the code returns
 abbrev pub played_edits : played.Played → List Applied
 played_edits p = map applied_of p.applied.items
 
--- returns the publications in the results that the code returns
+-- returns the publications in `p`, the results that the code returns
 abbrev pub played_publications : played.Played → List Made
 played_publications p = map publication_of p.made.items

@@ -1,6 +1,7 @@
 -- Defines the exchanges of a session and an editor that keeps ob0's rules, and states the
 -- guarantees for them. The session may be any that the protocol (`Answers`) allows. An exchange has
--- this session in place of the model's server.
+-- this session in place of the model's server. An ask is a request whose answer the editor may
+-- apply: a rename, an inlining or a formatting. A content is the bytes of one message.
 -- Rule: LSP 3.17; for a law of every editor with a session.
 use Rattle.std.specs.Prelude.{◌≡◌, ◌⊎◌, ◌<◌, ◌≤◌, ◌==◌, map, filter_map, ⊤, ℕ, ℤ, List, [], ◌∷◌, ◌++◌, All, fold, Bool, true, false, Option, Some, None, MatchOption, option_map, option_and_then, Result, Ok, Err, if◌then◌else◌, codes}
 use Rattle.std.specs.Str.{bytes_eq}
@@ -134,7 +135,7 @@ pub record BeginsExchange (unit : Unit) (x : Exchange) : Type 0 where
         applied = [];
       }
 
--- ---- other messages
+-- ---- messages outside the model, such as a hover request
 
 -- States that the request changes nothing in the session: it is neither `initialize` nor
 -- `shutdown`. A request for edits also changes nothing, because the session only answers it. An
@@ -170,7 +171,7 @@ abbrev pub IsUnmodeledContent : List SentRequestId → List ℕ → Type 0
 IsUnmodeledContent ids content =
     (json : Data) × ReadsContent content (Some json) × IsUnmodeledMessage ids (meaning_of json)
 
--- ---- asks and notifications
+-- ---- messages of the model: asks and notifications
 
 -- states that position `p` isn't after position `q` in a text
 abbrev pub IsAtOrBefore : Position → Position → Type 0
@@ -255,7 +256,7 @@ AreMessagesToSession client ids requested [] (content ∷ contents) = ⊥
 AreMessagesToSession client ids requested (Some m ∷ messages) [] = ⊥
 AreMessagesToSession client ids requested (None ∷ messages) [] = ⊥
 
--- ---- what may happen
+-- ---- turns, and the exchanges to which they lead
 
 -- Returns the message to the editor in a content. None if the content has no such message. The
 -- answer's id shows, by the list `ids`, which ask is answered.
@@ -283,7 +284,7 @@ EditorReadsFirst (content ∷ rest) old new =
 abbrev pub with_contents : Wire → List (List ℕ) → Wire
 with_contents wire contents = record wire { to_server = wire.to_server ++ contents }
 
--- states that this turn may lead from `old` to `new`
+-- states that this turn (`Turn`) may lead from the exchange `old` to the exchange `new`
 abbrev pub Exchanges : Exchange → Turn → Exchange → Type 0
 Exchanges old (editor_does move) new =
     (done : ActResult)
@@ -322,7 +323,7 @@ ExchangeCourse old [] new = new ≡ old
 ExchangeCourse old (turn ∷ turns) new =
     (between : Exchange) × Exchanges old turn between × ExchangeCourse between turns new
 
--- ---- the law
+-- ---- the law that every exchange follows the model
 
 -- states that the editor reads no message in the content, whatever requests the editor sends later
 abbrev pub NeverMeansMessage : List SentRequestId → List ℕ → Type 0
@@ -375,7 +376,7 @@ EveryExchangeFollowsModel =
     → ExchangeCourse begin turns now
     → FollowsModel unit turns now
 
--- ---- the end
+-- ---- the end of a session: `shutdown` and `exit`
 
 -- states that the content is the request `shutdown` with this id
 pub record IsShutdown (id : Data) (content : List ℕ) : Type 0 where
@@ -488,7 +489,7 @@ HoldsForEveryExchange =
     → ExchangeCourse begin turns now
     → HoldsOfExchange begin now
 
--- ---- what a world plays
+-- ---- the law that each list of events that `play` plays is an exchange
 
 -- States that each course (`ConnectionCourse`) of the model's editor with a session is also an
 -- exchange of an editor that keeps ob0's rules. So each guarantee about exchanges holds for every

@@ -1,11 +1,11 @@
--- Defines the state of the model that a stored connection means, the invariant of a stored
--- connection, and the clauses of private functions. No contract of a public function mentions these
--- definitions. The messages of a queue are read from its contents (`all_messages_to_server`,
--- `all_messages_to_editor`). By the invariant, each content is a message. A content keeps its
--- meaning when the editor sends more requests (`proofs/Waiting`). `RunsWithEditor` states that the
--- session serves this editor. According to the editor's `initialize`, the session's client accepts
--- edits with document versions, and literal code actions. So a WorkspaceEdit is always written as
--- `documentChanges`.
+-- Defines the state of the model (`ClientAndServer`) that the code's connection has, the invariant
+-- of the code's connection, and the clauses of its private functions. No contract of a public
+-- function mentions these definitions. The messages of a queue are read from its contents
+-- (`all_messages_to_server`, `all_messages_to_editor`). By the invariant, each content is a message.
+-- A content keeps its meaning when the editor sends more requests (`proofs/Waiting`).
+-- `RunsWithEditor` states that the session serves this editor. According to the editor's
+-- `initialize`, the session's client accepts edits with document versions, and literal code actions.
+-- So a WorkspaceEdit is always written as `documentChanges`.
 -- Rule: none; for contracts: contents that wait, and what they say.
 use Rattle.std.specs.Prelude.{◌≡◌, ◌≤◌, ◌⊎◌, ℕ, ℤ, List, [], ◌∷◌, ◌++◌, map, length, All, Bool, true, Option, Some, None, Vec, option_and_then, filter_map}
 use Rattle.std.specs.declared.alloc.Global.{Global}
@@ -86,7 +86,7 @@ abbrev pub publication_in_first_message : OpenDocuments → List MessageToEditor
 publication_in_first_message held [] = None
 publication_in_first_message held (m ∷ ms) = publication_in_message held m
 
--- ---- the whole
+-- ---- the model's state for the parts that the code stores
 
 -- states that each waiting content is a message to its receiver, and that the session is running
 -- (`RunsWithEditor`) or has failed
@@ -142,7 +142,7 @@ connection_from e to_server session to_editor applied made taken got =
       wire = wire_from session taken to_server got to_editor;
     }
 
--- ---- what a world keeps
+-- ---- the invariant of a world: bounds on the editor's counters, and a reachable state
 
 -- states that the editor has opened documents at most `n` times and sent at most `n` asks, and that
 -- the version of each open document is at most `n`
@@ -155,7 +155,7 @@ pub record Within (n : ℕ) (e : Editor) : Type 0 where
 abbrev pub IsReachable : ClientAndServer → Type 0
 IsReachable w = (unit : Unit) × (events : List Event) × Course (start unit) events w
 
--- ---- the steps of the server's event
+-- ---- clauses of the functions that serve, send and take a content
 
 -- Returns the publication in the first of these contents (`publication_in_message`). None if there
 -- is no content, or if the first one has no such publication.

@@ -1,4 +1,4 @@
--- Defines the report on each event, which a caller sees.
+-- Defines the report on each event, as `World::step` returns it to its caller.
 -- Rule: none; for contracts of `World::step`: what a caller is shown of an event.
 use Rattle.std.specs.Prelude.{◌≡◌, ℕ, ◌-◌, List, [], ◌∷◌, Bool, length, is_some, string_bytes, if◌then◌else◌}
 use Rattle.ob0_world.specs.declared.events.Seen as seen
@@ -19,7 +19,7 @@ pub data Seen : Type 0 where
   applies : ℕ → Seen
   drops : ℕ → Seen
 
--- returns the first report if the list has an element, otherwise the second
+-- returns the report `some` if the list has an element, otherwise the report `none`
 abbrev pub report_if_any : {A : Type 0} → List A → Seen → Seen → Seen
 report_if_any [] some none = none
 report_if_any (x ∷ xs) some none = some
@@ -40,9 +40,10 @@ act_report e (apply k) =
     else nothing
 act_report e (discard k) = if is_some (edits_of_answer k e.answers) then drops k else nothing
 
--- Returns the report on the event `serve`. The arguments are the queue to the server, and the queue
--- to the editor `before` and `after` the event. If a message waited for the server, the report has
--- the number of messages that the server sent. If no message waited, the report is `nothing`.
+-- Returns the report on the event `serve`. The first argument is the queue to the server before the
+-- event. The others are the queue to the editor before the event and after it. If a message waited
+-- for the server, the report has the number of messages that the server sent. If no message waited,
+-- the report is `nothing`.
 abbrev pub serve_report : List MessageToServer → List MessageToEditor → List MessageToEditor → Seen
 serve_report [] before after = nothing
 serve_report (message ∷ rest) before after = served (length after - length before)

@@ -124,7 +124,7 @@ ConnectionCourse old [] new = new ≡ old
 ConnectionCourse old (event ∷ events) new =
     (between : Connection) × ConnectionStep old event between × ConnectionCourse between events new
 
--- ---- lists of events
+-- ---- the results that `play` returns for a list of events
 
 -- states that the code returns the applied edits and the publications of this state, in order
 abbrev pub ResultsMatch : ClientAndServer → played.Played → Type 0

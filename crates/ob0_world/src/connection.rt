@@ -1,4 +1,6 @@
 //! Connects an editor and a session by two queues of messages, and makes their events happen.
+//!
+//! A content is the bytes of one message: its JSON text, without the head that gives the length.
 ghost use Rattle.std.specs.Prelude.{◌≡◌, ◌<◌, IfOk, OnErr, OnOk, map, option_map, option_and_then, string_bytes};
 ghost use Rattle.std.specs.Str.{chars};
 ghost use Rattle.std.specs.Vec.{vec_capacity, vec_len};
@@ -86,7 +88,8 @@ impl<T: TextStore> Connection<T> {
     }
 
     /// Does nothing, and is called only for its contract, which is a law. By this law, the contents
-    /// that wait in the two queues are the messages that wait in the model.
+    /// that wait in the two queues are the messages that wait in the model (`ClientAndServer`), and
+    /// the session has the documents of the model's server.
     pub(crate) fn contents_match_messages(&self)
         ensures { QueuesMatch self.now }
     {
@@ -175,8 +178,9 @@ impl<T: TextStore> Connection<T> {
     }
 
     /// Lets the session take the first content that waits for it, and queues the session's replies
-    /// for the editor. If the first reply is a publication with a version, it is recorded with the
-    /// text that its document then has. If no content waits, nothing happens.
+    /// for the editor. If the first reply publishes diagnostics with a version, the publication is
+    /// recorded with the text that its document then has in the session. If no content waits,
+    /// nothing happens.
     fn serve(&mut self) -> Result<Seen, AllocError>
         ensures ok { IfOk result
             (λ seen. HappensWithReport self.old.model events.serve (report_of seen) self.new.model) }

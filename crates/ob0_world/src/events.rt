@@ -37,7 +37,7 @@ pub enum Seen {
     /// The editor took the diagnostics of a document. `empty` is true if there are none.
     Published { uri: String, empty: bool },
     /// The editor took the answer to ask `k`. `edits` is true if the answer has edits. The editor
-    /// keeps only such an answer.
+    /// keeps an answer only if it has edits.
     Answered { k: u64, edits: bool },
     Applied { k: u64 },
     Dropped { k: u64 },

@@ -3,7 +3,7 @@
 use crate::played::Played;
 use thiserror::Error;
 
-/// The reason why a world or a step wasn't made.
+/// The reason why a world wasn't made, or why a step failed.
 #[derive(Clone, Copy, Debug, Drop, PartialEq, Eq, Error)]
 pub enum WorldFault {
     #[error("out of memory")]

@@ -26,8 +26,8 @@ pub fn every_exchange_follows_model()
 /// Proves the guarantees for a session and an editor that keeps ob0's rules, whatever they have
 /// exchanged. Each edit that the editor applied keeps the module's run: the same output and the
 /// same end. The n-th list of diagnostics with a version is correct for the n-th document that the
-/// editor announced. The session will have the editor's documents once it has taken the waiting
-/// contents.
+/// editor announced by opening or changing it. The session will have the editor's documents once
+/// the session has taken the waiting contents.
 pub fn holds_for_every_exchange()
     ensures { HoldsForEveryExchange }
 {}

@@ -4,7 +4,7 @@ use ob0_world_editor::Applied;
 use std::collections::VecDeque;
 
 /// A publication of diagnostics with the document's version, and the text that the diagnostics were
-/// made for. `empty` is true if there are none.
+/// made for. `empty` is true if the list of diagnostics is empty.
 #[derive(Debug, Drop)]
 pub struct Made {
     pub uri: String,

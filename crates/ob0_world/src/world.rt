@@ -4,15 +4,15 @@
 //! with their documents and messages. The second is the `Wire`: the session, and the contents of
 //! all messages in each direction, taken or still waiting.
 //!
-//! `MovesWire` states how each event changes the session and the contents, and `QueuesMatch` joins the
-//! two parts. (`Connection::contents_match_messages` is called only for its contract.) The contract
-//! of a step distinguishes whether the world had ended before the step (`WorldSteps`,
-//! `WorldFails`).
+//! `MovesWire` states how each event changes the session and the contents, and `QueuesMatch` states
+//! that the two parts agree. (`Connection::contents_match_messages` is called only for its
+//! contract.) The contract of a step distinguishes whether the world had ended before the step
+//! (`WorldSteps`, `WorldFails`).
 //!
 //! `Plays` states the headline, and that the events are a course of the connection
-//! (`ConnectionCourse`) that starts with an initialized session (`Begins`). The code returns the
-//! exchanged contents. So even a function body that used no session would have to return the
-//! contents of a conversation.
+//! (`ConnectionCourse`) that starts with an initialized session (`Begins`). The code also returns
+//! the exchanged contents, which the contract requires to be a session's conversation. So a body
+//! that only invents edits and publications doesn't meet the contract.
 ghost use Rattle.std.specs.Prelude.{◌≡◌, ◌<◌, ◌-◌, ◌^◌, [], length, IfOk, OnOk, IfErr};
 ghost use Rattle.ob0_text.specs.declared.position_types.Unit.TheVariants.{Utf16};
 ghost use Rattle.ob0_world_rules.specs.Headline.{Holds};
@@ -31,8 +31,8 @@ use std::alloc::{AllocError, Global};
 use std::collections::VecDeque;
 use std::marker::Model;
 
-/// An editor and a session with a queue in each direction, the number of steps made, and whether a
-/// step has failed.
+/// An editor and a session with a queue in each direction. A step makes one event happen. `steps`
+/// is the number of steps that returned Ok, and `has_ended` is true if a step has failed.
 #[derive(Drop)]
 pub struct World<T: TextStore> {
     connection: Connection<T>,

@@ -9,8 +9,8 @@
 //! that they give each token (proofs/Tables, proofs/SameTables). A stream has at most one list of
 //! contents, into whatever pieces the stream is cut (proofs/Streams, proofs/Fronts).
 //!
-//! A new production of the grammar needs a line in proofs/SameTables. A new method or question
-//! needs a line in proofs/Replies or proofs/NamesShown.
+//! If the grammar gets another production, proofs/SameTables needs a line for it. If the server
+//! gets another method, proofs/Replies or proofs/NamesShown needs a line for it.
 #![tactic(auto)]
 
 pub mod laws;

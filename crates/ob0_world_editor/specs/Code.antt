@@ -1,4 +1,5 @@
--- Defines the meaning of the code's asks, answers, messages and applied edits in the model.
+-- Defines the model's asks, answers, messages and applied edits for those of the code. An ask is a
+-- request whose answer the editor may apply.
 -- Rule: none; for contracts: what values of the code mean.
 use Rattle.std.specs.Prelude.{pos, string_bytes}
 use Rattle.std.specs.Str.{chars}

@@ -1,4 +1,5 @@
--- Defines the meaning of the stored documents in the model.
+-- Defines the model's open documents for those that the code stores, and a code (`Coded`) for the
+-- model's.
 -- Rule: none; for contracts: what values of the code mean.
 use Rattle.std.specs.Prelude.{ℕ, ℤ, pos, List, map, string_bytes, String, refl}
 use Rattle.std.specs.Str.{chars}

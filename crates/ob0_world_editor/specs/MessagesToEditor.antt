@@ -1,5 +1,5 @@
--- Defines the message to the editor in a content. The message is a publication or an answer. The
--- kind of its ask decides how an answer is read.
+-- Defines the message that the editor reads in a content: a publication of diagnostics, or the
+-- answer to an ask. The ask decides how its answer is read.
 -- Rule: docs/PROTOCOL.md, JSON shapes 2.
 use Rattle.std.specs.Prelude.{ℕ, ℤ, List, [], ◌∷◌, Bool, true, false, Option, Some, None, is_some, option_and_then, option_map, unwrap_or, if◌then◌else◌, codes}
 use Rattle.std.specs.Str.{bytes_eq, chars, is_utf8}
@@ -74,7 +74,7 @@ document_edit_items uri edit None =
 abbrev pub workspace_edit_items : List ℕ → Data → Option Items
 workspace_edit_items uri edit = document_edit_items uri edit (get (codes "documentChanges") edit)
 
--- Returns the first action with this title. None if no action has it.
+-- Returns the first action with this title. None if no action has this title.
 abbrev pub titled_action : List ℕ → Items → Option Data
 titled_action title no_items = None
 titled_action title (item d ds) =

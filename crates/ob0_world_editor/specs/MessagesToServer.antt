@@ -15,7 +15,7 @@ use Rattle.ob0_world_rules.specs.Asks.{Ask, rename, inline_here, inline_all, for
 use Rattle.ob0_world_rules.specs.ClientAndServer.{SentAsk, request_numbered, MessageToServer, notifies, requests}
 use Rattle.ob0_world_editor.specs.Shapes.{method_of, empty_range_at}
 
--- ---- as a function: the message in a content, in which an ask is known by its number
+-- ---- the message to the server in a content; the id of a request is the number of its ask
 
 -- Returns the number that a request has as its id. None if the id isn't a whole number, or is
 -- negative.
@@ -63,7 +63,7 @@ message_to_server_in requested content =
     then option_and_then (λ d. message_to_server_of requested (meaning_of d)) (read content)
     else None
 
--- ---- as the server reads it
+-- ---- the contents that the server reads as a given message
 
 -- returns the notification that the server reads for this event
 abbrev pub notification_for : DocumentEvent → Notification

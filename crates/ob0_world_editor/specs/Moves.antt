@@ -53,7 +53,7 @@ IsApplyOutcome done held applying.TheVariants.Dropped new = IsSilent done new ×
 IsApplyOutcome done held (applying.TheVariants.Made applied content) new =
     PerformsAct done (Some content) new × (done.applied ≡ applied_of applied ∷ []) × (held ≡ true)
 
--- ---- the steps of applying
+-- ---- applying an answer, step by step
 
 -- States that this is the index, from 0, of the first answer to ask `k`, and that removing it
 -- leaves the other answers (`answers_except`). For None, states that there is no such answer.

@@ -16,7 +16,7 @@ pub struct Applied {
 /// The result of applying an answer.
 #[derive(Drop)]
 pub enum ApplyOutcome {
-    /// The editor has no answer with this number.
+    /// The editor has no answer to the ask with this number.
     NotHeld,
     /// The answer was discarded without making its edits. Its document has been changed, closed or
     /// reopened since the request, or two edits share a character.

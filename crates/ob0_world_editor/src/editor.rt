@@ -190,7 +190,7 @@ impl Editor {
         read_message(self.alloc, self.requested.as_slice(), content)
     }
 
-    /// Keeps the answer to ask `number` if the answer has edits, and returns whether it has. On an
+    /// Keeps the answer to ask `number` if the answer has edits. Returns whether it has edits. On an
     /// error the editor is unchanged.
     pub fn keep(&mut self, number: u64, edits: Vec<Edit>) -> Result<bool, AllocError>
         ensures kept { OnOk result

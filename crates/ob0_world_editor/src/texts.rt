@@ -1,4 +1,4 @@
-//! Makes changes and edits in a text.
+//! Returns the text that results from changes or edits of a text.
 ghost use Rattle.std.specs.Prelude.{◌≡◌, Some, map, IfOk, OnOk, string_bytes};
 ghost use Rattle.std.specs.Option.{option_map};
 ghost use Rattle.std.specs.Str.{chars};

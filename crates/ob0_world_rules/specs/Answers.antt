@@ -49,15 +49,15 @@ Refuses unit text (inline_all position) =
     IsNotInlinedIn Everywhere unit text (position_offset unit text position)
 Refuses unit text (format indent) = IsTooLongFormatted (clamped_indent indent) text
 
--- States that `given` is an answer to the ask about this text. It has the requested edits, or no
--- edits if the ask is refused or the text isn't a well-typed module.
+-- States that the edits `given` answer the ask about this text. They are the requested edits, or
+-- none if the ask is refused or the text isn't a well-typed module.
 abbrev pub IsAnswerForText : Unit → List ℕ → Ask → List Replacement → Type 0
 IsAnswerForText unit text ask given =
     ((edits : List Edit) × GivesEdits unit text ask edits × (given ≡ replacements edits))
     ⊎ ((Refuses unit text ask ⊎ ¬ WellTypedText text) × (given ≡ []))
 
--- States that `given` is an answer to the ask about this document. If the document isn't open or is
--- out of step, the answer has no edits.
+-- States that the edits `given` answer the ask about this document. If the document isn't open
+-- (None) or is out of step, there are no edits.
 abbrev pub IsAnswer : Unit → Option Document → Ask → List Replacement → Type 0
 IsAnswer unit (Some (InStep version text)) ask given = IsAnswerForText unit text ask given
 IsAnswer unit (Some OutOfStep) ask given = given ≡ []

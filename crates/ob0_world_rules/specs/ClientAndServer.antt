@@ -77,7 +77,7 @@ pub data MessageToEditor : Type 0 where
   -- the ask's number and the edits; a refusal has no edits
   answers : ℕ → List Replacement → MessageToEditor
 
--- ---- results
+-- ---- what is recorded: applied edits and publications
 
 -- an edit that the editor applied: the document's uri, and its text before and after the edit
 pub record Applied : Type 0 where
@@ -93,9 +93,10 @@ pub record Made : Type 0 where
   pub text : List ℕ
   pub empty : Bool
 
--- ---- the whole
+-- ---- a client and a server with their queues
 
--- a client and a server: the editor, the server's documents, the two queues, and the results so far
+-- a client and a server: the editor, the server's documents, the two queues, and the edits and
+-- publications recorded so far
 pub record ClientAndServer : Type 0 where
   pub editor : Editor
   pub to_server : List MessageToServer

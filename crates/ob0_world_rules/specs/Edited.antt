@@ -1,4 +1,4 @@
--- Defines the text that edits or changes make.
+-- Defines the text that results from edits, and the text that results from changes.
 -- Rule: LSP 3.17, TextEdit[].
 use Rattle.std.specs.Prelude.{◌≡◌, ℕ, List, map, fold, Option, None, string_bytes}
 use Rattle.std.specs.Str.{chars}
@@ -39,8 +39,8 @@ text_after_changes unit text changes = fold (changed_text unit) text changes
 
 -- ---- the law
 
--- states that the model's edited text (`edited`, for replacements) is the text that the code's
--- edits make (`patched`)
+-- states that the model's edited text (`edited`, for replacements) is the text that results from
+-- the code's edits (`patched`)
 abbrev pub EditedEqualsPatched : Type 0
 EditedEqualsPatched =
     (unit : Unit) (text : List ℕ) (edits : List Edit)

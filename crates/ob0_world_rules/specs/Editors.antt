@@ -42,7 +42,7 @@ with_document e uri d = record e { documents = map_of.insert e.documents uri d }
 
 -- States that these revisions of an open document, made in order, lead from editor `e` to `new` and
 -- announce these documents. The changes of each revision turn the text before the revision into the
--- text after the revision. The positions of the changes count in the agreed unit. A revision may
+-- text after the revision. The positions of the changes count in the editor's unit. A revision may
 -- have any version.
 abbrev pub Revises : Editor → List ℕ → List Revision → Editor → List AnnouncedDocument → Type 0
 Revises e uri [] new announced = (new ≡ e) × (announced ≡ [])
@@ -93,7 +93,7 @@ pub record AppliesAnswer (e : Editor) (k : ℕ) (revisions : List Revision) (don
         applied = record { uri = requested.uri; before = document.text; after = text } ∷ [];
       }
 
--- ---- every move
+-- ---- the allowed moves and their results
 
 -- returns the result of opening a document with any version; an open document may be opened again
 abbrev pub opening_result_as : OpenDocument → Editor → List ℕ → ActResult

@@ -66,7 +66,7 @@ model_state_of w =
       made = w.made;
     }
 
--- ---- what may happen
+-- ---- turns, and the states to which they lead
 
 -- a turn: the editor makes a move or sends a message outside the model, or the server or the editor
 -- takes a message

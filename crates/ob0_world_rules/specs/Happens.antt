@@ -14,7 +14,7 @@ pub data Event : Type 0 where
   -- the editor takes the first message that waits for it
   take_message : Event
 
--- returns the state after an act of the editor that has this result
+-- returns the state after an act of the editor that has the result `done`
 abbrev pub after_act : ClientAndServer → ActResult → ClientAndServer
 after_act w done =
     record w {

@@ -52,7 +52,7 @@ AreAnnounced w (event ∷ events) announced =
     × AreAnnounced between events later
     × (announced ≡ announced_at_event w event ++ later)
 
--- ---- what is published
+-- ---- publications for the announced documents
 
 -- states that the publication has the uri, the version and the text of this document
 abbrev pub IsMadeForDocument : Made → AnnouncedDocument → Type 0

@@ -141,8 +141,8 @@ pub(crate) struct CheckerState<'t> {
     /// The meaning of each declaration, by ordinal. The meaning is None until the walk has reached
     /// the declaration. A name can only be bound to an earlier declaration in the text.
     pub(crate) meanings: Vec<Option<Meaning>>,
-    /// The arrays and records found so far. A `TypeId` of an array or record has an index into this
-    /// list.
+    /// The array and record types found so far. A `TypeId` refers to such a type by its index in
+    /// this list.
     pub(crate) composites: Vec<TypeEntry>,
 }
 
@@ -264,8 +264,8 @@ impl<'t> CheckerState<'t> {
         }
     }
 
-    /// Returns the size of the array or record at the index `place` of the list of arrays and
-    /// records. If there is no such index, returns the size of a scalar.
+    /// Returns the size of the array or record type at the index `place` of `composites`. If there
+    /// is no type at this index, returns the size of a scalar.
     fn composite_size(&self, place: usize) -> Size
         ensures { size_of result ≡ size_at (declarations_in_state self.now).made (type.Array place) }
     {
@@ -275,8 +275,8 @@ impl<'t> CheckerState<'t> {
         }
     }
 
-    /// Returns the element type of the array at the index `place` of the list of arrays and
-    /// records. Returns the unknown type if there is no array at this index.
+    /// Returns the element type of the array type at the index `place` of `composites`. Returns the
+    /// unknown type if there is no array type at this index.
     pub(crate) fn element_type_at(&self, place: usize) -> TypeId
         ensures { result ≡ entry_element_type (slice_get self.now.composites.items place) }
     {
@@ -289,8 +289,8 @@ impl<'t> CheckerState<'t> {
         }
     }
 
-    /// Returns the type of the first field with this name in the record at the index `place` of the
-    /// list of arrays and records. Returns None if there is no such record or field.
+    /// Returns the type of the first field with this name in the record type at the index `place`
+    /// of `composites`. Returns None if there is no such record type or field.
     pub(crate) fn field_type_at(&self, place: usize, name: &str) -> Option<TypeId>
         ensures { result ≡ entry_field_type (slice_get self.now.composites.items place) name.now }
     {
@@ -303,9 +303,10 @@ impl<'t> CheckerState<'t> {
         }
     }
 
-    /// Returns the ordinal of the next word ARRAY or RECORD, that is, the number of such words
-    /// before it. `around` is the number of arrays and records that enclose the next word. Returns
-    /// an error if the ordinal doesn't fit 64 bits.
+    /// Returns the number of array and record types found so far plus `around`, the number of types
+    /// that enclose the next word ARRAY or RECORD. If nothing is reported, this sum is the ordinal
+    /// of that word: the number of such words before it in the text. Returns an error if the sum
+    /// doesn't fit 64 bits.
     pub(crate) fn next_type_ordinal(&self, around: usize) -> Result<usize, AllocError>
         ensures { MatchResult result (λ n. n ≡ next_type_ordinal around (declarations_in_state self.now))
             (λ _. 2 ^ 64 ≤ next_type_ordinal around (declarations_in_state self.now)) }
@@ -313,9 +314,9 @@ impl<'t> CheckerState<'t> {
         sum_or_error(self.composites.len(), around)
     }
 
-    /// Appends an array or record to the list and returns its type. `token` is its word ARRAY or
-    /// RECORD. If the array or record is too large, reports `TypeTooLarge` at `token` and returns
-    /// the unknown type.
+    /// Appends an array or record type to `composites` and returns the `TypeId` that refers to it.
+    /// `token` is the type's word ARRAY or RECORD. If the type is too large, reports `TypeTooLarge`
+    /// at `token` and returns the unknown type.
     pub(crate) fn make_type(
         &mut self,
         faults: &mut Vec<Fault>,
@@ -335,7 +336,7 @@ impl<'t> CheckerState<'t> {
     }
 }
 
-/// Returns the size of an array or record in the list.
+/// Returns the size of an array or record type, given its entry.
 fn size_of_entry(entry: &TypeEntry) -> Size
     ensures { size_of result ≡ (composite_type_of entry.now).size }
 {

@@ -1,5 +1,5 @@
-//! Walks the declarations in text order. Records the meaning of each declaration for the text after
-//! it.
+//! Walks the declarations in text order and reports their faults. Records the meaning of each
+//! declaration, which the text after the declaration uses.
 
 ghost use Rattle.std.specs.Prelude.{◌≡◌, ◌∷◌, ◌++◌, [], map, IfOk, OnOk};
 ghost use Rattle.ob0_language_names.specs.Parts.{formal_sections, section_constants, section_types, section_variables};
@@ -91,8 +91,8 @@ impl<'t> Reporter<'t> {
         Ok(())
     }
 
-    /// Reports the faults of a procedure. The procedure's name is declared after the heading, so
-    /// its own body can call the procedure.
+    /// Reports the faults of a procedure. The meaning of the procedure's name is recorded after the
+    /// heading and before the block is walked, so the procedure's own body can call the procedure.
     #[cycle(blocks)]
     fn report_procedure(
         &mut self,
@@ -134,7 +134,7 @@ impl<'t> Reporter<'t> {
         Ok(())
     }
 
-    /// Reports the faults of a body's statements. A missing body has none.
+    /// Reports the faults of a body's statements. A missing body (None) has no faults.
     fn report_body_statements(&mut self, body: &Option<Vec<Statement>>) -> Result<(), AllocError>
         ensures { OnOk result (ReportsAfter self.old.faults.items self.new.faults.items
             (declarations_in_state self.new.checker_state)

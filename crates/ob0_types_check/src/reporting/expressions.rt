@@ -103,8 +103,8 @@ fn type_of_comparison(operands: TypeId) -> TypeId
     }
 }
 
-/// Returns whether the types are equal. Two arrays, or two records, are equal if they have the same
-/// index in the list of arrays and records.
+/// Returns whether the types are equal. Two array types, or two record types, are equal if they
+/// have the same index in the list of array and record types.
 pub(crate) fn same_type(a: TypeId, b: TypeId) -> bool
     ensures { result ≡ same_type a b }
 {
@@ -648,7 +648,8 @@ impl<'t> CheckerState<'t> {
         Ok(TypeId::Unknown)
     }
 
-    /// Reports the faults of a constant's right side. Returns its value, or None if it has a fault.
+    /// Reports the faults of a constant's right side. Returns the value of the right side, or None
+    /// if the right side has a fault.
     pub(crate) fn constant_value(
         &self,
         faults: &mut Vec<Fault>,

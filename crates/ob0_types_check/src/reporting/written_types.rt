@@ -44,7 +44,7 @@ fn array_length(value: Scalar) -> Option<usize>
     }
 }
 
-/// The fields of a record found so far, in order, and their total size.
+/// The fields of a record type that were found so far, in order, and their total size.
 #[derive(Drop)]
 pub(crate) struct KnownFields {
     fields: Vec<Field>,
@@ -195,9 +195,10 @@ impl<'t> Reporter<'t> {
         self.make_array(ordinal, size, length, element)
     }
 
-    /// Makes an array type and returns it. `size` is the operand of the length. If the length has a
-    /// fault (None), the array's type is unknown, although its element type has been checked. An
-    /// array that is too large is reported at the word ARRAY, the token before the length.
+    /// Makes an array type and returns it. `size` is the operand of the length's expression. If the
+    /// length has a fault (`length` is None), the result is the unknown type, although the element
+    /// type has been checked. An array type that is too large is reported at its word ARRAY, the
+    /// token before the length.
     fn make_array(
         &mut self,
         ordinal: usize,
@@ -266,8 +267,8 @@ impl<'t> Reporter<'t> {
         Ok(gathered)
     }
 
-    /// Makes a record type of the gathered fields and returns it. A record that is too large is
-    /// reported at the token RECORD (`word`).
+    /// Makes a record type of the gathered fields and returns it. `ordinal` is the ordinal of its
+    /// word RECORD, whose token is `word`. A record type that is too large is reported at `word`.
     fn make_record(
         &mut self,
         word: usize,
